@@ -1,3 +1,4 @@
+pub mod Plain
 pub mod Counts
 pub mod Sets
 pub mod SetSizes

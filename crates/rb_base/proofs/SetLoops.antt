@@ -1,8 +1,9 @@
 -- Sets that grow by one number after the other: of the numbers below k, those that pass a test.
 use Rattle.std.proofs.Common.{◌≡◌, ℕ, ◌+◌, ◌<◌, Bool, true, false, ◌||◌, ◌&&◌, ◌==◌, nat_lt, inl, inr, refl, sym, ◌∙◌, ap, arith}
-use Rattle.std.proofs.lemmas.Bool.{cases_order}
+use Rattle.std.proofs.lemmas.Bool.{cases_order, le-ltb, lt-ltb}
 use Rattle.rb_base.specs.Nodes.{has, set_of}
-use Rattle.rb_base.proofs.Sets.{eq_other, eq_self, has-set_of, has_none, is_set_of, lt_false, lt_true, same_set_of}
+use Rattle.rb_base.proofs.Plain.{eq_self}
+use Rattle.rb_base.proofs.Sets.{eq_other, has-set_of, has_none, is_set_of, same_set_of}
 
 -- those below k that pass
 abbrev pub passing_below : ℕ → (ℕ → Bool) → ℕ
@@ -10,27 +11,27 @@ passing_below k p = set_of (λ i. nat_lt i k && p i)
 
 -- at first there are none
 pub passing_none : (p : ℕ → Bool) → 0 ≡ passing_below 0 p
-passing_none p = is_set_of 0 _ (omega arith) (λ i h. has_none i ∙ sym (ap (λ b. b && p i) (lt_false i 0 (omega arith))))
+passing_none p = is_set_of 0 _ (omega arith) (λ i h. has_none i ∙ sym (ap (λ b. b && p i) (le-ltb i 0 (omega arith))))
 
 joins : (i k : ℕ) (b : Bool) → (i ≡ k → b ≡ true) → ((nat_lt i k && b) || (i == k)) ≡ (nat_lt i (k + 1) && b)
 joins i k b h =
     elim (cases_order i k) [
-      | inl same ↦ rw (lt_false i k (omega arith), lt_true i (k + 1) (omega arith), ap (λ j. j == k) same ∙ eq_self k, h same) refl
+      | inl same ↦ rw (le-ltb i k (omega arith), lt-ltb i (k + 1) (omega arith), ap (λ j. j == k) same ∙ eq_self k, h same) refl
       | inr order ↦ elim order [
         | inl less ↦
-            rw (lt_true i k less, lt_true i (k + 1) (omega arith), eq_other i k (omega arith))
+            rw (lt-ltb i k less, lt-ltb i (k + 1) (omega arith), eq_other i k (omega arith))
             (elim b as (λ b. ((true && b) || false) ≡ (true && b)) [ true ↦ refl | false ↦ refl ])
-        | inr more ↦ rw (lt_false i k (omega arith), lt_false i (k + 1) (omega arith), eq_other i k (omega arith)) refl
+        | inr more ↦ rw (le-ltb i k (omega arith), le-ltb i (k + 1) (omega arith), eq_other i k (omega arith)) refl
       ]
     ]
 
 stays_out : (i k : ℕ) (b : Bool) → (i ≡ k → b ≡ false) → (nat_lt i k && b) ≡ (nat_lt i (k + 1) && b)
 stays_out i k b h =
     elim (cases_order i k) [
-      | inl same ↦ rw (lt_false i k (omega arith), lt_true i (k + 1) (omega arith), h same) refl
+      | inl same ↦ rw (le-ltb i k (omega arith), lt-ltb i (k + 1) (omega arith), h same) refl
       | inr order ↦ elim order [
-        | inl less ↦ rw (lt_true i k less, lt_true i (k + 1) (omega arith)) refl
-        | inr more ↦ rw (lt_false i k (omega arith), lt_false i (k + 1) (omega arith)) refl
+        | inl less ↦ rw (lt-ltb i k less, lt-ltb i (k + 1) (omega arith)) refl
+        | inr more ↦ rw (le-ltb i k (omega arith), le-ltb i (k + 1) (omega arith)) refl
       ]
     ]
 
@@ -49,7 +50,7 @@ passing_same p s k so_far fails = so_far ∙ same_set_of _ _ (λ i h. stays_out 
 
 -- after all 16 numbers
 pub passing_all : (p : ℕ → Bool) (s k : ℕ) → s ≡ passing_below k p → k ≡ 16 → s ≡ set_of p
-passing_all p s k at_end last = at_end ∙ ap (λ n. passing_below n p) last ∙ same_set_of _ _ (λ i h. ap (λ b. b && p i) (lt_true i 16 h))
+passing_all p s k at_end last = at_end ∙ ap (λ n. passing_below n p) last ∙ same_set_of _ _ (λ i h. ap (λ b. b && p i) (lt-ltb i 16 h))
 
 -- after k numbers, where none from k on passes
 pub passing_most : (p : ℕ → Bool) (s k : ℕ) → s ≡ passing_below k p → ((i : ℕ) → i < 16 → nat_lt i k ≡ false → p i ≡ false) → s ≡ set_of p

@@ -3,7 +3,7 @@ use Rattle.std.proofs.Common.{◌≡◌, ℕ, zero, suc, ◌+◌, ◌/◌, ◌%�
 use Rattle.std.specs.Int.{bit_at}
 use Rattle.std.specs.Int.Count.{ones_step}
 use Rattle.std.specs.List.{range_with_len}
-use Rattle.std.proofs.lemmas.Bool.{cases_lt}
+use Rattle.std.proofs.lemmas.Bool.{cases_lt, le-ltb, lt-ltb}
 use Rattle.std.proofs.lemmas.Bool.Decides.{nat_tests}
 use Rattle.std.proofs.lemmas.List.FromFn.{length-range_with_len}
 use Rattle.std.proofs.lemmas.Nat.{ones_le_self}
@@ -11,7 +11,8 @@ use Rattle.std.proofs.lemmas.Nat.Bits.{bit_at-lt, bit_at-suc, bit_at_lowest}
 use Rattle.rb_base.specs.Counting.{count_if, numbers}
 use Rattle.rb_base.specs.Nodes.{has, set_of, size}
 use Rattle.rb_base.proofs.Counts.{count_if-le_length, count_if-same}
-use Rattle.rb_base.proofs.Sets.{eq_other, eq_self, has-set_of, has_none, lt_false, lt_true, same_set_of}
+use Rattle.rb_base.proofs.Plain.{eq_self}
+use Rattle.rb_base.proofs.Sets.{eq_other, has-set_of, has_none, same_set_of}
 
 -- one for a number that passes
 abbrev one_if : Bool → ℕ
@@ -62,9 +63,9 @@ count_below k a zero low high = omega arith
 count_below k a (suc n) low high =
     elim (cases_lt a k) [
       | inl less ↦
-          let here : one_if (nat_lt a k) ≡ 1 = ap one_if (lt_true a k less) in
+          let here : one_if (nat_lt a k) ≡ 1 = ap one_if (lt-ltb a k less) in
           omega (arith, here, count_below k (a + 1) n (omega arith) (omega arith))
-      | inr most ↦ let none : count_if (λ i. nat_lt i k) (range_with_len a (suc n)) ≡ 0 = count_none (λ i. nat_lt i k) a (suc n) (λ i from _. lt_false i k (omega arith)) in omega (arith, none)
+      | inr most ↦ let none : count_if (λ i. nat_lt i k) (range_with_len a (suc n)) ≡ 0 = count_none (λ i. nat_lt i k) a (suc n) (λ i from _. le-ltb i k (omega arith)) in omega (arith, none)
     ]
 
 count_one : (k a n : ℕ) → a ≤ k → k < a + n → count_if (λ i. i == k) (range_with_len a n) ≡ 1

@@ -1,12 +1,13 @@
 -- Sets of nodes: what is in a set that a test makes, and when two sets are one.
 use Rattle.std.proofs.Common.{◌≡◌, ◌≢◌, ℕ, min, max, zero, suc, ◌+◌, ◌-◌, ◌*◌, ◌%◌, ◌^◌, ◌<◌, ◌≤◌, ◌⊎◌, Bool, true, false, cond, not, ◌||◌, ◌&&◌, ◌==◌, nat_lt, bit_and, bit_or, w16, inl, inr, refl, sym, ◌∙◌, ap, add-zero, arith}
 use Rattle.std.specs.Int.{bit_at, trailing_zeros}
-use Rattle.std.proofs.lemmas.Bool.{cases_lt, cases_order}
+use Rattle.std.proofs.lemmas.Bool.{cases_lt, cases_order, le-ltb, lt-ltb}
 use Rattle.std.proofs.lemmas.Bool.Decides.{nat_tests}
 use Rattle.std.proofs.lemmas.Nat.{and_le_l, or_lt}
 use Rattle.std.proofs.lemmas.Nat.Bits.{bit_at-lt, bit_at-pow_other, bit_at-pow_same, bit_at-trailing_zeros, bit_at-zero, bit_at_above, bit_at_and, bit_at_cat_high, bit_at_cat_low, bit_at_clear_other, bit_at_clear_same, bit_at_not, bit_at_ones, bit_at_ones_above, bit_at_or, bit_at_set_other, bit_at_set_same, same_from_bits_below}
 use Rattle.std.proofs.Math.Pow.{pow_mono}
 use Rattle.rb_base.specs.Nodes.{TakesFirst, has, set_below, set_of}
+use Rattle.rb_base.proofs.Plain.{and-false, and-true, eq_self, or-false, or-true}
 
 set_below-lt : (n : ℕ) (p : ℕ → Bool) → set_below n p < 2 ^ n
 unfolding set_below
@@ -127,30 +128,11 @@ without_is s t hs ht =
     (let le : bit_and s (65535 - t) ≤ s = and_le_l s (65535 - t) in omega arith)
     (λ i h. has-and s (65535 - t) i ∙ ap (λ b. has s i && b) (has-complement t i ht h))
 
-pub eq_self : (k : ℕ) → (k == k) ≡ true
-eq_self k = grind (arith, nat_tests)
-
 pub eq_other : (i k : ℕ) → i ≢ k → (i == k) ≡ false
 eq_other i k h = grind (arith, nat_tests)
 
 apart : (i k : ℕ) → (i < k) ⊎ (k < i) → i ≢ k
 apart i k order = elim order [ inl less ↦ omega arith | inr more ↦ omega arith ]
-
-or-true : (a : Bool) → (a || true) ≡ true
-or-true true = refl
-or-true false = refl
-
-or-false : (a : Bool) → (a || false) ≡ a
-or-false true = refl
-or-false false = refl
-
-and-true : (a : Bool) → (a && true) ≡ a
-and-true true = refl
-and-true false = refl
-
-and-false : (a : Bool) → (a && false) ≡ false
-and-false true = refl
-and-false false = refl
 
 has-insert : (s i k : ℕ) → k < 16 → has (bit_or s (1 * 2 ^ k % 2 ^ 16)) i ≡ (has s i || (i == k))
 has-insert s i k h =
@@ -181,25 +163,24 @@ remove_is s k hs hk =
     (let le : bit_and s (65535 - 1 * 2 ^ k % 2 ^ 16) ≤ s = and_le_l s (65535 - 1 * 2 ^ k % 2 ^ 16) in omega arith)
     (λ i h. has-remove s i k hk h)
 
-pub lt_true : (i k : ℕ) → i < k → nat_lt i k ≡ true
-lt_true i k h = grind (arith, nat_tests)
-
-pub lt_false : (i k : ℕ) → k ≤ i → nat_lt i k ≡ false
-lt_false i k h = grind (arith, nat_tests)
-
 -- `(1 << k) - 1`
 pub first_is : (k : ℕ) → k ≤ 16 → 2 ^ k - 1 ≡ set_of (λ i. nat_lt i k)
 first_is k h =
     let fits : 2 ^ k ≤ 2 ^ 16 = pow_mono h in
     is_set_of _ _ (omega (arith, fits))
     (λ i _. elim (cases_lt i k) [
-      | inl less ↦ ap (λ b. b == 1) (bit_at_ones k i less) ∙ sym (lt_true i k less)
-      | inr more ↦ ap (λ b. b == 1) (bit_at_ones_above k i more) ∙ sym (lt_false i k more)
+      | inl less ↦ ap (λ b. b == 1) (bit_at_ones k i less) ∙ sym (lt-ltb i k less)
+      | inr more ↦ ap (λ b. b == 1) (bit_at_ones_above k i more) ∙ sym (le-ltb i k more)
     ])
 
 -- what is in a set that is known as the set of a test
 pub has-is : (s i : ℕ) (p : ℕ → Bool) → s ≡ set_of p → i < 16 → has s i ≡ p i
 has-is s i p e h = ap (λ t. has t i) e ∙ has-set_of i p h
+
+-- the first that is taken out is in the set no more
+pub first_gone : (before after k : ℕ) → k < 16 → TakesFirst before after k → has after k ≡ false
+first_gone before after k h takes =
+    has-is after k (λ i. has before i && not (i == k)) takes.rest h ∙ ap (λ b. has before k && not b) (eq_self k) ∙ and-false (has before k)
 
 -- `1 << k`
 pub only_is : (k : ℕ) → k < 16 → 1 * 2 ^ k % 2 ^ 16 ≡ set_of (λ i. i == k)

@@ -2,6 +2,7 @@
 use Rattle.std.proofs.Common.{◌≡◌, ℕ, suc, ◌+◌, ◌-◌, ◌<◌, ◌≤◌, All, Bool, true, false, is_some, get_or, Option, Some, None, option_map, List, [], ◌++◌, append_assoc, refl, sym, ◌∙◌, ap, subst, arith}
 use Rattle.std.specs.Io.KnownBytes.{Appends}
 use Rattle.std.specs.Option.{option_or}
+use Rattle.std.proofs.lemmas.Bool.{false≢true}
 use Rattle.rb_rules.specs.Goodness.{Scenario}
 use Rattle.rb_rules.specs.Ports.{HandIn}
 use Rattle.rb_world_book.specs.Records.{record_of}
@@ -37,12 +38,9 @@ heads-small b bank bridge k d lt =
 pub pairs-small : (b : Bridge) (bank : Bank) (pairs : List Pair) → IsBridge b → b.pairs ≡ pairs → All (λ pair. biu_on bank pair < 16) pairs
 pairs-small b bank pairs bridge same = subst (λ ps. All (λ pair. biu_on bank pair < 16) ps) same (heads-small b bank bridge)
 
-false-true : false ≡ true → ⊥
-false-true e = cc
-
 -- no claim is made of the text
 pub never-plain : (lp rp : Bool) → ArePlain false lp rp
-never-plain lp rp = record { left = λ e. absurd (false-true e); right = λ e. absurd (false-true e) }
+never-plain lp rp = record { left = λ e. absurd (false≢true e); right = λ e. absurd (false≢true e) }
 
 -- what is known of two drives is known of them later
 pub restated : (P : Bool → Bool → Type 0) (a b c d : Bool) → a ≡ c → b ≡ d → P a b → P c d
@@ -79,8 +77,8 @@ pub breaks-off : (b : Bridge) (frame : ℕ) (both lp : Bool) (ltold lsince : Opt
 breaks-off b frame both lp ltold lsince rp rtold rsince l r m n o x held after is found text = record {
   some = is.some;
   text = text;
-  ready = λ e. absurd (false-true e);
-  unbroken = λ e sure. absurd (false-true e);
+  ready = λ e. absurd (false≢true e);
+  unbroken = λ e sure. absurd (false≢true e);
   broken = λ e. record { break = shown x; break_is = λ sure. is.breach_is sure ∙ here; all = is.broken (shown x) here };
 }
   where

@@ -12,7 +12,7 @@ use Rattle.rb_rules.specs.Rounds.{records_of}
 use Rattle.rb_rules.specs.WorldStep.{World, frame_in}
 use Rattle.rb_world_book.specs.Records.{record_of}
 use Rattle.rb_world_book.specs.declared.turn.Turn.{Turn}
-use Rattle.rb_group.specs.Portions.{deliveries_in, port_deliveries, told_of}
+use Rattle.rb_group.specs.Portions.{port_deliveries}
 use Rattle.rb_run.specs.Turns.{records_in}
 use Rattle.rb_run.proofs.Texts.{records-more}
 use Rattle.rb_world.specs.Nexts.{is_last}
@@ -20,7 +20,7 @@ use Rattle.rb_world.specs.Worlds.{KeptWorld, Stands}
 use Rattle.rb_group_run.specs.declared.ports.Ports.{Ports}
 use Rattle.rb_group_run.specs.Holding.{HoldsFrame}
 use Rattle.rb_group_run.specs.Replies.{frame_of, frame_or, reached}
-use Rattle.rb_group_run.proofs.Held.{reached_more}
+use Rattle.rb_group_run.proofs.Held.{none_further, reached_more}
 use Rattle.rb_rules_bridge.specs.declared.bank.Bank.{Bank}
 use Rattle.rb_rules_bridge.specs.declared.bank.Pair.{Pair}
 use Rattle.rb_rules_bridge.specs.Bridges.{Bridge, IsBridge, across, biu_on, bus_on, carried_slot}
@@ -43,26 +43,6 @@ use Rattle.rb_bridge.proofs.SidesPassed.{over-some}
 
 -- A frame begins.
 
-none-of : (frames frame i : ℕ) (r : Record) → frame_of frames r < frame → told_of frame i r ≡ []
-none-of frames frame i (Frame f nodes ports) early = refl
-none-of frames frame i (Slot f slot lines) early =
-    let other : (f == frame) ≡ false = grind (arith, nat_tests) in ap (λ b. if b then deliveries_in frame slot i lines else []) other
-none-of frames frame i Ended early = refl
-none-of frames frame i (Breach place cause) early = refl
-
--- records of earlier frames tell nothing of it
-none-yet : (frames frame i : ℕ) (records : List Record) → reached frames records < frame → port_deliveries frame i records ≡ []
-none-yet frames frame i [] early = refl
-none-yet frames frame i (r ∷ rs) early =
-    ap (λ l. l ++ port_deliveries frame i rs) (none-of frames frame i r (first (frame_of frames r) (reached frames rs) frame early))
-    ∙ none-yet frames frame i rs (rest (frame_of frames r) (reached frames rs) frame early)
-  where
-    first : (a b n : ℕ) → max a b < n → a < n
-    first a b n h = omega (arith, h)
-
-    rest : (a b n : ℕ) → max a b < n → b < n
-    rest a b n h = omega (arith, h)
-
 beyond : (frames frame : ℕ) (r : Record) → is_over frames frame (Some r) ≡ true → is_last (Some r) ≡ false → frame < frame_of frames r
 beyond frames frame r over last = by (nat_lt frame (frame_of frames r)) (is_last (Some r)) refl over last
   where
@@ -80,7 +60,7 @@ frame-begins terms turns t before ports empty values advance nothing note going 
   frame_is = refl;
   ports = subst (λ rs. HoldsFrame terms.frames terms.asked rs ports) (sym (records-more turns t)) now;
   values = subst (λ rs. HoldValues (value_told ports.frame terms.slot rs) values) (sym (records-more turns t))
-      (note rs (record { many = nothing.many; each = λ i small. nothing.each i small ∙ sym (ap (value_in terms.slot) (none-yet terms.frames ports.frame i rs later)) }));
+      (note rs (record { many = nothing.many; each = λ i small. nothing.each i small ∙ sym (ap (value_in terms.slot) (none_further terms.frames ports.frame i rs later)) }));
 }
   where
     rs : List Record

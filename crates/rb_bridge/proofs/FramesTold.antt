@@ -6,6 +6,7 @@ use Rattle.std.proofs.lemmas.Grind.{flat_map-append}
 use Rattle.std.proofs.lemmas.List.{append-nil}
 use Rattle.std.specs.Option.{option_or, option_to_list}
 use Rattle.rb_base.specs.declared.values.Place.{Place}
+use Rattle.rb_base.proofs.Plain.{option_or-none}
 use Rattle.rb_rules.specs.declared.cause.Cause.{Cause}
 use Rattle.rb_rules.specs.Book.{Record}
 use Rattle.rb_rules.specs.Book.Record.{Frame, Slot, Ended, Breach}
@@ -26,6 +27,7 @@ use Rattle.rb_rules_bridge.specs.declared.bank.Bank.{Bank}
 use Rattle.rb_rules_bridge.specs.declared.bank.Bank.TheVariants.{Left}
 use Rattle.rb_rules_bridge.specs.Texts.{Break, break_in, break_told}
 use Rattle.rb_laws_bridge.specs.Laws.{TellAll, frame_told}
+use Rattle.rb_laws_bridge.proofs.Breaks.{break_in-append}
 use Rattle.rb_laws_bridge.proofs.Ordered.{told-in-order}
 use Rattle.rb_bridge.specs.Passing.{is_over}
 use Rattle.rb_bridge.specs.Running.{AreNotLast, IsUnderWay}
@@ -40,16 +42,8 @@ no-break bank frame (shown.Slot s ∷ ts) all = no-break bank frame ts all.1
 no-break bank frame (shown.Ended ∷ ts) all = absurd (let e : true ≡ false = all.0 in cc)
 no-break bank frame (shown.Breach place cause ∷ ts) all = absurd (let e : true ≡ false = all.0 in cc)
 
-or-none : {X : Type 0} (o : Option X) → option_or o None ≡ o
-or-none None = refl
-or-none (Some x) = refl
-
-or-joined : {X : Type 0} (a b c : Option X) → option_or a (option_or b c) ≡ option_or (option_or a b) c
-or-joined None b c = refl
-or-joined (Some x) b c = refl
-
 break_in-more : (bank : Bank) (frame : ℕ) (rs : List Record) (r : Record) → break_in bank frame rs ≡ None → break_in bank frame (rs ++ r ∷ []) ≡ break_told bank frame r
-break_in-more bank frame [] r none = or-none (break_told bank frame r)
+break_in-more bank frame [] r none = option_or-none (break_told bank frame r)
 break_in-more bank frame (x ∷ xs) r none = by (break_told bank frame x) refl none (break_in-more bank frame xs r)
   where
     by : (o : Option Break) → break_told bank frame x ≡ o → option_or o (break_in bank frame xs) ≡ None
@@ -151,12 +145,6 @@ passed-tells sc handed told since k turns frames frame t r is-r given going over
 or-first : {X : Type 0} (a b : Option X) → option_or a b ≡ None → a ≡ None
 or-first None b e = refl
 or-first (Some x) b e = cc
-
-break_in-append : (bank : Bank) (frame : ℕ) (xs ys : List Record) → break_in bank frame (xs ++ ys) ≡ option_or (break_in bank frame xs) (break_in bank frame ys)
-break_in-append bank frame [] ys = refl
-break_in-append bank frame (x ∷ xs) ys =
-    ap (option_or (break_told bank frame x)) (break_in-append bank frame xs ys)
-    ∙ or-joined (break_told bank frame x) (break_in bank frame xs) (break_in bank frame ys)
 
 -- a record of a frame that the records have reached
 record HasReached (frames frame : ℕ) (records : List Record) : Type 0 where

@@ -1,9 +1,9 @@
 -- The BIUs of some pairs.
 use Rattle.std.proofs.Common.{◌≡◌, ℕ, ◌+◌, ◌<◌, ◌==◌, ◌||◌, List, [], get_or, length, take, sym, ◌∙◌, ap, arith}
-use Rattle.std.proofs.lemmas.Bool.Decides.{nat_tests}
 use Rattle.std.proofs.lemmas.List.Folds.{list_any_more}
 use Rattle.std.specs.List.{list_any}
 use Rattle.rb_base.specs.Nodes.{has, set_of}
+use Rattle.rb_base.proofs.Plain.{eq-either_way}
 use Rattle.rb_base.proofs.Sets.{has-set_of, has_none, is_set_of, same_set_of}
 use Rattle.rb_rules_bridge.specs.declared.bank.Bank.{Bank}
 use Rattle.rb_rules_bridge.specs.declared.bank.Pair.{Pair}
@@ -11,9 +11,6 @@ use Rattle.rb_rules_bridge.specs.Bridges.{biu_on}
 
 pub no-members : (bank : Bank) (m : ℕ) → m ≡ 0 → m ≡ set_of (λ i. list_any (λ pair. biu_on bank pair == i) [])
 no-members bank m none = none ∙ is_set_of 0 (λ i. list_any (λ pair. biu_on bank pair == i) []) (omega arith) (λ i lt. has_none i)
-
-either-way : (a b : ℕ) → (a == b) ≡ (b == a)
-either-way a b = grind (arith, nat_tests)
 
 -- those of one pair more
 pub more-members : (bank : Bank) (pairs : List Pair) (k : ℕ) (d : Pair) (m n node : ℕ) → k < length pairs → m ≡ set_of (λ i. list_any (λ pair. biu_on bank pair == i) (take k pairs))
@@ -23,5 +20,5 @@ more-members bank pairs k d m n node below before this is =
     (λ i small.
     ap (λ s. has s i || (i == node)) before
     ∙ ap (λ b. b || (i == node)) (has-set_of i (λ i. list_any (λ pair. biu_on bank pair == i) (take k pairs)) small)
-    ∙ ap (λ b. list_any (λ pair. biu_on bank pair == i) (take k pairs) || b) (either-way i node ∙ ap (λ n. n == i) this)
+    ∙ ap (λ b. list_any (λ pair. biu_on bank pair == i) (take k pairs) || b) (eq-either_way i node ∙ ap (λ n. n == i) this)
     ∙ sym (list_any_more (λ pair. biu_on bank pair == i) pairs k d below))

@@ -5,37 +5,30 @@ use Rattle.std.proofs.lemmas.Grind.{flat_map-append}
 use Rattle.std.proofs.lemmas.List.{append-nil, take_more}
 use Rattle.rb_base.specs.declared.values.Delivery.{Delivery}
 use Rattle.rb_base.specs.declared.values.Heard.{Heard}
-use Rattle.rb_base.proofs.Sets.{eq_self}
+use Rattle.rb_base.proofs.Plain.{eq_self, option_or-if, option_or-none}
 use Rattle.rb_rules.specs.declared.record.SlotLine.{SlotLine}
 use Rattle.rb_rules.specs.Book.{Record}
 use Rattle.rb_rules.specs.Book.Record.{Frame, Slot, Ended, Breach}
 use Rattle.rb_group.specs.Portions.{deliveries_in, line_told, port_deliveries, told_of}
 use Rattle.rb_rules_bridge.specs.Crossings.{value_in, value_told}
+use Rattle.rb_laws_bridge.proofs.Told.{value_in-append}
 use Rattle.rb_bridge.specs.Holding.{HoldValues, value_by, value_with}
 
 -- the same told in other words
 pub hold-same : (told also : ℕ → Option Heard) (kept : List (Option Heard)) → ((i : ℕ) → told i ≡ also i) → HoldValues told kept → HoldValues also kept
 hold-same told also kept same hold = record { many = hold.many; each = λ i h. hold.each i h ∙ same i }
 
-or-none : {X : Type 0} (o : Option X) → option_or o None ≡ o
-or-none None = refl
-or-none (Some x) = refl
-
 or-joined : {X : Type 0} (a b c : Option X) → option_or (option_or a b) c ≡ option_or a (option_or b c)
 or-joined None b c = refl
 or-joined (Some x) b c = refl
 
-one-before : {X : Type 0} (b : Bool) (v : X) (a other : Option X) → (if b then Some v else option_or a other) ≡ option_or (if b then Some v else a) other
-one-before true v a other = refl
-one-before false v a other = refl
-
 pub nothing-more : (told : ℕ → Option Heard) (kept : List (Option Heard)) → HoldValues told kept → HoldValues (λ i. option_or (told i) None) kept
-nothing-more told kept hold = hold-same told (λ i. option_or (told i) None) kept (λ i. sym (or-none (told i))) hold
+nothing-more told kept hold = hold-same told (λ i. option_or (told i) None) kept (λ i. sym (option_or-none (told i))) hold
 
 value_by-append : (xs ys : List SlotLine) (i : ℕ) → value_by (xs ++ ys) i ≡ option_or (value_by xs i) (value_by ys i)
 value_by-append [] ys i = refl
 value_by-append (x ∷ xs) ys i =
-    ap (λ o. if x.receiver == i then Some x.value else o) (value_by-append xs ys i) ∙ one-before (x.receiver == i) x.value (value_by xs i) (value_by ys i)
+    ap (λ o. if x.receiver == i then Some x.value else o) (value_by-append xs ys i) ∙ option_or-if (x.receiver == i) x.value (value_by xs i) (value_by ys i)
 
 -- one line more
 pub lines-more : (told : ℕ → Option Heard) (k : ℕ) (lines : List SlotLine) (d : SlotLine) (kept : List (Option Heard)) → k < length lines
@@ -47,11 +40,6 @@ lines-more told k lines d kept below hold =
     ∙ ap (option_or (told i)) (sym (value_by-append (take k lines) (get_or lines k d ∷ []) i) ∙ ap (λ l. value_by l i) (sym (take_more lines k d below)))) hold
 
 -- Records.
-
-value_in-append : (slot : ℕ) (ds es : List Delivery) → value_in slot (ds ++ es) ≡ option_or (value_in slot ds) (value_in slot es)
-value_in-append slot [] es = refl
-value_in-append slot (d ∷ ds) es =
-    ap (λ o. if d.slot == slot then Some d.value else o) (value_in-append slot ds es) ∙ one-before (d.slot == slot) d.value (value_in slot ds) (value_in slot es)
 
 -- the deliveries of a slot at a port, in a slot
 in-lines : (frame s slot i : ℕ) (lines : List SlotLine) → value_in slot (deliveries_in frame s i lines) ≡ (if s == slot then value_by lines i else None)
@@ -88,7 +76,7 @@ with-record frame slot i (Breach place cause) = refl
 
 pub value-more : (frame slot i : ℕ) (records : List Record) (o : Option Record)
     → option_or (value_told frame slot records i) (value_with frame slot o i) ≡ value_told frame slot (records ++ option_to_list o) i
-value-more frame slot i records None = or-none (value_told frame slot records i) ∙ ap (λ rs. value_told frame slot rs i) (sym (append-nil records))
+value-more frame slot i records None = option_or-none (value_told frame slot records i) ∙ ap (λ rs. value_told frame slot rs i) (sym (append-nil records))
 value-more frame slot i records (Some r) =
     ap (option_or (value_told frame slot records i)) (sym (with-record frame slot i r) ∙ ap (value_in slot) (sym (append-nil (told_of frame i r))))
     ∙ sym (value_in-append slot (port_deliveries frame i records) (told_of frame i r ++ []))

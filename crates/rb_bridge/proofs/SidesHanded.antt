@@ -10,9 +10,9 @@ use Rattle.rb_rules.specs.declared.cause.Cause.{Cause}
 use Rattle.rb_rules.specs.Book.{Record}
 use Rattle.rb_rules.specs.Book.Record.{Frame, Slot, Ended, Breach}
 use Rattle.rb_rules.specs.Goodness.{Scenario, is_good}
-use Rattle.rb_rules.specs.Ports.{HandIn, with_state}
+use Rattle.rb_rules.specs.Ports.{HandIn}
 use Rattle.rb_rules.specs.Rounds.{records_of}
-use Rattle.rb_rules.specs.WorldStep.{World, frame_in, hand}
+use Rattle.rb_rules.specs.WorldStep.{World, frame_in}
 use Rattle.rb_world_book.specs.Records.{record_of}
 use Rattle.rb_world_book.specs.declared.turn.Turn.{Turn}
 use Rattle.rb_group.specs.Portions.{port_deliveries}
@@ -28,6 +28,7 @@ use Rattle.rb_rules_bridge.specs.Crossings.{carried_to, hand_in_of, hands_on, ha
 use Rattle.rb_rules_bridge.specs.Texts.{Break, break_told}
 use Rattle.rb_laws_bridge.specs.Laws.{AreUpTo, BeginsOrEnds, ends_run, frame_told}
 use Rattle.rb_laws_bridge.proofs.Beginnings.{begins-or-ends}
+use Rattle.rb_laws_events.proofs.EveryWorld.{hand-none}
 use Rattle.rb_bridge.specs.Handing.{with_words}
 use Rattle.rb_bridge.specs.Passing.{is_over}
 use Rattle.rb_bridge.specs.Running.{AreNotLast, IsUnderWay}
@@ -37,20 +38,6 @@ use Rattle.rb_bridge.proofs.Handed.{IsHanded, handed_for, words-handed}
 use Rattle.rb_bridge.specs.Sides.{break_by}
 
 -- Whatever the last turn was.
-
-hand-none : (sc : Scenario) (w : World) (biu state : ℕ) → frame_in w.turn ≡ None → hand sc w biu state ≡ w
-unfolding hand
-hand-none sc w biu state none = by (frame_in w.turn) none
-  where
-    by : (o : Option ℕ) → o ≡ None → elim o as (λ _. World) [
-      | None ↦ w
-      | Some f ↦ elim (is_good sc Biu biu f 0) as (λ _. World) [
-        | true ↦ record w { ports = with_state biu state w.ports; hands = w.hands ++ record { frame = f; biu = biu; state = state } ∷ [] }
-        | false ↦ w
-      ]
-    ] ≡ w
-    by None e = refl
-    by (Some f) e = cc
 
 none-handed : (sc : Scenario) (bank : Bank) (told : ℕ → Option Heard) (pairs : List Pair) (w : World) → frame_in w.turn ≡ None → with_words sc bank told pairs w ≡ w
 none-handed sc bank told [] w none = refl

@@ -1,7 +1,7 @@
 -- A run to which states are handed, turn by turn.
-use Rattle.std.proofs.Common.{◌≡◌, ℕ, ◌^◌, ◌<◌, Bool, true, false, Option, Some, None, option_and_then, List, [], ◌∷◌, ◌++◌, length, map, refl, sym, ap, ◌∙◌, subst, append_assoc, arith, slice_get, length-append}
-use Rattle.std.proofs.lemmas.List.{append-nil, length-map, map-append}
-use Rattle.std.specs.List.{last_or}
+use Rattle.std.proofs.Common.{◌≡◌, ℕ, ◌^◌, ◌<◌, Bool, true, false, Option, Some, None, option_and_then, List, [], ◌∷◌, ◌++◌, length, map, refl, sym, ap, ◌∙◌, subst, arith, length-append}
+use Rattle.std.proofs.lemmas.List.{length-map, map-append}
+use Rattle.rb_base.proofs.Plain.{last_or-append}
 use Rattle.rb_rules.specs.Book.{Record}
 use Rattle.rb_rules.specs.Goodness.{Scenario}
 use Rattle.rb_rules.specs.Lawful.{IsLawful}
@@ -14,8 +14,9 @@ use Rattle.rb_world_book.specs.declared.turn.Turn.TheVariants as shown
 use Rattle.rb_laws_events.proofs.EventsHold.{events-hold}
 use Rattle.rb_run.specs.declared.ending.Ending.{Ending}
 use Rattle.rb_run.specs.Runs.{HasGivenNothing, end_at}
-use Rattle.rb_run.specs.Turns.{TellsAll, turn_of}
+use Rattle.rb_run.specs.Turns.{turn_of}
 use Rattle.rb_run.proofs.Bounds.{few-records}
+use Rattle.rb_run.proofs.UnderWay.{ends-last, no-record, not-over, record-is, same-record, tells-more, tells-none, turn-is}
 use Rattle.rb_world.specs.declared.ties.Ties.TheVariants.{First}
 use Rattle.rb_world.specs.Driving.{GoesAlike, Tells, bare}
 use Rattle.rb_world.specs.Nexts.{GoesToNext, is_last}
@@ -23,86 +24,12 @@ use Rattle.rb_world.specs.Numbering.{GoesInRounds, IsNextRecord}
 use Rattle.rb_world.specs.declared.last.Last.{Last}
 use Rattle.rb_world.specs.declared.last.Last.TheVariants as last
 use Rattle.rb_world.specs.Worlds.{KeptWorld, Stands, last_of}
-use Rattle.rb_world.proofs.LastTurn.{reached-ended, reached-gave}
+use Rattle.rb_world.proofs.LastTurn.{reached-gave}
 use Rattle.rb_world.proofs.Numbered.{alike-in-rounds, alike-last, next-in-rounds}
 use Rattle.rb_bridge.specs.Running.{AreNotLast, IsUnderWay, latest}
 use Rattle.rb_bridge.proofs.Handed.{IsHanded}
 
--- Turns and records.
-
-turn-is : (t : Turn) (r : Record) → record_of t ≡ Some r → t ≡ turn_of r
-turn-is shown.Quiet r e = absurd (cc)
-turn-is (shown.Frame f) r e = let same : Record.Frame f.frame f.nodes.items f.ports.items ≡ r = cc in ap turn_of same
-turn-is (shown.Slot s) r e = let same : Record.Slot s.frame s.slot s.lines.items ≡ r = cc in ap turn_of same
-turn-is shown.Ended r e = let same : Record.Ended ≡ r = cc in ap turn_of same
-turn-is (shown.Breach place cause) r e = let same : Record.Breach place cause ≡ r = cc in ap turn_of same
-
-record-is : (r : Record) → record_of (turn_of r) ≡ Some r
-record-is (Record.Frame frame nodes ports) = refl
-record-is (Record.Slot frame slot lines) = refl
-record-is Record.Ended = refl
-record-is (Record.Breach place cause) = refl
-
-bare-ends : (t : Turn) → end_at (record_of (bare t)) ≡ end_at (record_of t)
-bare-ends shown.Quiet = refl
-bare-ends (shown.Frame f) = refl
-bare-ends (shown.Slot s) = refl
-bare-ends shown.Ended = refl
-bare-ends (shown.Breach place cause) = refl
-
--- turns that are alike end a run alike
-alike-ends : (t u : Turn) → bare t ≡ bare u → end_at (record_of t) ≡ end_at (record_of u)
-alike-ends t u same = sym (bare-ends t) ∙ ap (λ x. end_at (record_of x)) same ∙ bare-ends u
-
--- a run ends with the turns that are the last of one
-ends-last : (o : Option Record) (e : Ending) → end_at o ≡ Some e → is_last o ≡ true
-ends-last None e is = absurd (cc)
-ends-last (Some (Record.Frame frame nodes ports)) e is = absurd (cc)
-ends-last (Some (Record.Slot frame slot lines)) e is = absurd (cc)
-ends-last (Some Record.Ended) e is = refl
-ends-last (Some (Record.Breach place cause)) e is = refl
-
-pub goes-on : (o : Option Record) → end_at o ≡ None → is_last o ≡ false
-goes-on None is = refl
-goes-on (Some (Record.Frame frame nodes ports)) is = refl
-goes-on (Some (Record.Slot frame slot lines)) is = refl
-goes-on (Some Record.Ended) is = absurd (cc)
-goes-on (Some (Record.Breach place cause)) is = absurd (cc)
-
--- Telling.
-
-tells-none : (told : Option (List Turn)) → TellsAll told told []
-tells-none None = refl
-tells-none (Some turns) = sym (append-nil turns)
-
-tells-more : (told mid since : Option (List Turn)) (turns : List Turn) (t : Turn) → TellsAll told mid turns → Tells mid since t → TellsAll told since (turns ++ t ∷ [])
-tells-more None None since turns t before now = now
-tells-more None (Some us) since turns t before now = absurd (cc)
-tells-more (Some ts) None None turns t before now = tt
-tells-more (Some ts) None (Some vs) turns t before now = absurd (cc)
-tells-more (Some ts) (Some us) None turns t before now = tt
-tells-more (Some ts) (Some us) (Some vs) turns t before now = now ∙ ap (λ xs. xs ++ t ∷ []) before ∙ append_assoc ts turns (t ∷ [])
-
 -- The begin.
-
-no-record : (r : Record) (others : List Record) → [] ≡ others ++ r ∷ [] → ⊥
-no-record r [] e = absurd (cc)
-no-record r (x ∷ others) e = absurd (cc)
-
-last-some : (o : Option Record) → is_last o ≡ true → (r : Record) × (o ≡ Some r)
-last-some None e = absurd (cc)
-last-some (Some r) e = (r, refl)
-
--- where nothing was given, the run has not ended
-not-over : (k : KeptWorld) → (begun : HasGivenNothing k) → begun.world.book.ended ≡ false
-not-over k begun = by begun.world.book.ended refl
-  where
-    by : (b : Bool) → begun.world.book.ended ≡ b → begun.world.book.ended ≡ false
-    by false e = e
-    by true e =
-        let some = last-some begun.world.turn (sym (reached-ended k.bus begun.world begun.stands.reached) ∙ e) in
-        let gave = reached-gave k.bus begun.world begun.stands.reached some.0 some.1 in
-        absurd (no-record some.0 gave.0 (sym begun.given ∙ gave.1))
 
 pub begins : (k : KeptWorld) (is_plain : Bool) (told : Option (List Turn)) → HasGivenNothing k → IsUnderWay k.bus [] is_plain told told k [] false
 begins k is_plain told begun = record {
@@ -154,17 +81,10 @@ bare-frame (shown.Breach place cause) = refl
 alike-frame : (t u : Turn) → bare t ≡ bare u → frame_in (record_of t) ≡ frame_in (record_of u)
 alike-frame t u same = sym (bare-frame t) ∙ ap (λ x. frame_in (record_of x)) same ∙ bare-frame u
 
-last-append : {X : Type 0} (o : Option X) (xs : List X) (x : X) → last_or o (xs ++ x ∷ []) ≡ Some x
-last-append o [] x = refl
-last-append o (y ∷ xs) x = last-append (Some y) xs x
-
 pub latest-more : (turns : List Turn) (t : Turn) → latest (turns ++ t ∷ []) ≡ record_of t
-latest-more turns t = ap (option_and_then record_of) (last-append None turns t)
+latest-more turns t = ap (option_and_then record_of) (last_or-append None turns t)
 
 -- One turn more.
-
-same-record : (xs : List Record) (n : ℕ) (a b : Record) → slice_get xs n ≡ Some a → slice_get xs n ≡ Some b → a ≡ b
-same-record xs n a b x y = let both : Some a ≡ Some b = sym x ∙ y in cc
 
 not-last-more : (turns : List Turn) (t : Turn) → AreNotLast turns → is_last (record_of t) ≡ false → AreNotLast (turns ++ t ∷ [])
 not-last-more [] t all one = (one, tt)

@@ -1,6 +1,6 @@
 -- What a side has given is the first part of its bus's run with all that the bridge carries.
 use Rattle.std.proofs.Common.{◌≡◌, ℕ, ◌+◌, ◌<◌, ◌≤◌, ◌==◌, max, Bool, true, false, if◌then◌else◌, inl, inr, Option, Some, None, List, [], ◌∷◌, ◌++◌, append_assoc, refl, sym, ◌∙◌, ap, subst, arith}
-use Rattle.std.proofs.lemmas.Bool.{cases_lt}
+use Rattle.std.proofs.lemmas.Bool.{cases_lt, eqb-true}
 use Rattle.std.specs.Option.{option_to_list}
 use Rattle.rb_base.specs.declared.values.Heard.{Heard}
 use Rattle.rb_base.specs.declared.values.Place.{Place}
@@ -16,7 +16,6 @@ use Rattle.rb_rules.specs.WorldStep.Choice.{Hand}
 use Rattle.rb_laws_events.proofs.EventsHold.{events-hold}
 use Rattle.rb_world_book.specs.Records.{record_of}
 use Rattle.rb_world_book.specs.declared.turn.Turn.{Turn}
-use Rattle.rb_laws_agreement.proofs.Tests.{equal_from}
 use Rattle.rb_run.specs.Turns.{records_in}
 use Rattle.rb_run.proofs.Plain.{records-back}
 use Rattle.rb_run.proofs.Texts.{records-more}
@@ -89,7 +88,7 @@ breach-of bank frame Ended k e = absurd (cc)
 breach-of bank frame (Breach place cause) k e = by (place.frame == frame) (record { bank = bank; place = place; cause = cause }) refl e
   where
     by : (t : Bool) (j : Break) → (place.frame == frame) ≡ t → (if t then Some j else None) ≡ Some k → IsBreachOf frame (Breach place cause)
-    by true j here e = record { place = place; cause = cause; is = refl; here = equal_from place.frame frame here }
+    by true j here e = record { place = place; cause = cause; is = refl; here = eqb-true place.frame frame here }
     by false j here e = absurd (cc)
 
 breach-upto : (sc : Scenario) (handed : List HandIn) (turns : List Turn) (rest : List Record) (frame : ℕ) (r : Record) → AreNotLast turns → IsBreachOf frame r

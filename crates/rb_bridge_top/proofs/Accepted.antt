@@ -1,11 +1,11 @@
 -- An input says one bridge, or is refused by a rule that has a line.
-use Rattle.std.proofs.Common.{◌≡◌, ◌≢◌, ℕ, Bool, true, false, List, Some, None, IsSome, is_some, codes, refl, sym, ◌∙◌, ap, subst, lit≤}
+use Rattle.std.proofs.Common.{◌≡◌, ◌≢◌, ℕ, Bool, true, false, List, IsSome, is_some, codes, refl, sym, ◌∙◌, ap, subst, lit≤}
 use Rattle.toml.specs.Data.{Members}
 use Rattle.rb_scenario_entries.specs.Codes.{code_of as scenario_code_of}
 use Rattle.rb_scenario_entries.specs.declared.refusal.Refusal.{Refusal}
 use Rattle.rb_scenario_entries.specs.declared.refusal.Refusal.TheVariants as rule
 use Rattle.rb_scenario.specs.Acceptance.{IsAccepted, IsDocument, IsRefused, as_scenario}
-use Rattle.rb_scenario.proofs.Documents.{accepted_alike, accepted_is_toml, accepted_is_unbroken}
+use Rattle.rb_scenario.proofs.Documents.{accepted_alike, accepted_is_toml, accepted_is_unbroken, same_document}
 use Rattle.rb_scenario.specs.declared.scenario.Scenario.{Scenario as Accepted}
 use Rattle.rb_rules_bridge.specs.Bridges.{Bridge}
 use Rattle.rb_bridge_document.specs.declared.refusal.BridgeRefusal.{BridgeRefusal}
@@ -17,10 +17,6 @@ use Rattle.rb_bridge_top.specs.Inputs.{HasLine}
 
 true-false : (a : Bool) → a ≡ true → a ≡ false → ⊥
 true-false a sure gone = cc
-
--- bytes are the text of one document at most
-same-document : (bytes : List ℕ) (s t : Members) → IsDocument bytes s → IsDocument bytes t → s ≡ t
-same-document bytes s t is_s is_t = ap (λ o. elim o as (λ _. Members) [ None ↦ s | Some x ↦ x ]) (sym is_s.1 ∙ is_t.1)
 
 -- Both buses.
 
@@ -37,7 +33,7 @@ same-bridge t a b is_a is_b =
 -- an accepted input says one bridge
 pub one-bridge : (input : List ℕ) (a b : Bridge) → IsBridgeAccepted input a → IsBridgeAccepted input b → a ≡ b
 one-bridge input a b is_a is_b =
-    let same : is_b.document ≡ is_a.document = same-document input is_b.document is_a.document is_b.text is_a.text in
+    let same : is_b.document ≡ is_a.document = same_document input is_b.document is_a.document is_b.text is_a.text in
     same-bridge is_a.document a b is_a.says (subst (λ t. SaysBridge t b) same is_b.says)
 
 -- Refusals.
@@ -62,16 +58,16 @@ not-refused input scenario rule.OutOfMemory accepted other refused = other refl
 unbroken : (t : Members) (b : Bridge) (why : BridgeRefusal) → SaysBridge t b → IsSome (code_of why) → (bytes : List ℕ) → IsDocument bytes t → ¬ IsBridgeRefused bytes why
 unbroken t b BridgeToml says coded bytes text refused = refused t text
 unbroken t b BridgeForm says coded bytes text refused =
-    let same : refused.document ≡ t = same-document bytes refused.document t refused.text text in
+    let same : refused.document ≡ t = same_document bytes refused.document t refused.text text in
     true-false (has_bridge_form t) says.buses.form (subst (λ u. has_bridge_form u ≡ false) same refused.broken)
 unbroken t b (LeftRefused why) says coded bytes text refused =
-    let same : refused.document ≡ t = same-document bytes refused.document t refused.text text in
+    let same : refused.document ≡ t = same_document bytes refused.document t refused.text text in
     not-refused (text_at (codes "left") t) says.left why says.buses.left_text refused.broken.1.0 (subst (λ u. IsRefused (text_at (codes "left") u) why) same refused.broken.1.1)
 unbroken t b (RightRefused why) says coded bytes text refused =
-    let same : refused.document ≡ t = same-document bytes refused.document t refused.text text in
+    let same : refused.document ≡ t = same_document bytes refused.document t refused.text text in
     not-refused (text_at (codes "right") t) says.right why says.buses.right_text refused.broken.1.1.1.0 (subst (λ u. IsRefused (text_at (codes "right") u) why) same refused.broken.1.1.1.1)
 unbroken t b BridgeRange says coded bytes text refused =
-    let same : refused.document ≡ t = same-document bytes refused.document t refused.text text in
+    let same : refused.document ≡ t = same_document bytes refused.document t refused.text text in
     let left : Accepted = refused.broken.0 in
     let right : Accepted = refused.broken.1.0 in
     let buses : SaysBuses t left right = subst (λ u. SaysBuses u left right) same refused.broken.1.1.0 in

@@ -2,11 +2,12 @@
 use Rattle.std.proofs.Common.{◌≡◌, ℕ, zero, suc, ◌+◌, ◌*◌, ◌<◌, ◌≤◌, Bool, true, false, cond, not, ◌&&◌, ◌||◌, bit_and, bit_or, nat_lt, List, [], ◌∷◌, refl, sym, ◌∙◌, ap, add-one, arith}
 use Rattle.std.specs.Int.{from_bool}
 use Rattle.std.specs.List.{range_with_len}
+use Rattle.std.proofs.lemmas.Bool.{le-ltb}
 use Rattle.std.proofs.lemmas.Bool.Decides.{nat_tests}
 use Rattle.rb_base.specs.Counting.{count_if, numbers}
 use Rattle.rb_base.specs.Nodes.{has, set_of, size}
 use Rattle.rb_base.specs.declared.values.Heard.{Heard}
-use Rattle.rb_base.proofs.Sets.{has-and, has-or, has-set_of, lt_false, same_set_of}
+use Rattle.rb_base.proofs.Sets.{has-and, has-or, has-set_of, same_set_of}
 use Rattle.rb_base.proofs.SetSizes.{size-set_of}
 use Rattle.rb_diag.specs.Votes.{against, counts, most_against}
 use Rattle.rb_rules.specs.Conviction.{convicted_by, names, naming, sparing}
@@ -85,7 +86,7 @@ suspects_is senders trusted named vector j unnamed =
     λ t b. elim b as (λ b. has named j ≡ b → ((t && b) && most_against senders vector j) ≡ (t && most_against senders vector j)) [
       | true ↦ λ e. elim t as (λ t. ((t && true) && most_against senders vector j) ≡ (t && most_against senders vector j)) [ true ↦ refl | false ↦ refl ]
       | false ↦ λ e.
-          let few : most_against senders vector j ≡ false = ap (λ n. nat_lt (size senders) (2 * n)) (unnamed e) ∙ lt_false (size senders) (2 * 0) (omega arith) in
+          let few : most_against senders vector j ≡ false = ap (λ n. nat_lt (size senders) (2 * n)) (unnamed e) ∙ le-ltb (size senders) (2 * 0) (omega arith) in
           elim t as (λ t. ((t && false) && most_against senders vector j) ≡ (t && most_against senders vector j)) [ true ↦ sym few | false ↦ refl ]
     ] in
     ap (λ b. b && most_against senders vector j) (has-and trusted named j) ∙ go (has trusted j) (has named j) refl

@@ -3,13 +3,13 @@ use Rattle.std.proofs.Common.{◌≡◌, ℕ, ◌<◌, true, ◌&&◌, if◌then
 use Rattle.std.proofs.lemmas.List.FromFn.{fill_by_all}
 use Rattle.rb_base.specs.Nodes.{has}
 use Rattle.rb_base.specs.declared.values.Heard.{Heard}
+use Rattle.rb_base.proofs.Plain.{and_second}
 use Rattle.rb_base.proofs.Sets.{same_set_of}
 use Rattle.rb_rules.specs.declared.sense.Expect.{Expect}
 use Rattle.rb_rules.specs.Sense.{is_one, value_in}
 use Rattle.rb_rules.specs.Standing.{Standing, is_eligible, taken_of}
 use Rattle.rb_eligible.specs.Inboxes.{KeptArrivals, is_sole, sense_in}
 use Rattle.rb_eligible.specs.Takings.{AreOnesOf, AreTakenOf, AreValuesOf}
-use Rattle.rb_eligible.proofs.Scans.{both_second}
 use Rattle.rb_eligible.proofs.Sensed.{none_but_soles, value_but_soles}
 
 -- of the sources that are expected and eligible and of which there is no sole arrival nothing can be taken
@@ -30,4 +30,4 @@ due_taken kept s e expected due taken is all are = λ received shown.
 -- there is one
 pub due_soles : (kept : KeptArrivals) (s : Standing) (expected due : ℕ) → ((j : ℕ) → j < 16 → has due j ≡ ((has expected j && is_eligible s j) && is_sole kept j))
     → (j : ℕ) → j < 16 → has due j ≡ true → is_sole kept j ≡ true
-due_soles kept s expected due is j h inside = both_second (has expected j && is_eligible s j) (is_sole kept j) (sym (is j h) ∙ inside)
+due_soles kept s expected due is j h inside = and_second (has expected j && is_eligible s j) (is_sole kept j) (sym (is j h) ∙ inside)

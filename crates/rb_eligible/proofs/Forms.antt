@@ -5,26 +5,22 @@ use Rattle.std.specs.Int.Bits.{xor_assoc}
 use Rattle.std.proofs.lemmas.Bool.{eq-eqb, eqb-true}
 use Rattle.std.proofs.lemmas.Grind.{common_steps}
 use Rattle.std.proofs.lemmas.List.{length-take}
-use Rattle.std.proofs.lemmas.Nat.{xor_comm}
 use Rattle.std.proofs.Math.Bool.{and_assoc}
+use Rattle.rb_base.proofs.Plain.{and_first}
 use Rattle.rb_rules.specs.declared.message.Message.{Message}
 use Rattle.rb_rules.specs.declared.message.Version.{Version}
 use Rattle.rb_rules.specs.declared.message.Version.TheVariants.{One, Two}
 use Rattle.rb_rules.specs.Spelling.{check_of, has_form, message_in, message_with, tag_in}
 use Rattle.rb_frame.specs.Spellings.{spelled}
-
-xor_0 : (x : ℕ) → bit_xor 0 x ≡ x
-xor_0 x = xor_comm 0 x ∙ grind (arith, common_steps)
+use Rattle.rb_frame.proofs.Checks.{from_zero}
+use Rattle.rb_frame.proofs.Sending.{xor_with_0}
 
 xor_same : (x : ℕ) → bit_xor x x ≡ 0
 xor_same x = grind (arith, common_steps)
 
-xor_with_0 : (x : ℕ) → bit_xor x 0 ≡ x
-xor_with_0 x = grind (arith, common_steps)
-
 -- two numbers whose exclusive or is 0 are equal
 xor_none : (x y : ℕ) → bit_xor x y ≡ 0 → y ≡ x
-xor_none x y none = sym (xor_0 y) ∙ ap (λ z. bit_xor z y) (sym none) ∙ xor_assoc x y y ∙ ap (bit_xor x) (xor_same y) ∙ xor_with_0 x
+xor_none x y none = sym (from_zero y) ∙ ap (λ z. bit_xor z y) (sym none) ∙ xor_assoc x y y ∙ ap (bit_xor x) (xor_same y) ∙ xor_with_0 x
 
 -- so the check at the end is right where the exclusive or of all is 0
 check_right : (x y : ℕ) → (bit_xor x y == 0) ≡ (y == x)
@@ -93,17 +89,13 @@ read_twelve : (bus low high : ℕ) → has_form (Two bus) (spelled low high 12) 
 unfolding message_in spelled
 read_twelve bus low high form = ap (λ b. if b then fields_read low high else None) form
 
-first_true : (a b : Bool) → (a && b) ≡ true → a ≡ true
-first_true true b e = refl
-first_true false b e = e
-
 -- is what is read of bytes that have the form
 pub message_from : (version : Version) (low high len : ℕ) → len ≤ 12 → has_form version (spelled low high len) ≡ true → message_in version (spelled low high len) ≡ fields_read low high
 message_from One low high len short form =
-    let is : len ≡ 11 = sym (length_spelled low high len short) ∙ eqb-true (length (spelled low high len)) 11 (first_true _ _ form) in
+    let is : len ≡ 11 = sym (length_spelled low high len short) ∙ eqb-true (length (spelled low high len)) 11 (and_first _ _ form) in
     subst (λ n. has_form One (spelled low high n) ≡ true → message_in One (spelled low high n) ≡ fields_read low high) (sym is) (read_eleven low high) form
 message_from (Two bus) low high len short form =
-    let is : len ≡ 12 = sym (length_spelled low high len short) ∙ eqb-true (length (spelled low high len)) 12 (first_true _ _ (first_true _ _ form)) in
+    let is : len ≡ 12 = sym (length_spelled low high len short) ∙ eqb-true (length (spelled low high len)) 12 (and_first _ _ (and_first _ _ form)) in
     subst (λ n. has_form (Two bus) (spelled low high n) ≡ true → message_in (Two bus) (spelled low high n) ≡ fields_read low high) (sym is) (read_twelve bus low high) form
 
 -- and where they have it not, nothing is

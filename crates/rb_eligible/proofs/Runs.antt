@@ -6,6 +6,7 @@ use Rattle.rb_base.specs.Nodes.{has, set_of, size}
 use Rattle.rb_base.specs.declared.values.Heard.{Heard}
 use Rattle.rb_base.specs.declared.values.Heard.TheVariants.{Fault}
 use Rattle.rb_base.specs.declared.values.See.{See}
+use Rattle.rb_base.proofs.Plain.{and-true, and_first, and_second}
 use Rattle.rb_base.proofs.Sets.{eq_other, has-is, has_none, is_set_of, set_of-lt}
 use Rattle.rb_base.proofs.SetSizes.{size_less, size_within}
 use Rattle.rb_rules.specs.declared.sense.Expect.{Expect}
@@ -19,12 +20,8 @@ use Rattle.rb_eligible.specs.Readings.{Says, bytes_of}
 use Rattle.rb_eligible.specs.Sheets.{IsSheet}
 use Rattle.rb_eligible.specs.Takings.{AreOnesOf, AreValuesOf, IsPartial, IsRun}
 use Rattle.rb_eligible.proofs.Alike.{leading_vote}
-use Rattle.rb_eligible.proofs.Scans.{both_second, within_next}
+use Rattle.rb_eligible.proofs.Scans.{within_next}
 use Rattle.rb_eligible.proofs.Sensed.{read_one, read_value, says_none}
-
-first_of : (a b : Bool) → (a && b) ≡ true → a ≡ true
-first_of true b both = refl
-first_of false b both = both
 
 not_true : (b : Bool) → (b ≡ true → false ≡ true) → b ≡ false
 not_true true none = let e : false ≡ true = none refl in absurd cc
@@ -98,14 +95,10 @@ nothing true b = refl
 nothing false true = refl
 nothing false false = refl
 
-whole : (a : Bool) → (a && true) ≡ a
-whole true = refl
-whole false = refl
-
 one_at : (l r d q one o : Bool) → (l ≡ true → d ≡ true) → (r ≡ true → l ≡ true) → (l ≡ true → r ≡ false → one ≡ q) → o ≡ ((d && not l) && q)
     → (o || (one && (l && not r))) ≡ ((d && not r) && q)
 one_at true true true q one o due within is so_far = nothing o one ∙ so_far
-one_at true false true q one o due within is so_far = ap (λ o. o || (one && true)) so_far ∙ whole one ∙ is refl refl
+one_at true false true q one o due within is so_far = ap (λ o. o || (one && true)) so_far ∙ and-true one ∙ is refl refl
 one_at true r false q one o due within is so_far = let e : false ≡ true = due refl in absurd cc
 one_at false true d q one o due within is so_far = let e : false ≡ true = within refl in absurd cc
 one_at false false d q one o due within is so_far = nothing o one ∙ so_far
@@ -171,8 +164,8 @@ partial_next kept e due left rest ones ones' lead lead' one v value value' sole 
             (not_true (has rest j) (λ here. sym was.0 ∙ run.within j h here), (was.1.0, (run.others j h was.0 ∙ was.1.1.0, old.1 ∙ was.1.1.1))))
         | inr new ↦
             (let x = some_value v new.1.1 in
-            let gone : has rest j ≡ false = unless (has rest j) (both_second (has left j) (not (has rest j)) new.0) in
-            (gone, (x.0, ((run.same j h (first_of (has left j) (not (has rest j)) new.0) gone).0 ∙ x.1, new.1.0 ∙ x.1))))
+            let gone : has rest j ≡ false = unless (has rest j) (and_second (has left j) (not (has rest j)) new.0) in
+            (gone, (x.0, ((run.same j h (and_first (has left j) (not (has rest j)) new.0) gone).0 ∙ x.1, new.1.0 ∙ x.1))))
       ];
 }
   where
@@ -227,7 +220,7 @@ pub partial_ones : (kept : KeptArrivals) (e : Expect) (due left ones lead : ℕ)
 partial_ones kept e due left ones lead value taken none partial = λ received shown.
     is_set_of ones (λ j. has due j && is_one (sense_in e received j)) partial.fits
     (λ j h. partial.one received shown j h ∙ ap (λ b. (has due j && not b) && is_one (sense_in e received j)) (gone_all left j none)
-    ∙ ap (λ b. b && is_one (sense_in e received j)) (whole (has due j)))
+    ∙ ap (λ b. b && is_one (sense_in e received j)) (and-true (has due j)))
 
 pub partial_values : (kept : KeptArrivals) (e : Expect) (due left ones lead : ℕ) (value : Option Heard) (taken : List (Option Heard)) → left ≡ 0
     → IsPartial kept e due left ones lead value taken → AreValuesOf kept e due taken
@@ -253,4 +246,4 @@ pub word_of_all : (kept : KeptArrivals) (e : Expect) (due rest : ℕ) (x : Heard
     → ((j : ℕ) → j < 16 → has due j ≡ true → is_sole kept j ≡ true) → IsSheet due taken sees → Says e (bytes_of sole) true (Some x) → IsRun kept due rest sole (Some x) taken taken'
     → due < 2 ^ 16 → rest ≡ 0 → IsPartial kept e due rest due due (Some x) taken'
 word_of_all kept e due rest x sole taken taken' sees soles sheet says taking fits none =
-    word_begun kept e due rest due x sole taken taken' sees soles sheet says taking fits (λ j h. sym (ap (λ b. has due j && not b) (gone_all rest j none) ∙ whole (has due j)))
+    word_begun kept e due rest due x sole taken taken' sees soles sheet says taking fits (λ j h. sym (ap (λ b. has due j && not b) (gone_all rest j none) ∙ and-true (has due j)))

@@ -17,7 +17,3 @@ within_next todo left left' k removed within j h inside =
 -- what a set has in common with the nodes that pass
 pub common_has : (set those left j : ℕ) (p : ℕ → Bool) → left ≡ set_of (λ i. has set i && has those i) → those ≡ set_of p → j < 16 → has left j ≡ (has set j && p j)
 common_has set those left j p is those_are h = has-is left j (λ i. has set i && has those i) is h ∙ ap (λ b. has set j && b) (has-is those j p those_are h)
-
-pub both_second : (a b : Bool) → (a && b) ≡ true → b ≡ true
-both_second true b both = both
-both_second false b both = absurd cc

@@ -1,9 +1,7 @@
 -- What the node makes of what an inbox keeps of a source.
 use Rattle.std.proofs.Common.{◌≡◌, ℕ, ◌+◌, ◌<◌, ◌≤◌, Bool, true, false, not, ◌&&◌, if◌then◌else◌, Option, Some, None, List, [], ◌∷◌, ◌++◌, length, take, drop, get_or, inl, inr, refl, sym, ◌∙◌, ap, arith, length-drop}
 use Rattle.std.specs.Int.{from_le_bytes, to_le_bytes, w32, w64}
-use Rattle.std.proofs.lemmas.Bool.{cases_lt}
-use Rattle.std.proofs.lemmas.List.{get_or-drop, get_or-take, length-take, take-append-drop}
-use Rattle.std.proofs.lemmas.Grind.{common_steps}
+use Rattle.std.proofs.lemmas.List.{get_or-drop, length-take, take-append-drop}
 use Rattle.std.proofs.lemmas.Nat.{le_bytes_4, le_bytes_8}
 use Rattle.rb_base.specs.Nodes.{has}
 use Rattle.rb_base.specs.declared.values.Heard.{Heard}
@@ -17,6 +15,7 @@ use Rattle.rb_rules.specs.declared.sense.Sense.TheVariants.{Silent, One, Bad}
 use Rattle.rb_rules.specs.Sense.{Arrival, is_one, is_silent, sense_of, sense_of_one, stamp_in, suits, value_in}
 use Rattle.rb_rules.specs.Spelling.{message_in}
 use Rattle.rb_frame.specs.Spellings.{spelled}
+use Rattle.rb_frame.proofs.Keeping.{small_part}
 use Rattle.rb_eligible.specs.declared.reading.Sole.{Sole}
 use Rattle.rb_eligible.specs.Inboxes.{IsKept, IsSpoilt, IsUpTo, KeptArrivals, Received, HoldsArrivals, StampsUpTo, arrivals_of, is_sole, sense_in, sole_at}
 use Rattle.rb_eligible.specs.Readings.{Says, bytes_of}
@@ -125,13 +124,6 @@ one_stamp e stamp (Some m) good =
       | true ↦ λ y. refl
       | false ↦ λ y. absurd cc
     ] good
-
-small_part : (xs : List ℕ) → ((i : ℕ) → get_or xs i 0 < 256) → (n i : ℕ) → get_or (take n xs) i 0 < 256
-small_part xs small n i =
-    elim (cases_lt i n) [
-      | inl less ↦ rw (get_or-take n xs i 0 less) (small i)
-      | inr more ↦ (let most : length (take n xs) ≤ i = omega (arith, length-take n xs) in grind (arith, most, common_steps))
-    ]
 
 -- the bytes from the numbers that they are kept as
 pub spelled_is : (bytes room : List ℕ) (low high : ℕ) → length room ≡ 12 → ((i : ℕ) → get_or room i 0 < 256) → low ≡ from_le_bytes w64 (take 8 room) → high ≡ from_le_bytes w32 (drop 8 room)

@@ -4,7 +4,8 @@ use Rattle.std.proofs.lemmas.Bool.{cases_eq}
 use Rattle.std.proofs.lemmas.List.{get_or-set_other, get_or-set_same, map-append}
 use Rattle.std.proofs.lemmas.List.Elements.{filter-append}
 use Rattle.rb_base.specs.Nodes.{has, set_of}
-use Rattle.rb_base.proofs.Sets.{eq_other, eq_self, has-set_of}
+use Rattle.rb_base.proofs.Plain.{eq_self}
+use Rattle.rb_base.proofs.Sets.{eq_other, has-set_of}
 use Rattle.rb_rules.specs.Sense.{Arrival}
 use Rattle.rb_frame.specs.Spellings.{len_of}
 use Rattle.rb_eligible.specs.declared.reading.Sole.{Sole}

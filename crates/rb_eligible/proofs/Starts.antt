@@ -2,7 +2,7 @@
 use Rattle.std.proofs.Common.{◌≡◌, ℕ, ◌+◌, ◌*◌, ◌/◌, ◌%◌, ◌≤◌, nat_le, Bool, true, false, if◌then◌else◌, Some, refl, sym, ◌∙◌, ap}
 use Rattle.std.proofs.lemmas.Bool.{le-leb}
 use Rattle.rb_base.specs.declared.values.Heard.TheVariants as heard
-use Rattle.rb_base.proofs.Sets.{eq_self}
+use Rattle.rb_base.proofs.Plain.{eq_self}
 use Rattle.rb_rules.specs.declared.message.Message.{Message}
 use Rattle.rb_rules.specs.declared.message.Tag.TheVariants.{Word}
 use Rattle.rb_rules.specs.declared.sense.Expect.{Expect}

@@ -50,7 +50,7 @@ of_both a b =
     ∙ (λ i. bit_xor (swap_two a0 b0 a1 b1 i) (swap_two a2 b2 a3 b3 i))
     ∙ swap_two (bit_xor a0 a1) (bit_xor b0 b1) (bit_xor a2 a3) (bit_xor b2 b3)
 
-from_zero : (x : ℕ) → bit_xor 0 x ≡ x
+pub from_zero : (x : ℕ) → bit_xor 0 x ≡ x
 from_zero x = xor_comm 0 x ∙ grind (arith, common_steps)
 
 -- the halves laid over one another

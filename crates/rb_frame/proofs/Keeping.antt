@@ -19,7 +19,7 @@ unfolding bytes_in spelled
 short_bytes low tail rest short = take-append-le (len_of tail) (to_le_bytes w64 low ++ to_le_bytes w32 (high_of tail)) rest short
 
 -- a part of bytes is of bytes
-small_part : (xs : List ℕ) → ((i : ℕ) → get_or xs i 0 < 256) → (n i : ℕ) → get_or (take n xs) i 0 < 256
+pub small_part : (xs : List ℕ) → ((i : ℕ) → get_or xs i 0 < 256) → (n i : ℕ) → get_or (take n xs) i 0 < 256
 small_part xs small n i =
     elim (cases_lt i n) [
       | inl less ↦ rw (get_or-take n xs i 0 less) (small i)

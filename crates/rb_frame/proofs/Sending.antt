@@ -10,7 +10,7 @@ use Rattle.rb_rules.specs.Spelling.{IsZeroUnlessWord, Spells, check_of, fields_o
 use Rattle.rb_rules.proofs.Spellings.{has_value}
 use Rattle.rb_frame.specs.Spellings.{IsFilled, bytes_in, filled, high_of, len_of, low_in, rest_in, spelled, tail_in}
 
-xor_with_0 : (x : ℕ) → bit_xor x 0 ≡ x
+pub xor_with_0 : (x : ℕ) → bit_xor x 0 ≡ x
 xor_with_0 x = grind (arith, common_steps)
 
 -- the check of ten bytes is that of twelve, of which two are zeros

@@ -1,12 +1,13 @@
 -- The delay of each link of the generated scenario, in all places, is the one that was drawn for it.
 use Rattle.std.proofs.Common.{◌≡◌, ℕ, zero, suc, ◌+◌, ◌-◌, ◌*◌, ◌/◌, ◌%◌, ◌<◌, ◌≤◌, ◌&&◌, nat_le, nat_lt, Bool, true, false, cond, List, map, refl, sym, ap, ◌∙◌, subst, inl, inr, arith}
 use Rattle.std.specs.List.{range_with_len}
-use Rattle.std.proofs.lemmas.Bool.{and_from, and_parts, cases_lt, eq-eqb, eqb-true, false_from_ne_true, false≢true, le-leb, ltb-false}
+use Rattle.std.proofs.lemmas.Bool.{and_from, and_parts, cases_lt, eq-eqb, false_from_ne_true, le-leb, ltb-false}
 use Rattle.rb_base.specs.declared.node.NodeName.{NodeName}
 use Rattle.rb_base.specs.declared.node.NodeName.TheVariants.{Biu, Rmu}
 use Rattle.rb_base.specs.declared.values.Place.{Place}
 use Rattle.rb_rules.specs.declared.link.Rule.{Rule}
 use Rattle.rb_rules.specs.Links.{applies, covers, delay_after, delay_of, same_node}
+use Rattle.rb_rules.proofs.Slots.{same_node-is}
 use Rattle.rb_gen.specs.Generated.{delay_on, receiver_of, rule_of, scenario_of, sender_of}
 
 -- ---- the last rule that applies
@@ -31,12 +32,6 @@ last_applies f from to place a (suc n) i before low high here later = elim (case
 ]
 
 -- ---- links are told apart by their nodes
-
-same_name : (a b : NodeName) → same_node a b ≡ true → a ≡ b
-same_name (Biu i) (Biu j) e = ap Biu (eqb-true i j e)
-same_name (Biu i) (Rmu j) e = absurd (false≢true e)
-same_name (Rmu i) (Biu j) e = absurd (false≢true e)
-same_name (Rmu i) (Rmu j) e = ap Rmu (eqb-true i j e)
 
 same_itself : (a : NodeName) → same_node a a ≡ true
 same_itself (Biu i) = eq-eqb i i refl
@@ -81,8 +76,8 @@ applies_to_no_other drawn frames link other place lt =
     false_from_ne_true (from && to && there)
     (λ e. let nodes = and_parts from to (and_parts (from && to) there e).0 in
     let same : other ≡ link =
-    sym (link_of_nodes other) ∙ ap (λ n. link_of n (receiver_of other)) (same_name (sender_of other) (sender_of link) nodes.0)
-    ∙ ap (link_of (sender_of link)) (same_name (receiver_of other) (receiver_of link) nodes.1) ∙ link_of_nodes link in omega (arith, same, lt))
+    sym (link_of_nodes other) ∙ ap (λ n. link_of n (receiver_of other)) (same_node-is (sender_of other) (sender_of link) nodes.0)
+    ∙ ap (link_of (sender_of link)) (same_node-is (receiver_of other) (receiver_of link) nodes.1) ∙ link_of_nodes link in omega (arith, same, lt))
 
 pub delay_drawn : (drawn : List ℕ) (frames link : ℕ) → link < 80
     → delay_of (scenario_of drawn frames).delays (sender_of link) (receiver_of link) (record { frame = 0; slot = 0; stage = 1 }) ≡ delay_on drawn link

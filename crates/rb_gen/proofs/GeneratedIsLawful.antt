@@ -9,6 +9,7 @@ use Rattle.rb_base.specs.Counting.{numbers}
 use Rattle.rb_base.specs.Nodes.{other}
 use Rattle.rb_base.specs.Sizes.{IsShape}
 use Rattle.rb_base.specs.declared.node.NodeName.TheVariants.{Biu, Rmu}
+use Rattle.rb_base.proofs.Plain.{and-false}
 use Rattle.rb_rules.specs.Clock.{IsClock}
 use Rattle.rb_rules.specs.Lawful.{IsLawful, IsNodeOf, IsOnsetOf, IsRuleOf, IsSayOf, kind_of}
 use Rattle.rb_rules.specs.Plan.{IsFeasible, IsPlan}
@@ -103,12 +104,8 @@ onsets_are drawn frames n m onset frame slot =
     All-append Is (replicate n None) (Some onset ∷ replicate m None) (All-replicate Is n None tt)
     (All-cons Is (Some onset) (replicate m None) (frame, slot) (All-replicate Is m None tt))
 
-never_both : (b : Bool) → (b && false) ≡ false
-never_both true = refl
-never_both false = refl
-
 pub not_before_itself : (frame : ℕ) → (nat_lt frame frame || ((frame == frame) && false)) ≡ false
-not_before_itself frame = rw (le-ltb frame frame (omega arith)) (never_both (frame == frame))
+not_before_itself frame = rw (le-ltb frame frame (omega arith)) (and-false (frame == frame))
 
 say_is : (drawn : List ℕ) (frames rmu : ℕ) → 1 ≤ frames → rmu < 4 → IsSayOf (scenario_of drawn frames) (say_to frames rmu)
 unfolding scenario_of plan

@@ -8,7 +8,8 @@ use Rattle.rb_base.specs.Counting.{numbers}
 use Rattle.rb_base.specs.Nodes.{has}
 use Rattle.rb_base.specs.declared.values.Delivery.{Delivery}
 use Rattle.rb_base.specs.declared.values.Heard.{Heard}
-use Rattle.rb_base.proofs.Sets.{eq_self, has_above}
+use Rattle.rb_base.proofs.Plain.{eq_self}
+use Rattle.rb_base.proofs.Sets.{has_above}
 use Rattle.rb_rules.specs.ExactStage.{present}
 use Rattle.rb_group.specs.Groups.{first_of, value_of, values_of}
 use Rattle.rb_group.specs.Keeping.{HasHeard, KeptGroup, with_first}

@@ -1,9 +1,8 @@
 -- The middle of small numbers is small.
 use Rattle.std.proofs.Common.{◌≡◌, ℕ, ◌+◌, ◌*◌, ◌^◌, ◌<◌, ◌≤◌, true, Option, inl, inr, Some, None, IfSome, All, List, [], ◌∷◌, ◌++◌, length, nat_lt, subst, sym, arith}
-use Rattle.std.proofs.lemmas.Bool.{cases_lt}
+use Rattle.std.proofs.lemmas.Bool.{cases_lt, lt-ltb}
 use Rattle.std.proofs.lemmas.List.Elements.{All-append, All-cons, All-nil, All-weaker}
 use Rattle.rb_base.proofs.Counts.{count_if-all}
-use Rattle.rb_base.proofs.Sets.{lt_true}
 use Rattle.rb_base.specs.declared.values.Heard.{Heard}
 use Rattle.rb_base.specs.declared.values.Heard.TheVariants.{Word, Fault}
 use Rattle.rb_rules.specs.Middle.{IsMiddle, below}
@@ -15,7 +14,7 @@ middle_below n m stamps small is =
     elim (cases_lt m n) [
       | inl less ↦ less
       | inr past ↦
-          let all : below m stamps ≡ length stamps = count_if-all (λ s. nat_lt s m) stamps (All-weaker (λ s. s < n) (λ s. nat_lt s m ≡ true) (λ s h. lt_true s m (omega (arith, h, past))) stamps small) in
+          let all : below m stamps ≡ length stamps = count_if-all (λ s. nat_lt s m) stamps (All-weaker (λ s. s < n) (λ s. nat_lt s m ≡ true) (λ s h. lt-ltb s m (omega (arith, h, past))) stamps small) in
           absurd (omega (arith, is.few_below, all))
     ]
 

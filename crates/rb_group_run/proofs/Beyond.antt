@@ -1,9 +1,9 @@
 -- Members that are no BIUs of the bus.
 use Rattle.std.proofs.Common.{◌≡◌, ℕ, ◌<◌, ◌≤◌, ◌^◌, ◌↔◌, Bool, true, false, not, ◌&&◌, nat_lt, inl, inr, refl, sym, ◌∙◌, ap, arith}
-use Rattle.std.proofs.lemmas.Bool.{cases_lt}
+use Rattle.std.proofs.lemmas.Bool.{cases_lt, le-ltb, lt-ltb}
 use Rattle.rb_base.specs.Nodes.{has, set_of}
 use Rattle.rb_base.specs.Sizes.{Sizes}
-use Rattle.rb_base.proofs.Sets.{has-is, has-set_of, has_above, has_none, lt_false, lt_true, same_set, set_of-lt}
+use Rattle.rb_base.proofs.Sets.{has-is, has-set_of, has_above, has_none, same_set, set_of-lt}
 use Rattle.rb_group_run.specs.Members.{AreMembers}
 
 -- those of the mask that are not among the first so many
@@ -30,7 +30,7 @@ none_beyond sizes mask bius left small is left_is zero_is i member =
     ]
   where
     inside : nat_lt i sizes.bius ≡ true → i < sizes.bius
-    inside e = elim (cases_lt i sizes.bius) [ inl less ↦ less | inr past ↦ absurd (let f = lt_false i sizes.bius past in cc) ]
+    inside e = elim (cases_lt i sizes.bius) [ inl less ↦ less | inr past ↦ absurd (let f = le-ltb i sizes.bius past in cc) ]
 
 no_member_out : (m l : Bool) → (m ≡ true → l ≡ true) → (m && not l) ≡ false
 no_member_out true true h = refl
@@ -42,4 +42,4 @@ pub all_members : (sizes : Sizes) (mask bius left : ℕ) → bius ≡ set_of (λ
 all_members sizes mask bius left is left_is members =
     left_is ∙ same_set (set_of (beyond mask bius)) 0 (set_of-lt (beyond mask bius)) (omega arith) (λ i below.
     has-set_of i (beyond mask bius) below ∙ at mask bius sizes.bius i is below
-    ∙ no_member_out (has mask i) (nat_lt i sizes.bius) (λ m. lt_true i sizes.bius (members i m)) ∙ sym (has_none i))
+    ∙ no_member_out (has mask i) (nat_lt i sizes.bius) (λ m. lt-ltb i sizes.bius (members i m)) ∙ sym (has_none i))

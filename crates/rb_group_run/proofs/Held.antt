@@ -7,8 +7,9 @@ use Rattle.std.proofs.lemmas.List.{append-nil, get_or-set_other, get_or-set_same
 use Rattle.std.proofs.Math.ListN.{length-set}
 use Rattle.std.specs.List.{flat_map}
 use Rattle.std.specs.Option.{option_to_list}
-use Rattle.rb_base.proofs.Sets.{eq_other, eq_self}
+use Rattle.rb_base.proofs.Sets.{eq_other}
 use Rattle.rb_base.specs.declared.values.Delivery.{Delivery}
+use Rattle.rb_base.proofs.Plain.{eq_self}
 use Rattle.rb_rules.specs.Book.{Record}
 use Rattle.rb_rules.specs.Book.Record.{Frame, Slot, Ended, Breach}
 use Rattle.rb_rules.specs.declared.record.SlotLine.{SlotLine}

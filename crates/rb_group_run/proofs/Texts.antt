@@ -2,7 +2,7 @@
 use Rattle.std.proofs.Common.{◌≡◌, ℕ, nat_lt, Bool, true, false, if◌then◌else◌, Option, Some, None, List, [], ◌∷◌, ◌++◌, refl, sym, ◌∙◌, ap, arith, append_assoc}
 use Rattle.std.proofs.lemmas.List.{append-nil}
 use Rattle.std.specs.Option.{option_to_list}
-use Rattle.rb_base.proofs.Sets.{lt_false}
+use Rattle.std.proofs.lemmas.Bool.{le-ltb}
 use Rattle.rb_base.specs.declared.values.Heard.{Heard}
 use Rattle.rb_rules.specs.Book.{Record}
 use Rattle.rb_rules.specs.Goodness.{Scenario}
@@ -33,7 +33,7 @@ pub turn_is : (sc : Scenario) (asked : Asked) (records : List Record) (ports : P
     → (if nat_lt ports.frame (frame_or sc.frames ports.frame o) then frame_text sc ports.frame (found asked ports records) else []) ++ ending_in sc.frames o
     ≡ turn_text sc asked records o
 turn_is sc asked records ports None hold =
-    ap (λ b. (if b then frame_text sc ports.frame (found asked ports records) else []) ++ []) (lt_false ports.frame ports.frame (omega arith))
+    ap (λ b. (if b then frame_text sc ports.frame (found asked ports records) else []) ++ []) (le-ltb ports.frame ports.frame (omega arith))
 turn_is sc asked records ports (Some r) hold =
     ap (λ f. (if nat_lt f (frame_of sc.frames r) then frame_text sc f (value_at asked.which asked.members records f) else []) ++ ending_text sc.frames r) hold.frame_is
 

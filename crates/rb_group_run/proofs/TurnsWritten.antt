@@ -1,23 +1,17 @@
 -- Lines that are written one after another, one for each number.
-use Rattle.std.proofs.Common.{◌≡◌, ℕ, zero, suc, ◌+◌, ◌≤◌, ◌-◌, List, [], ◌∷◌, ◌++◌, Option, Result, Ok, Err, OnErr, OnOk, sym, ap, ◌∙◌, subst, arith}
+use Rattle.std.proofs.Common.{◌≡◌, ℕ, zero, suc, ◌+◌, ◌≤◌, ◌-◌, List, [], ◌∷◌, ◌++◌, Option, sym, ap, ◌∙◌, subst, arith}
 use Rattle.std.proofs.lemmas.Grind.{flat_map-append}
 use Rattle.std.proofs.lemmas.List.{append-nil}
 use Rattle.std.specs.Io.KnownBytes.{Appends}
-use Rattle.std.specs.List.{flat_map, range_with_len}
+use Rattle.std.specs.List.{flat_map}
 use Rattle.rb_base.specs.Counting.{numbers}
+use Rattle.rb_base.proofs.Plain.{numbers-more}
 use Rattle.rb_outside.specs.Bytes.{AppendsPart}
 use Rattle.rb_outside.proofs.Known.{appends_join, part_join, part_widens}
 
-last : (a n j : ℕ) → a + n ≡ j → range_with_len a (suc n) ≡ range_with_len a n ++ j ∷ []
-last a zero j e = let same : a ≡ j = omega arith in ap (λ k. k ∷ []) same
-last a (suc n) j e = ap (λ l. a ∷ l) (last (a + 1) n j (omega arith))
-
-numbers_more : (n : ℕ) → numbers (n + 1) ≡ numbers n ++ n ∷ []
-numbers_more n = let on : n + 1 ≡ suc n = omega arith in ap numbers on ∙ last 0 n n (omega arith)
-
 one_line : (line : ℕ → List ℕ) (n : ℕ) → flat_map line (numbers (n + 1)) ≡ flat_map line (numbers n) ++ line n
 one_line line n =
-    ap (flat_map line) (numbers_more n)
+    ap (flat_map line) (numbers-more n)
     ∙ flat_map-append line (numbers n) (n ∷ [])
     ∙ ap (λ t. flat_map line (numbers n) ++ t) (append-nil (line n))
 
@@ -40,17 +34,3 @@ pub lines_part : (line : ℕ → List ℕ) (n all : ℕ) (old mid new : Option (
 lines_part line n all old mid new below before now =
     widened line (n + 1) (all - (n + 1)) all old new (omega (arith, below))
     (subst (λ t. AppendsPart old new t) (sym (one_line line n)) (part_join old mid new _ _ before now))
-
--- what holds anyway holds of an error
-pub on_err : {T E P : Type 0} (r : Result T E) → P → OnErr r P
-on_err (Ok x) p = tt
-on_err (Err e) p = p
-
--- what follows of it holds where it did
-pub on_ok_by : {T E P Q : Type 0} (r : Result T E) → (P → Q) → OnOk r P → OnOk r Q
-on_ok_by (Ok x) f p = f p
-on_ok_by (Err e) f p = tt
-
-pub on_err_by : {T E P Q : Type 0} (r : Result T E) → (P → Q) → OnErr r P → OnErr r Q
-on_err_by (Ok x) f p = tt
-on_err_by (Err e) f p = f p

@@ -3,6 +3,7 @@ use Rattle.std.proofs.Common.{◌≡◌, ℕ, ◌<◌, Bool, true, false, not, �
 use Rattle.std.specs.List.{list_any}
 use Rattle.rb_base.specs.Nodes.{Side, has}
 use Rattle.rb_base.specs.Nodes.Side.{Biu, Rmu}
+use Rattle.rb_base.proofs.Plain.{and-same}
 use Rattle.rb_base.proofs.Sets.{same_set_of}
 use Rattle.rb_rules.specs.Judging.{JudgedStage, cause_of, classes_of, good_now, is_asymmetric, is_benign, is_suspect, trusted_now, verdict_of, was_taken, was_unlike}
 
@@ -12,10 +13,6 @@ pub record AgreeOnSuspects (kind : Side) (xs ys : List JudgedStage) : Type 0 whe
   pub trusted : trusted_now kind xs ≡ trusted_now kind ys
   pub unlike : (j : ℕ) → j < 16 → is_suspect kind xs j ≡ true → list_any (was_unlike kind j) xs ≡ list_any (was_unlike kind j) ys
   pub taken : (j : ℕ) → j < 16 → is_suspect kind xs j ≡ true → list_any (was_taken kind j) xs ≡ list_any (was_taken kind j) ys
-
-pub under : (s a b : Bool) → (s ≡ true → a ≡ b) → (s && a) ≡ (s && b)
-under true a b same = same refl
-under false a b same = refl
 
 under_both : (s a b c d : Bool) → (s ≡ true → a ≡ b) → (s ≡ true → c ≡ d) → ((s && a) && c) ≡ ((s && b) && d)
 under_both true a b c d first second = ap (λ v. v && c) (first refl) ∙ ap (λ v. b && v) (second refl)
@@ -30,7 +27,7 @@ same_classes kind xs ys agree =
     same_set_of _ _ (λ j h. ap (λ m. has m j && has (good_now kind xs) j) agree.trusted ∙ ap (λ m. has (trusted_now kind ys) j && has m j) agree.good) in
     let benign : (classes_of kind xs).benign ≡ (classes_of kind ys).benign =
     same_set_of _ _ (λ j h.
-    under (is_suspect kind xs j) (is_benign kind xs j) (is_benign kind ys j) (λ s. ap not (agree.taken j h s))
+    and-same (is_suspect kind xs j) (is_benign kind xs j) (is_benign kind ys j) (λ s. ap not (agree.taken j h s))
     ∙ ap (λ s. s && is_benign kind ys j) (suspect j)) in
     let symmetric : (classes_of kind xs).symmetric ≡ (classes_of kind ys).symmetric =
     same_set_of _ _ (λ j h.
@@ -39,7 +36,7 @@ same_classes kind xs ys agree =
     ∙ ap (λ s. (s && not (is_benign kind ys j)) && not (is_asymmetric kind ys j)) (suspect j)) in
     let asymmetric : (classes_of kind xs).asymmetric ≡ (classes_of kind ys).asymmetric =
     same_set_of _ _ (λ j h.
-    under (is_suspect kind xs j) (is_asymmetric kind xs j) (is_asymmetric kind ys j) (λ s. agree.unlike j h s)
+    and-same (is_suspect kind xs j) (is_asymmetric kind xs j) (is_asymmetric kind ys j) (λ s. agree.unlike j h s)
     ∙ ap (λ s. s && is_asymmetric kind ys j) (suspect j)) in
     rw (good, benign, symmetric, asymmetric) refl
 

@@ -1,21 +1,22 @@
 -- What is kept of the nodes of one kind as sources shows the stages, from call to call.
 use Rattle.std.proofs.Common.{◌≡◌, ◌≢◌, ℕ, ◌<◌, ◌^◌, Bool, true, false, not, ◌&&◌, ◌||◌, ◌==◌, if◌then◌else◌, List, [], ◌∷◌, inl, inr, refl, sym, ◌∙◌, ap, subst, slice_index}
 use Rattle.std.specs.List.{list_any}
-use Rattle.std.proofs.lemmas.Bool.{cases_lt}
+use Rattle.std.proofs.lemmas.Bool.{cases_lt, eqb-true}
 use Rattle.rb_base.specs.Nodes.{Side, other, has, set_of}
 use Rattle.rb_base.specs.Nodes.Side.{Biu, Rmu}
 use Rattle.rb_base.specs.declared.node.NodeName.{NodeName}
 use Rattle.rb_base.specs.declared.values.See.{See}
 use Rattle.rb_base.specs.declared.values.See.TheVariants.{Nothing}
-use Rattle.rb_base.proofs.Sets.{eq_self, has-is, has_above, has_none, same_set_of}
+use Rattle.rb_base.proofs.Plain.{and-false, and-true, eq_self}
+use Rattle.rb_base.proofs.Sets.{has-is, has_above, has_none, same_set_of}
 use Rattle.rb_rules.specs.Judging.{JudgedStage, are_alike, classes_of, good_now, is_benign, is_something, is_suspect, with_newest_sight, stage_begun, trusted_now, was_taken, was_unlike, with_sight}
 use Rattle.rb_rules.specs.Links.{name_of, same_node}
 use Rattle.rb_judge.specs.declared.seen.SourceSights.{SourceSights}
 use Rattle.rb_judge.specs.declared.stage_sets.StageSets.{StageSets}
 use Rattle.rb_judge.specs.Kinds.{AreSetsOf, Begins, KeepsSets, KeptKind, KnowsKind, ShowsKind, classes_kept, eps_now, is_suspected, seen_of, sight_now, taken_so_far, unlike_so_far}
 use Rattle.rb_judge.specs.Sights.{ShowsSource, some_node, some_unlike}
-use Rattle.rb_judge.proofs.Sights.{same_number, same_sights}
-use Rattle.rb_judge.proofs.SomeNode.{and_all, and_none, not_twice, or_order, some_none, some_same}
+use Rattle.rb_judge.proofs.Sights.{same_sights}
+use Rattle.rb_judge.proofs.SomeNode.{not_twice, or_order, some_none, some_same}
 
 -- ---- masks
 
@@ -52,7 +53,7 @@ source_none eps good seen by_none none_heard alike = record {
   where
     no_unlike : (eps good : ℕ) → some_unlike eps good (λ i. Nothing) ≡ false
     no_unlike eps good =
-        some_none _ (λ a h. ap (λ b. has good a && b) (some_none _ (λ b h. and_none (has good b))) ∙ and_none (has good a))
+        some_none _ (λ a h. ap (λ b. has good a && b) (some_none _ (λ b h. and-false (has good b))) ∙ and-false (has good a))
 
 -- before the first stage of a frame
 pub kind_none : (kind : Side) (s : KeptKind) → s.good ≡ 0 → s.trusted ≡ 0 → s.unlike ≡ 0 → s.taken ≡ 0 → s.unlike_now ≡ 0 → s.heard_now ≡ 0
@@ -82,7 +83,7 @@ heard_is eps good sight seen is =
     let at : (g b s : Bool) → b ≡ s → (b ≡ true → g ≡ true) → b ≡ (g && s) =
     λ g b s e. elim s as (λ s. b ≡ s → (b ≡ true → g ≡ true) → b ≡ (g && s)) [
       | true ↦ λ e w. e ∙ sym (ap (λ g. g && true) (w e))
-      | false ↦ λ e w. e ∙ sym (and_none g)
+      | false ↦ λ e w. e ∙ sym (and-false g)
     ] e in
     is.heard ∙ some_same _ _ (λ i h. at (has good i) (has seen.by i) (is_something (sight i)) (is.by i h) (is.within i h))
 
@@ -168,13 +169,13 @@ kind_noted kind r from see (x ∷ earlier) before after good here others sets is
       let go : (b : Bool) → (j == from) ≡ b → ShowsSource x.eps (x.good (other kind)) (sight_now kind j (with_sight (name_of (other kind) r) from see x ∷ earlier)) (seen_of j after) =
       λ b. elim b as (λ b. (j == from) ≡ b → ShowsSource x.eps (x.good (other kind)) (sight_now kind j (with_sight (name_of (other kind) r) from see x ∷ earlier)) (seen_of j after)) [
         | true ↦ λ e.
-            let at : j ≡ from = same_number j from e in
+            let at : j ≡ from = eqb-true j from e in
             let P : ℕ → Type 0 = λ k. ShowsSource x.eps (x.good (other kind)) (λ i. if i == r then see else x.sight (other kind) i k) (seen_of k after) in
             same_sights _ _ _ _ (seen_of j after)
             (λ i.
             ap (λ b. if b && (j == from) then see else x.sight (other kind) i j) (same_kind (other kind) i r)
             ∙ ap (λ b. if (i == r) && b then see else x.sight (other kind) i j) e
-            ∙ ap (λ b. if b then see else x.sight (other kind) i j) (and_all (i == r)))
+            ∙ ap (λ b. if b then see else x.sight (other kind) i j) (and-true (i == r)))
             (subst P (sym at) (here (λ i. x.sight (other kind) i from) (subst (λ (k : ℕ). ShowsSource x.eps (x.good (other kind)) (λ i. x.sight (other kind) i k) (seen_of k before)) at (is.sights j h))))
         | false ↦ λ e.
             let apart : j ≢ from = λ same. let yes : (j == from) ≡ true = ap (λ k. k == from) same ∙ eq_self from in cc in
@@ -182,7 +183,7 @@ kind_noted kind r from see (x ∷ earlier) before after good here others sets is
             same_sights _ _ (λ i. x.sight (other kind) i j) _ (seen_of j after)
             (λ i.
             ap (λ b. if same_node (name_of (other kind) i) (name_of (other kind) r) && b then see else x.sight (other kind) i j) e
-            ∙ ap (λ b. if b then see else x.sight (other kind) i j) (and_none (same_node (name_of (other kind) i) (name_of (other kind) r))))
+            ∙ ap (λ b. if b then see else x.sight (other kind) i j) (and-false (same_node (name_of (other kind) i) (name_of (other kind) r))))
             (subst Q (sym (others j h apart)) (is.sights j h))
       ] in
       go (j == from) refl;

@@ -1,5 +1,6 @@
 -- One sight more of a source.
 use Rattle.std.proofs.Common.{◌≡◌, ◌≢◌, ℕ, ◌+◌, ◌<◌, ◌^◌, ◌⊎◌, Bool, true, false, not, ◌&&◌, ◌||◌, ◌==◌, nat_le, min, max, if◌then◌else◌, inl, inr, refl, sym, ◌∙◌, ap, subst, arith}
+use Rattle.std.proofs.lemmas.Bool.{and_from, and_parts, eqb-true, not-true, not_from_false, or_cases, or_left, or_right}
 use Rattle.std.proofs.lemmas.Bool.Decides.{nat_tests}
 use Rattle.std.proofs.Math.Path.{fun_ext}
 use Rattle.rb_base.specs.Nodes.{has, set_of}
@@ -7,14 +8,16 @@ use Rattle.rb_base.specs.declared.values.Heard.{Heard}
 use Rattle.rb_base.specs.declared.values.Heard.TheVariants.{Word, Fault}
 use Rattle.rb_base.specs.declared.values.See.{See}
 use Rattle.rb_base.specs.declared.values.See.TheVariants as see
-use Rattle.rb_base.proofs.Sets.{eq_other, eq_self, has-is, same_set}
+use Rattle.rb_base.proofs.Plain.{eq_self, or-false, same_bool}
+use Rattle.rb_base.proofs.Sets.{eq_other, has-is, same_set}
 use Rattle.rb_rules.specs.Judging.{are_alike, is_something}
 use Rattle.rb_rules.specs.Majority.{same_heard}
+use Rattle.rb_rules.proofs.Majorities.{same_heard_self}
 use Rattle.rb_judge.specs.declared.seen.KeptSight.{KeptSight}
 use Rattle.rb_judge.specs.declared.seen.KeptSight.TheVariants.{Unlike, Value, Times}
 use Rattle.rb_judge.specs.declared.seen.SourceSights.{SourceSights}
 use Rattle.rb_judge.specs.Sights.{IsKept, ShowsSource, clashes, is_unlike, kept_of, kept_with, some_differs, some_node, some_unlike, widened}
-use Rattle.rb_judge.proofs.SomeNode.{and_both, and_parts, not_false, not_true, or_first, or_parts, or_none, or_second, same_bool, some_fails, some_found, some_is, some_none}
+use Rattle.rb_judge.proofs.SomeNode.{some_fails, some_found, some_is, some_none}
 
 -- ---- sights are alike in either order, and each is like itself
 
@@ -23,10 +26,6 @@ heard_order (Word a) (Word b) = grind (arith, nat_tests)
 heard_order (Word a) Fault = refl
 heard_order Fault (Word b) = refl
 heard_order Fault Fault = refl
-
-heard_self : (v : Heard) → same_heard v v ≡ true
-heard_self (Word a) = eq_self a
-heard_self Fault = refl
 
 and_order : (a b : Bool) → (a && b) ≡ (b && a)
 and_order true true = refl
@@ -47,7 +46,7 @@ alike_order eps (see.Time t) (see.Time u) = and_order (nat_le t (u + eps)) (nat_
 
 alike_self : (eps : ℕ) (x : See) → are_alike eps x x ≡ true
 alike_self eps see.Nothing = refl
-alike_self eps (see.Value v) = heard_self v
+alike_self eps (see.Value v) = same_heard_self v
 alike_self eps (see.Time t) = grind (arith, nat_tests)
 
 something_unlike_nothing : (eps : ℕ) (x y : See) → is_something x ≡ true → is_something y ≡ false → are_alike eps x y ≡ false
@@ -73,7 +72,7 @@ record IsPair (eps nodes : ℕ) (sight : ℕ → See) : Type 0 where
 pair_is : (eps nodes : ℕ) (sight : ℕ → See) → IsPair eps nodes sight → some_unlike eps nodes sight ≡ true
 pair_is eps nodes sight p =
     some_is _ p.first p.first_below
-    (and_both _ _ p.first_in (some_is (λ b. has nodes b && not (are_alike eps (sight p.first) (sight b))) p.second p.second_below (and_both _ _ p.second_in (not_false _ p.unlike))))
+    (and_from _ _ p.first_in (some_is (λ b. has nodes b && not (are_alike eps (sight p.first) (sight b))) p.second p.second_below (and_from _ _ p.second_in (not_from_false _ p.unlike))))
 
 pair_found : (eps nodes : ℕ) (sight : ℕ → See) → some_unlike eps nodes sight ≡ true → IsPair eps nodes sight
 pair_found eps nodes sight h =
@@ -82,7 +81,7 @@ pair_found eps nodes sight h =
     let at_a = and_parts (has nodes a) (some_node (λ b. has nodes b && not (are_alike eps (sight a) (sight b)))) outer.passing in
     let inner = some_found (λ b. has nodes b && not (are_alike eps (sight a) (sight b))) at_a.1 in
     let at_b = and_parts (has nodes inner.node) (not (are_alike eps (sight a) (sight inner.node))) inner.passing in
-    record { first = a; second = inner.node; first_below = outer.below; second_below = inner.below; first_in = at_a.0; second_in = at_b.0; unlike = not_true _ at_b.1 }
+    record { first = a; second = inner.node; first_below = outer.below; second_below = inner.below; first_in = at_a.0; second_in = at_b.0; unlike = not-true _ at_b.1 }
 
 record IsOne (eps nodes : ℕ) (sight : ℕ → See) (x : See) : Type 0 where
   one : ℕ
@@ -91,13 +90,13 @@ record IsOne (eps nodes : ℕ) (sight : ℕ → See) (x : See) : Type 0 where
   unlike : are_alike eps (sight one) x ≡ false
 
 one_is : (eps nodes : ℕ) (sight : ℕ → See) (x : See) → IsOne eps nodes sight x → some_differs eps nodes sight x ≡ true
-one_is eps nodes sight x o = some_is (λ i. has nodes i && not (are_alike eps (sight i) x)) o.one o.below (and_both _ _ o.within (not_false _ o.unlike))
+one_is eps nodes sight x o = some_is (λ i. has nodes i && not (are_alike eps (sight i) x)) o.one o.below (and_from _ _ o.within (not_from_false _ o.unlike))
 
 one_found : (eps nodes : ℕ) (sight : ℕ → See) (x : See) → some_differs eps nodes sight x ≡ true → IsOne eps nodes sight x
 one_found eps nodes sight x h =
     let f = some_found (λ i. has nodes i && not (are_alike eps (sight i) x)) h in
     let at = and_parts (has nodes f.node) (not (are_alike eps (sight f.node) x)) f.passing in
-    record { one = f.node; below = f.below; within = at.0; unlike = not_true _ at.1 }
+    record { one = f.node; below = f.below; within = at.0; unlike = not-true _ at.1 }
 
 -- ---- receiver r, which saw nothing so far, sees x
 
@@ -121,18 +120,15 @@ old_is_other before after r adds k old same =
     let e : has before k ≡ has before r = ap (has before) same in let f = adds.fresh in absurd (cc)
 
 old_stays : (before after r : ℕ) → Adds before after r → (k : ℕ) → k < 16 → has before k ≡ true → has after k ≡ true
-old_stays before after r adds k below old = adds.grown k below ∙ or_first _ _ old
+old_stays before after r adds k below old = adds.grown k below ∙ or_left _ _ old
 
 r_joins : (before after r : ℕ) → Adds before after r → has after r ≡ true
-r_joins before after r adds = adds.grown r adds.below ∙ or_second _ _ (eq_self r)
-
-pub same_number : (k r : ℕ) → (k == r) ≡ true → k ≡ r
-same_number k r h = grind (arith, nat_tests)
+r_joins before after r adds = adds.grown r adds.below ∙ or_right _ _ (eq_self r)
 
 -- who is in it now was in it, or is r
 r_or_old : (before after r : ℕ) → Adds before after r → (k : ℕ) → k < 16 → has after k ≡ true → (has before k ≡ true) ⊎ (k ≡ r)
 r_or_old before after r adds k below now =
-    elim (or_parts (has before k) (k == r) (sym (adds.grown k below) ∙ now)) [ inl old ↦ inl old | inr same ↦ inr (same_number k r same) ]
+    elim (or_cases (has before k) (k == r) (sym (adds.grown k below) ∙ now)) [ inl old ↦ inl old | inr same ↦ inr (eqb-true k r same) ]
 
 -- a receiver of old sees what it saw
 old_sees : (before after r : ℕ) (x : See) (sight : ℕ → See) → Adds before after r → (k : ℕ) → has before k ≡ true → with_x r x sight k ≡ sight k
@@ -152,15 +148,15 @@ one_more eps before after r x sight adds y =
     let o = one_found eps after (with_x r x sight) y h in
     elim (r_or_old before after r adds o.one o.below o.within) [
       | inl old ↦
-          or_first p q (one_is eps before sight y (record {
+          or_left p q (one_is eps before sight y (record {
             one = o.one;
             below = o.below;
             within = old;
             unlike = ap (λ s. are_alike eps s y) (sym (old_sees before after r x sight adds o.one old)) ∙ o.unlike;
           }))
-      | inr same ↦ or_second p q (not_false _ (ap (λ s. are_alike eps s y) (sym (r_sees r x sight o.one same)) ∙ o.unlike))
+      | inr same ↦ or_right p q (not_from_false _ (ap (λ s. are_alike eps s y) (sym (r_sees r x sight o.one same)) ∙ o.unlike))
     ])
-    (λ h. elim (or_parts p q h) [
+    (λ h. elim (or_cases p q h) [
       | inl old ↦
           let o = one_found eps before sight y old in
           one_is eps after (with_x r x sight) y (record {
@@ -174,7 +170,7 @@ one_more eps before after r x sight adds y =
             one = r;
             below = adds.below;
             within = r_joins before after r adds;
-            unlike = ap (λ s. are_alike eps s y) (at_r r x sight) ∙ not_true _ new;
+            unlike = ap (λ s. are_alike eps s y) (at_r r x sight) ∙ not-true _ new;
           })
     ])
 
@@ -194,7 +190,7 @@ pair_more eps before after r x sight adds =
           elim (r_or_old before after r adds d.second d.second_below d.second_in) [
             | inl old_b ↦
                 let b_sees = old_sees before after r x sight adds d.second old_b in
-                or_first p q (pair_is eps before sight (record {
+                or_left p q (pair_is eps before sight (record {
                   first = d.first;
                   second = d.second;
                   first_below = d.first_below;
@@ -204,7 +200,7 @@ pair_more eps before after r x sight adds =
                   unlike = ap (λ s. are_alike eps s (sight d.second)) (sym a_sees) ∙ ap (are_alike eps (see d.first)) (sym b_sees) ∙ d.unlike;
                 }))
             | inr b_is_r ↦
-                or_second p q (one_is eps before sight x (record {
+                or_right p q (one_is eps before sight x (record {
                   one = d.first;
                   below = d.first_below;
                   within = old_a;
@@ -216,7 +212,7 @@ pair_more eps before after r x sight adds =
           elim (r_or_old before after r adds d.second d.second_below d.second_in) [
             | inl old_b ↦
                 let b_sees = old_sees before after r x sight adds d.second old_b in
-                or_second p q (one_is eps before sight x (record {
+                or_right p q (one_is eps before sight x (record {
                   one = d.second;
                   below = d.second_below;
                   within = old_b;
@@ -229,7 +225,7 @@ pair_more eps before after r x sight adds =
                 absurd (cc)
           ]
     ])
-    (λ h. elim (or_parts p q h) [
+    (λ h. elim (or_cases p q h) [
       | inl old ↦
           let d = pair_found eps before sight old in
           pair_is eps after see (record {
@@ -333,7 +329,7 @@ kept_next eps before after r x sight kept adds something is =
     let Goal : Bool → Type 0 = λ c. IsKept eps after (with_x r x sight) (if c then Unlike else widened kept x) in
     let more = pair_more eps before after r x sight adds in
     let was_unlike : is_unlike kept ≡ true → some_unlike eps after (with_x r x sight) ≡ true =
-    λ h. more ∙ or_first _ _ (sym is.unlike ∙ h) in
+    λ h. more ∙ or_left _ _ (sym is.unlike ∙ h) in
     let by_unlike : (u : Bool) → is_unlike kept ≡ u → (c : Bool) → clashes eps kept x ≡ c → Goal c =
     λ u. elim u as (λ u. is_unlike kept ≡ u → (c : Bool) → clashes eps kept x ≡ c → Goal c) [
       | true ↦ λ eu c. elim c as (λ c. clashes eps kept x ≡ c → Goal c) [
@@ -342,7 +338,7 @@ kept_next eps before after r x sight kept adds something is =
       ]
       | false ↦ λ eu c. elim c as (λ c. clashes eps kept x ≡ c → Goal c) [
         | true ↦ λ ec. record {
-          unlike = sym (more ∙ or_second _ _ (sym (is.further eu x something) ∙ ec));
+          unlike = sym (more ∙ or_right _ _ (sym (is.further eu x something) ∙ ec));
           further = λ like. absurd (cc);
         }
         | false ↦ λ ec. record {
@@ -399,7 +395,7 @@ some_left_out eps good by r sight fits_good fits_by sees within below r_in apart
       second_below = f.below;
       first_in = within r below r_in;
       second_in = at.0;
-      unlike = something_unlike_nothing eps (sight r) (sight f.node) (sym (sees r below) ∙ r_in) (sym (sees f.node f.below) ∙ not_true _ at.1);
+      unlike = something_unlike_nothing eps (sight r) (sight f.node) (sym (sees r below) ∙ r_in) (sym (sees f.node f.below) ∙ not-true _ at.1);
     })
 
 unlike_is : (eps good by r : ℕ) (sight : ℕ → See) (kept : KeptSight) → good < 2 ^ 16 → by < 2 ^ 16
@@ -408,7 +404,7 @@ unlike_is : (eps good by r : ℕ) (sight : ℕ → See) (kept : KeptSight) → g
 unlike_is eps good by r sight kept fits_good fits_by sees within below r_in is =
     let go : (b : Bool) → (by == good) ≡ b → (not b || is_unlike kept) ≡ some_unlike eps good sight =
     λ b. elim b as (λ b. (by == good) ≡ b → (not b || is_unlike kept) ≡ some_unlike eps good sight) [
-      | true ↦ λ e. is.unlike ∙ ap (λ n. some_unlike eps n sight) (same_number by good e)
+      | true ↦ λ e. is.unlike ∙ ap (λ n. some_unlike eps n sight) (eqb-true by good e)
       | false ↦ λ e. sym (some_left_out eps good by r sight fits_good fits_by sees within below r_in e)
     ] in
     go (by == good) refl
@@ -431,7 +427,7 @@ nothing_noted eps good r x sight seen below fresh nothing is =
     same_sights eps good sight _ seen
     (λ i.
     let go : (b : Bool) → (i == r) ≡ b → (if b then x else sight i) ≡ sight i =
-    λ b. elim b as (λ b. (i == r) ≡ b → (if b then x else sight i) ≡ sight i) [ true ↦ λ e. here ∙ ap sight (sym (same_number i r e)) | false ↦ λ e. refl ] in
+    λ b. elim b as (λ b. (i == r) ≡ b → (if b then x else sight i) ≡ sight i) [ true ↦ λ e. here ∙ ap sight (sym (eqb-true i r e)) | false ↦ λ e. refl ] in
     go (i == r) refl)
     is
 
@@ -447,8 +443,8 @@ something_noted eps good r by x sight seen unlike kept below fits_good fits_by r
     λ i h.
     let go : (b : Bool) → (i == r) ≡ b → (has seen.by i || b) ≡ is_something (if b then x else sight i) =
     λ b. elim b as (λ b. (i == r) ≡ b → (has seen.by i || b) ≡ is_something (if b then x else sight i)) [
-      | true ↦ λ e. or_second (has seen.by i) true refl ∙ sym something
-      | false ↦ λ e. or_none (has seen.by i) ∙ is.by i h
+      | true ↦ λ e. or_right (has seen.by i) true refl ∙ sym something
+      | false ↦ λ e. or-false (has seen.by i) ∙ is.by i h
     ] in
     adds.grown i h ∙ go (i == r) refl in
     let within : (i : ℕ) → i < 16 → has by i ≡ true → has good i ≡ true =

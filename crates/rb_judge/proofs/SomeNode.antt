@@ -1,38 +1,10 @@
 -- Whether some node passes.
-use Rattle.std.proofs.Common.{◌≡◌, ℕ, zero, suc, ◌+◌, ◌<◌, ◌⊎◌, Bool, true, false, not, ◌&&◌, ◌||◌, inl, inr, refl, sym, ◌∙◌, ap, zero-add, arith}
+use Rattle.std.proofs.Common.{◌≡◌, ℕ, zero, suc, ◌+◌, ◌<◌, Bool, true, false, not, ◌||◌, refl, sym, ◌∙◌, ap, zero-add, arith}
 use Rattle.std.specs.List.{list_any, range_with_len}
 use Rattle.std.proofs.lemmas.List.Folds.{list_any_at}
 use Rattle.std.proofs.lemmas.List.FromFn.{get_or-range_with_len, length-range_with_len}
+use Rattle.rb_base.proofs.Plain.{same_bool}
 use Rattle.rb_judge.specs.Sights.{some_node}
-
-pub same_bool : (a b : Bool) → (a ≡ true → b ≡ true) → (b ≡ true → a ≡ true) → a ≡ b
-same_bool true b to from = sym (to refl)
-same_bool false true to from = from refl
-same_bool false false to from = refl
-
-pub and_parts : (a b : Bool) → (a && b) ≡ true → (a ≡ true) × (b ≡ true)
-and_parts true b h = (refl, h)
-and_parts false b h = absurd (cc)
-
-pub and_both : (a b : Bool) → a ≡ true → b ≡ true → (a && b) ≡ true
-and_both true b ha hb = hb
-and_both false b ha hb = ha
-
-pub or_parts : (a b : Bool) → (a || b) ≡ true → (a ≡ true) ⊎ (b ≡ true)
-or_parts true b h = inl refl
-or_parts false b h = inr h
-
-pub or_first : (a b : Bool) → a ≡ true → (a || b) ≡ true
-or_first true b h = refl
-or_first false b h = absurd (cc)
-
-pub or_second : (a b : Bool) → b ≡ true → (a || b) ≡ true
-or_second true b h = refl
-or_second false b h = h
-
-pub or_none : (a : Bool) → (a || false) ≡ a
-or_none true = refl
-or_none false = refl
 
 pub or_order : (a b : Bool) → (a || b) ≡ (b || a)
 or_order true true = refl
@@ -40,25 +12,9 @@ or_order true false = refl
 or_order false true = refl
 or_order false false = refl
 
-pub and_none : (a : Bool) → (a && false) ≡ false
-and_none true = refl
-and_none false = refl
-
-pub and_all : (a : Bool) → (a && true) ≡ a
-and_all true = refl
-and_all false = refl
-
 pub not_twice : (a : Bool) → a ≡ not (not a)
 not_twice true = refl
 not_twice false = refl
-
-pub not_true : (a : Bool) → not a ≡ true → a ≡ false
-not_true true h = absurd (cc)
-not_true false h = refl
-
-pub not_false : (a : Bool) → a ≡ false → not a ≡ true
-not_false true h = absurd (cc)
-not_false false h = refl
 
 -- a node that passes
 pub record IsFound (passes : ℕ → Bool) (n : ℕ) : Type 0 where

@@ -1,6 +1,6 @@
 -- In every moment of a run that has not ended all good nodes agree.
 use Rattle.std.proofs.Common.{◌≡◌, ℕ, zero, suc, ◌+◌, ◌-◌, ◌*◌, ◌/◌, ◌%◌, ◌<◌, ◌≤◌, ◌==◌, nat_lt, Bool, true, false, List, [], ◌∷◌, ◌++◌, ◌⊎◌, inl, inr, refl, sym, ◌∙◌, ap, subst, arith}
-use Rattle.std.proofs.lemmas.Bool.{cases_lt}
+use Rattle.std.proofs.lemmas.Bool.{cases_lt, false_from_ne_true, ltb-false, ltb-true}
 use Rattle.rb_base.specs.Sizes.{sync_slot_of}
 use Rattle.rb_rules.specs.Book.{Book, with_end}
 use Rattle.rb_rules.specs.Book.Record.{Ended}
@@ -10,7 +10,6 @@ use Rattle.rb_rules.specs.Moments.{IsRunning}
 use Rattle.rb_rules.specs.Ports.{HandIn}
 use Rattle.rb_rules.specs.Rounds.{Moment, next_frame, step, moment, windows_in}
 use Rattle.rb_rules.proofs.Books.{step-on, stepped}
-use Rattle.rb_laws_agreement.proofs.Tests.{so_not, less_from, not_less_from}
 use Rattle.rb_laws_agreement.proofs.Invariant.{Shared, Agree}
 use Rattle.rb_laws_agreement.proofs.ExactAgrees.{with_value, agree_1, agree_2, agree_3}
 use Rattle.rb_laws_agreement.proofs.FrameAgrees.{first_shared, shared_next, agree_first, agree_frame}
@@ -41,8 +40,8 @@ stepped-is : (sc : Scenario) (hands : List HandIn) (m : Moment) (over in_frame :
     → ((m.window < windows_in sc.sizes) × (stepped sc hands m over in_frame ≡ next sc m))
     ⊎ ((windows_in sc.sizes ≤ m.window) × (stepped sc hands m over in_frame ≡ next_frame sc hands m))
 stepped-is sc hands m true in_frame e h = let both : true ≡ false = sym (ended-end m.book) ∙ h in cc
-stepped-is sc hands m false true e h = inl (less_from m.window (windows_in sc.sizes) e, refl)
-stepped-is sc hands m false false e h = inr (not_less_from m.window (windows_in sc.sizes) e, refl)
+stepped-is sc hands m false true e h = inl (ltb-true m.window (windows_in sc.sizes) e, refl)
+stepped-is sc hands m false false e h = inr (ltb-false m.window (windows_in sc.sizes) e, refl)
 
 pub step_is : (sc : Scenario) (hands : List HandIn) (m : Moment) → (step sc hands m).book.ended ≡ false → IsStep sc hands m
 unfolding step
@@ -51,7 +50,7 @@ step_is sc hands m h = stepped-is sc hands m (m.frame == sc.frames) (nat_lt m.wi
 -- a run that has not ended by a moment has not ended before
 pub running_before : (sc : Scenario) (hands : List HandIn) (m : Moment) → (step sc hands m).book.ended ≡ false → m.book.ended ≡ false
 running_before sc hands m h =
-    so_not m.book.ended (λ ended.
+    false_from_ne_true m.book.ended (λ ended.
     let same : (step sc hands m).book ≡ m.book = (step-on sc hands m).over ended in
     let both : true ≡ false = sym ended ∙ ap (λ b. b.ended) (sym same) ∙ h in cc)
 

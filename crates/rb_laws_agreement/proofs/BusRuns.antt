@@ -1,6 +1,7 @@
 -- The rounds make a run of the abstract bus: in each slot that is settled all good nodes hold what it holds.
 use Rattle.std.proofs.Common.{◌≡◌, ℕ, zero, suc, ◌+◌, ◌-◌, ◌*◌, ◌<◌, ◌≤◌, ◌||◌, nat_lt, Bool, true, false, List, [], ◌∷◌, Some, slice_get, if◌then◌else◌, lit<, refl, sym, ◌∙◌, ap, subst, arith}
 use Rattle.std.specs.List.{list_any}
+use Rattle.std.proofs.lemmas.Bool.{le-ltb, lt-ltb}
 use Rattle.rb_base.specs.Counting.{numbers}
 use Rattle.rb_base.specs.Nodes.{Side}
 use Rattle.rb_base.specs.Sizes.{sync_slot_of}
@@ -16,7 +17,7 @@ use Rattle.rb_rules.specs.Rounds.{Moment, moment, first_moment, step, next_frame
 use Rattle.rb_rules.specs.StandsFor.{steps_to}
 use Rattle.rb_laws_agreement.specs.BusValues.{first_passing, value_in_rounds, bus_goes, bus_in_rounds, bus_before}
 use Rattle.rb_laws_agreement.specs.Values.{kind_in, vote_on}
-use Rattle.rb_laws_agreement.proofs.Tests.{passes_at, get-some, Present, less_false, less_true}
+use Rattle.rb_laws_agreement.proofs.Tests.{passes_at, get-some, Present}
 use Rattle.rb_laws_agreement.proofs.Goodnesses.{good_below_16}
 use Rattle.rb_laws_agreement.proofs.Invariant.{Shared, is_good_now, Agree}
 use Rattle.rb_laws_agreement.proofs.ExactAgrees.{with_value, agree_3}
@@ -168,7 +169,7 @@ goes-slot : (sc : Scenario) (hands : List HandIn) (low : ℕ → ℕ) (frame slo
     → bus_goes sc hands low bus ≡ bus_after_slot sc.sizes (value_in_rounds sc hands frame slot) bus
 unfolding goes
 goes-slot sc hands low frame slot bus f s below =
-    ap (goes sc hands low bus) (ap (λ k. nat_lt k (sync_slot_of sc.sizes)) s ∙ less_true slot (sync_slot_of sc.sizes) below)
+    ap (goes sc hands low bus) (ap (λ k. nat_lt k (sync_slot_of sc.sizes)) s ∙ lt-ltb slot (sync_slot_of sc.sizes) below)
     ∙ ap (λ f. bus_after_slot sc.sizes (value_in_rounds sc hands f bus.slot) bus) f ∙ ap (λ k. bus_after_slot sc.sizes (value_in_rounds sc hands frame k) bus) s
 
 goes-frame : (sc : Scenario) (hands : List HandIn) (low : ℕ → ℕ) (frame : ℕ) (bus : AbstractBus) → bus.frame ≡ frame → bus.slot ≡ sync_slot_of sc.sizes
@@ -176,7 +177,7 @@ goes-frame : (sc : Scenario) (hands : List HandIn) (low : ℕ → ℕ) (frame : 
 unfolding goes
 goes-frame sc hands low frame bus f s =
     let one : frame + 1 ≡ suc frame = omega arith in
-    ap (goes sc hands low bus) (ap (λ k. nat_lt k (sync_slot_of sc.sizes)) s ∙ less_false (sync_slot_of sc.sizes) (sync_slot_of sc.sizes) (omega arith))
+    ap (goes sc hands low bus) (ap (λ k. nat_lt k (sync_slot_of sc.sizes)) s ∙ le-ltb (sync_slot_of sc.sizes) (sync_slot_of sc.sizes) (omega arith))
     ∙ ap (λ f. bus_after_frame sc.sizes (low (f + 1)) bus) f ∙ ap (λ f. bus_after_frame sc.sizes (low f) bus) one
 
 -- the bus after the step of a slot

@@ -1,6 +1,6 @@
 -- Where good nodes begin frames and slots in time, the rounds stand for a run of the abstract bus.
 use Rattle.std.proofs.Common.{◌≡◌, ℕ, zero, suc, ◌+◌, ◌*◌, ◌<◌, ◌≤◌, nat_lt, Bool, true, false, List, inl, inr, refl, sym, ◌∙◌, ap, subst, arith}
-use Rattle.std.proofs.lemmas.Bool.{cases_lt}
+use Rattle.std.proofs.lemmas.Bool.{cases_lt, le-ltb, lt-ltb}
 use Rattle.rb_base.specs.Nodes.{Side, has}
 use Rattle.rb_base.specs.Nodes.Side.{Biu, Rmu}
 use Rattle.rb_base.specs.Sizes.{Sizes, sync_slot_of}
@@ -15,7 +15,6 @@ use Rattle.rb_rules.specs.Ports.{HandIn}
 use Rattle.rb_rules.specs.Slots.{has_third_stage, first_diagnosis_of, role_of}
 use Rattle.rb_rules.specs.StandsFor.{steps_to, IsInBand, AgreesBefore, AgreesAfter, SlotAgrees, DeliversOn, IsLow, FrameAgrees, StandsFor}
 use Rattle.rb_laws_agreement.specs.BusValues.{value_in_rounds, bus_in_rounds, bus_before, bus_then, IsBusBefore, IsBusSlot}
-use Rattle.rb_laws_agreement.proofs.Tests.{less_true, less_false}
 use Rattle.rb_laws_agreement.proofs.BeginTimes.{IsInTime, BeginsInTime}
 use Rattle.rb_laws_agreement.proofs.Places.{complete_before}
 use Rattle.rb_laws_agreement.proofs.FrameBegins.{settled_before, reached}
@@ -41,7 +40,7 @@ slot-step sc hands law low frame slot below complete =
     let x : IsBusSlot sc hands frame slot bus (bus_then sc hands low frame slot) = bus-slot-step sc hands law low frame slot below complete in
     let at : offered_in sc hands bus.frame bus.slot ≡ offered_in sc hands frame slot =
     ap (λ f. offered_in sc hands f bus.slot) b.frame_is ∙ ap (offered_in sc hands frame) b.slot_is in
-    step-by sc (offered_in sc hands) bus (bus_then sc hands low frame slot) true (ap (λ k. nat_lt k (sync_slot_of sc.sizes)) b.slot_is ∙ less_true slot (sync_slot_of sc.sizes) below) (
+    step-by sc (offered_in sc hands) bus (bus_then sc hands low frame slot) true (ap (λ k. nat_lt k (sync_slot_of sc.sizes)) b.slot_is ∙ lt-ltb slot (sync_slot_of sc.sizes) below) (
       value_in_rounds sc hands frame slot,
       subst (λ (o : ℕ → ℕ). SlotStep sc o (value_in_rounds sc hands frame slot) bus (bus_then sc hands low frame slot)) (sym at) x.step,
     )
@@ -59,7 +58,7 @@ frame-step sc hands law low times frame complete =
     let at : next ≡ bus_before sc hands low (suc frame) 0 = ap (bus_in_rounds sc hands low) (index frame s) in
     let low_is : next.low ≡ low (suc frame) = ap (λ x. x.low) then_is ∙ ap low one in
     let n : IsBusBefore sc hands (suc frame) 0 (bus_before sc hands low (suc frame) 0) = bus-before sc hands law low (suc frame) 0 (omega arith) (inr complete) in
-    step-by sc (offered_in sc hands) bus next false (ap (λ k. nat_lt k s) b.slot_is ∙ less_false s s (omega arith)) (record {
+    step-by sc (offered_in sc hands) bus next false (ap (λ k. nat_lt k s) b.slot_is ∙ le-ltb s s (omega arith)) (record {
       later = on_time bus.low next.low (low frame) (low (suc frame)) (tail_start_of sc.sizes sc.plan * shortest_of sc.plan) h.low_is low_is (times.later frame complete);
       after_is = then_is ∙ ap (λ l. bus_after_frame sc.sizes l bus) (ap low one ∙ sym low_is);
       good_stay = λ side j good.
@@ -184,10 +183,10 @@ agrees-after sc hands law low times frame slot le complete me i st g = record {
 third-in-sync : (sizes : Sizes) → has_third_stage (role_of sizes (sync_slot_of sizes)) ≡ true
 third-in-sync sizes =
     let s : ℕ = sync_slot_of sizes in
-    let a : nat_lt s sizes.bius ≡ false = less_false s sizes.bius (omega arith) in
-    let b : nat_lt s (first_diagnosis_of Biu sizes) ≡ false = less_false s (first_diagnosis_of Biu sizes) (omega arith) in
-    let c : nat_lt s (first_diagnosis_of Rmu sizes) ≡ false = less_false s (first_diagnosis_of Rmu sizes) (omega arith) in
-    let d : nat_lt s s ≡ false = less_false s s (omega arith) in
+    let a : nat_lt s sizes.bius ≡ false = le-ltb s sizes.bius (omega arith) in
+    let b : nat_lt s (first_diagnosis_of Biu sizes) ≡ false = le-ltb s (first_diagnosis_of Biu sizes) (omega arith) in
+    let c : nat_lt s (first_diagnosis_of Rmu sizes) ≡ false = le-ltb s (first_diagnosis_of Rmu sizes) (omega arith) in
+    let d : nat_lt s s ≡ false = le-ltb s s (omega arith) in
     rw (a, b, c, d) refl
 
 delivers : (sc : Scenario) (hands : List HandIn) → IsLawful sc → (low : ℕ → ℕ) (frame slot : ℕ) → slot ≤ sync_slot_of sc.sizes → IsComplete sc hands frame slot

@@ -2,6 +2,7 @@
 use Rattle.std.proofs.Common.{◌≡◌, ℕ, ◌+◌, ◌<◌, ◌≤◌, ◌^◌, ◌&&◌, Bool, true, false, cond, List, [], ◌∷◌, map, filter, Option, Some, None, slice_get, if◌then◌else◌, refl, sym, ◌∙◌, ap, subst, arith, inl, inr}
 use Rattle.std.specs.Prelude.{IfSome, All}
 use Rattle.std.proofs.lemmas.List.Elements.{All-head, All-tail}
+use Rattle.std.proofs.lemmas.Option.{same_Some}
 use Rattle.rb_base.specs.Nodes.{Side, other}
 use Rattle.rb_base.specs.declared.values.Place.{Place}
 use Rattle.rb_rules.specs.declared.message.Message.{Message}
@@ -27,10 +28,10 @@ use Rattle.rb_rules.specs.Sense.{suits, sense_of, sense_of_one, value_of, value_
 use Rattle.rb_rules.specs.Spelling.{IsMessage, HasValue, AreBytes, spelling_of, message_in}
 use Rattle.rb_rules.specs.Standing.{Standing, is_eligible, taken_of}
 use Rattle.rb_rules.proofs.Senses.{IsCarried}
+use Rattle.rb_rules.proofs.Slots.{few_slots}
 use Rattle.rb_rules.proofs.Spellings.{read_back, only_so}
-use Rattle.rb_laws_agreement.proofs.Tests.{true_or_false, Present, same_some}
+use Rattle.rb_laws_agreement.proofs.Tests.{true_or_false, Present}
 use Rattle.rb_laws_agreement.proofs.Invariant.{Shared, IsGoodNode, is_good_now}
-use Rattle.rb_laws_agreement.proofs.Goodnesses.{few_slots}
 use Rattle.rb_laws_agreement.proofs.NodeWindows.{Windows, kept_in, own_window, heard_in, sense_in, from-faulty}
 use Rattle.rb_laws_agreement.proofs.ExactWindows.{expected_at}
 use Rattle.rb_laws_agreement.proofs.Exchanges.{IsHeard}
@@ -43,7 +44,7 @@ IsReadable version bytes = (m : Message) → message_in version bytes ≡ Some m
 
 spelled-readable : (version : Version) (message : Message) → IsMessage message → IsReadable version (spelling_of version message)
 spelled-readable version message is m read =
-    subst IsMessage (same_some message m (sym (read_back version message is) ∙ read)) is
+    subst IsMessage (same_Some message m (sym (read_back version message is) ∙ read)) is
 
 raw-readable : (version : Version) (bytes : List ℕ) → All (λ byte. byte < 2 ^ 8) bytes → IsReadable version bytes
 raw-readable version bytes each m read =

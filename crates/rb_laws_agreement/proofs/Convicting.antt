@@ -50,7 +50,7 @@ fault-of sc hands m s kind p value count v benign =
       | inr out ↦ v.idle (ap (sender_in (s.trusted Biu) (s.trusted Rmu) s.owners) role ∙ role-idle s.trusted s.owners kind p out)
     ]
 
-vector-votes : (sizes : Sizes) (kind : Side) (p : ℕ) (me : Side) → p < count_of kind sizes → votes_on sizes (vector_slot sizes kind p) me ≡ true
+pub vector-votes : (sizes : Sizes) (kind : Side) (p : ℕ) (me : Side) → p < count_of kind sizes → votes_on sizes (vector_slot sizes kind p) me ≡ true
 vector-votes sizes kind p me count =
     ap (λ r. if has_third_stage r then true else same_side me Biu) (vector_slot-role sizes kind p count) ∙ role-votes kind p me
 

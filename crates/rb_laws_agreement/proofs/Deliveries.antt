@@ -1,8 +1,10 @@
 -- What the BIUs deliver in a slot, and the record of it.
 use Rattle.std.proofs.Common.{◌≡◌, ℕ, suc, ◌+◌, ◌<◌, ◌==◌, ◌&&◌, nat_lt, nat_le, Bool, true, false, List, [], ◌∷◌, ◌++◌, length, map, filter, filter_map, Option, Some, None, option_map, slice_get, cond, if◌then◌else◌, refl, sym, ◌∙◌, ap, subst, arith, inl, inr}
 use Rattle.std.specs.List.{range_with_len, cons_option}
+use Rattle.std.proofs.lemmas.Bool.{lt-ltb}
 use Rattle.std.proofs.lemmas.Bool.Decides.{nat_tests}
 use Rattle.std.proofs.lemmas.List.{append-nil}
+use Rattle.std.proofs.lemmas.Option.{same_Some}
 use Rattle.rb_base.specs.Nodes.{Side}
 use Rattle.rb_base.specs.Nodes.Side.{Biu, Rmu}
 use Rattle.rb_base.specs.Sizes.{sync_slot_of}
@@ -24,7 +26,7 @@ use Rattle.rb_rules.specs.Slots.{Sender, sender_kind, if_owned, sender_in, role_
 use Rattle.rb_rules.specs.Slots.Sender.{Nobody, Node, EachTrusted}
 use Rattle.rb_rules.proofs.WindowNumbers.{length-each}
 use Rattle.rb_laws_agreement.specs.Values.{lines_in}
-use Rattle.rb_laws_agreement.proofs.Tests.{true_or_false, same_some, less_true}
+use Rattle.rb_laws_agreement.proofs.Tests.{true_or_false}
 use Rattle.rb_laws_agreement.proofs.Invariant.{Shared, sender_of, kind_in, IsGoodNode, Holds}
 use Rattle.rb_laws_agreement.proofs.JudgedWindows.{rows_of, row-at}
 use Rattle.rb_laws_agreement.proofs.NodeWindows.{Windows, own_window, kept_in, heard_in, sense_in, goes}
@@ -161,7 +163,7 @@ row-of sc m slot stage ws P each i x h = go (slice_get (of_kind Biu m.nodes) i) 
   where
     go : (o : Option NodeState) → slice_get (of_kind Biu m.nodes) i ≡ o → option_map (λ st. row_after sc m Biu i st) o ≡ Some x → P i (line_in x)
     go None e h = cc
-    go (Some st) e h = subst (λ r. P i (line_in r)) (same_some (row_after sc m Biu i st) x h) (each i st e)
+    go (Some st) e h = subst (λ r. P i (line_in r)) (same_Some (row_after sc m Biu i st) x h) (each i st e)
 
 rows-long : (sc : Scenario) (m : Moment) → length (of_kind Biu (rows_of sc m)) ≡ length (of_kind Biu m.nodes)
 unfolding results_of
@@ -242,6 +244,6 @@ given_before sc hands n m s slot q c early =
 pub given_after : (sc : Scenario) (hands : List HandIn) (n : ℕ) (m : Moment) (s : Shared) (slot : ℕ) → Setting sc hands n m s slot 2
     → (next sc m).book.given ≡ m.book.given ++ Slot m.frame slot m.book.lines ∷ []
 given_after sc hands n m s slot c =
-    let is_below : nat_lt slot (sync_slot_of sc.sizes) ≡ true = less_true slot (sync_slot_of sc.sizes) c.below in
+    let is_below : nat_lt slot (sync_slot_of sc.sizes) ≡ true = lt-ltb slot (sync_slot_of sc.sizes) c.below in
     ap (λ b. b.given) (book_exact sc m slot 2 c.below c.small c.at ∙ c.passed.is)
     ∙ ap (λ b. m.book.given ++ (if true && b then Slot m.frame slot m.book.lines ∷ [] else [])) is_below

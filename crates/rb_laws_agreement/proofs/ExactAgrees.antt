@@ -17,10 +17,11 @@ use Rattle.rb_rules.specs.Ports.{HandIn}
 use Rattle.rb_rules.specs.Rounds.{Moment, moment, sent_in, window_in, after_window, windows_in}
 use Rattle.rb_rules.specs.Slots.{same_side, has_third_stage, role_of, sender_in}
 use Rattle.rb_rules.proofs.RoundStates.{Knows, HasTicks, through-stays, numbered-knows}
+use Rattle.rb_rules.proofs.Slots.{schedule_role}
 use Rattle.rb_laws_agreement.proofs.Invariant.{Shared, sender_of, IsGoodNode, is_good_now, IsFinished, HasRelays, HasVoted, Holds, Agree}
 use Rattle.rb_laws_agreement.proofs.JudgedWindows.{stays-trusted}
 use Rattle.rb_laws_agreement.proofs.NodeWindows.{Windows}
-use Rattle.rb_laws_agreement.proofs.Schedules.{AllIn, owners_are_trusted, take-are, schedule_role, same_requester}
+use Rattle.rb_laws_agreement.proofs.Schedules.{AllIn, owners_are_trusted, take-are, same_requester}
 use Rattle.rb_laws_agreement.proofs.Settings.{Setting, windows, good_here, AllCarried, NoneUnlike, SparesNode, all_spared, after, Closed, closes}
 use Rattle.rb_laws_agreement.proofs.SecondStages.{vote_of, carried_2, none_unlike_2, votes_2}
 use Rattle.rb_laws_agreement.proofs.FirstStages.{carried_1, relays_1}
@@ -85,7 +86,7 @@ owners-are sc hands n m s slot q c me i st now here is =
 
 -- The windows of stages 1 and 2.
 
-suc-place : (n frame window size : ℕ) → n ≡ frame * size + window → suc n ≡ frame * size + (window + 1)
+pub suc-place : (n frame window size : ℕ) → n ≡ frame * size + window → suc n ≡ frame * size + (window + 1)
 suc-place n frame window size h = omega arith
 
 -- in them the schedule stays, and no slot is finished

@@ -15,15 +15,12 @@ use Rattle.rb_rules.specs.Slots.{Sender, same_side, sender_kind, listens, expect
 use Rattle.rb_rules.specs.Slots.Sender.{Nobody, Node, EachTrusted}
 use Rattle.rb_rules.specs.Standing.{Standing, is_eligible, taken_of, does_wrong, has_evidence, with_evidence, is_unlike}
 use Rattle.rb_rules.proofs.Senses.{value_is_in}
+use Rattle.rb_rules.proofs.Slots.{other_twice}
 use Rattle.rb_rules.proofs.Standings.{unexpected_not_taken, expected_is_taken, right_is_no_evidence, others_stay, alike_stay}
 use Rattle.rb_rules.proofs.Votes.{taken_at}
 use Rattle.rb_laws_agreement.proofs.NodeWindows.{IsOne}
 
 -- Who is expected, and who speaks.
-
-pub other_twice : (me : Side) → other (other me) ≡ me
-other_twice Biu = refl
-other_twice Rmu = refl
 
 -- there is a single sender, or none
 abbrev pub IsSingle : Sender → Type 0

@@ -3,13 +3,14 @@
 use Rattle.std.proofs.Common.{◌≡◌, ℕ, zero, suc, ◌+◌, ◌<◌, ◌≤◌, ◌^◌, ◌==◌, ◌&&◌, inl, inr, not, Bool, true, false, List, [], ◌∷◌, map, Option, Some, None, is_some, option_map, slice_get, get_or, if◌then◌else◌, refl, sym, ◌∙◌, ap, subst, arith}
 use Rattle.std.specs.Prelude.{IfSome}
 use Rattle.std.specs.List.{list_any}
-use Rattle.std.proofs.lemmas.Bool.Decides.{nat_tests}
+use Rattle.std.proofs.lemmas.Bool.{or_left}
 use Rattle.rb_base.specs.Nodes.{Side, other, has}
 use Rattle.rb_base.specs.Nodes.Side.{Biu, Rmu}
 use Rattle.rb_base.specs.Sizes.{Sizes, IsShape, sync_slot_of}
 use Rattle.rb_base.specs.declared.values.Heard.{Heard}
 use Rattle.rb_base.specs.declared.values.Place.{Place}
 use Rattle.rb_base.specs.declared.values.See.TheVariants.{Nothing}
+use Rattle.rb_base.proofs.Plain.{less-differs}
 use Rattle.rb_rules.specs.declared.sense.Sense.{Sense}
 use Rattle.rb_rules.specs.Book.{of_kind, judged_of}
 use Rattle.rb_rules.specs.ExactStage.{Outcome, says_of, says, message_of, see_value, close_exact}
@@ -26,13 +27,14 @@ use Rattle.rb_rules.specs.SyncStage.{close_sync}
 use Rattle.rb_rules.specs.Windows.{send_offset_of}
 use Rattle.rb_rules.proofs.RoundStates.{keeping-stays}
 use Rattle.rb_rules.proofs.Senses.{IsCarried, value_suits, value_is_message}
+use Rattle.rb_rules.proofs.Slots.{few_slots}
 use Rattle.rb_rules.proofs.Votes.{taken_at}
-use Rattle.rb_laws_agreement.proofs.Tests.{true_or_false, or_first, or_neither_first}
+use Rattle.rb_laws_agreement.proofs.Tests.{true_or_false, or_neither_first}
 use Rattle.rb_laws_agreement.proofs.NodeWindows.{Windows, word_at, kept_in, heard_in, sense_in, good_is_silent, good_is_heard}
 use Rattle.rb_laws_agreement.proofs.ExactWindows.{IsSingle, expects_who_speaks, expected_at, take_at, closing_at, IsSenseOf, takes_what_is_said, does_right, sent_by, with_sent, keeping-is, ExactClose, exact_close}
 use Rattle.rb_laws_agreement.proofs.JudgedWindows.{rows_of, sight-is, taken_in_stage, unlike_in_stage, alike_values, some_is_something, judged_value}
 use Rattle.rb_laws_agreement.proofs.Invariant.{Shared, sender_of, Holds}
-use Rattle.rb_laws_agreement.proofs.Goodnesses.{few_slots, exact_role, single_sender}
+use Rattle.rb_laws_agreement.proofs.Goodnesses.{exact_role, single_sender}
 
 -- What all good nodes hold.
 
@@ -60,10 +62,7 @@ far-held sc m s me st h = far-trusted me st ∙ h.trusted (other me)
 
 -- What is heard of a good source.
 
-pub not-sync : (slot sync : ℕ) → slot < sync → (slot == sync) ≡ false
-not-sync slot sync h = grind (arith, nat_tests)
-
-kept-frame : (sc : Scenario) (m : Moment) (slot stage : ℕ) (me : Side) (i : ℕ) (st : NodeState) → (kept_in sc m slot stage me i st).frame ≡ st.frame
+pub kept-frame : (sc : Scenario) (m : Moment) (slot stage : ℕ) (me : Side) (i : ℕ) (st : NodeState) → (kept_in sc m slot stage me i st).frame ≡ st.frame
 kept-frame sc m slot stage me i st = (keeping-stays sc.sizes me i st slot stage (word_at sc m slot i)).frame
 
 -- what a good source says is what a good node senses
@@ -73,11 +72,11 @@ pub sensed : (sc : Scenario) (m : Moment) (slot q : ℕ) (ws : Windows sc m slot
     → says sc.sizes (other me) j source slot (q + 1) (word_at sc m slot j) ≡ said → IfSome said IsCarried
     → IsSenseOf (sense_in sc m slot (q + 1) ws me i st j) source slot (q + 1) said
 sensed sc m slot q ws me i j st source None shape below small frame_i frame_j is good saying fits =
-    let away : (slot == sync_slot_of sc.sizes) ≡ false = not-sync slot (sync_slot_of sc.sizes) below in
+    let away : (slot == sync_slot_of sc.sizes) ≡ false = less-differs slot (sync_slot_of sc.sizes) below in
     good_is_silent sc m slot (q + 1) ws me i j st source frame_i is good
     (rw away (ap (option_map (message_of source slot (q + 1))) saying))
 sensed sc m slot q ws me i j st source (Some value) shape below small frame_i frame_j is good saying fits =
-    let away : (slot == sync_slot_of sc.sizes) ≡ false = not-sync slot (sync_slot_of sc.sizes) below in
+    let away : (slot == sync_slot_of sc.sizes) ≡ false = less-differs slot (sync_slot_of sc.sizes) below in
     let few : slot < 2 ^ 16 = omega (arith, few_slots sc.sizes shape) in
     good_is_heard sc m slot (q + 1) ws me i j st source (source.epoch + send_offset_of sc.plan slot (q + 1)) (message_of source slot (q + 1) value) frame_i is good
     (rw away (ap (option_map (message_of source slot (q + 1))) saying)) (rw away refl)
@@ -136,11 +135,11 @@ closes_exactly sc m slot stage ws me i st below =
     let sense : ℕ → Sense = sense_in sc m slot stage ws me i st in
     let sent : Option Heard = sent_by sc.sizes me i st slot stage (word_at sc m slot i) in
     let e : close sc.sizes me i (kept_in sc m slot stage me i st) slot stage (ws.first me st) sense ≡ close_exact sc.sizes me i (with_sent st sent) slot stage sense =
-    close-exact sc.sizes me i (kept_in sc m slot stage me i st) slot stage (ws.first me st) sense (not-sync slot (sync_slot_of sc.sizes) below)
+    close-exact sc.sizes me i (kept_in sc m slot stage me i st) slot stage (ws.first me st) sense (less-differs slot (sync_slot_of sc.sizes) below)
     ∙ ap (λ k. close_exact sc.sizes me i k slot stage sense) (keeping-is sc.sizes me i st slot stage (word_at sc m slot i)) in
     subst (ExactClose sc.sizes me i st sent slot stage sense) (sym e) (exact_close sc.sizes me i st sent slot stage sense)
 
-get-see : (taken : List (Option Heard)) (j : ℕ) → get_or (map see_value taken) j Nothing ≡ see_value (get_or taken j None)
+pub get-see : (taken : List (Option Heard)) (j : ℕ) → get_or (map see_value taken) j Nothing ≡ see_value (get_or taken j None)
 get-see [] j = refl
 get-see (x ∷ xs) zero = refl
 get-see (x ∷ xs) (suc j) = get-see xs j
@@ -169,7 +168,7 @@ taken_is_seen sc m slot stage ws me i j st below is good tick small_i small_j so
     taken_in_stage sc place (rows_of sc m) me i j small_i good
     (ap is_something (shows_taken sc m slot stage ws place me i j st below is good tick small_j)
     ∙ some_is_something (take_at sc.sizes me st slot stage (sense_in sc m slot stage ws me i st) j) some) in
-    ap not (or_first (was_taken (other me) j s) (list_any (was_taken (other me) j) m.book.stages) taken)
+    ap not (or_left (was_taken (other me) j s) (list_any (was_taken (other me) j) m.book.stages) taken)
 
 -- of whom good nodes take unlike is asymmetric
 pub alike_is_same : (sc : Scenario) (m : Moment) (slot stage : ℕ) (ws : Windows sc m slot stage) (me : Side) (a b j : ℕ) (sta stb : NodeState)

@@ -1,14 +1,17 @@
 -- Stage 1 of a slot: after it the good nodes of the other kind have what they relay.
-use Rattle.std.proofs.Common.{◌≡◌, ℕ, zero, suc, ◌+◌, ◌-◌, ◌*◌, ◌<◌, ◌≤◌, ◌^◌, ◌&&◌, ◌||◌, nat_lt, bit_and, Bool, true, false, List, [], ◌∷◌, length, inl, inr, Option, Some, None, is_some, slice_get, get_or, if◌then◌else◌, refl, sym, ◌∙◌, ap, subst, arith}
+use Rattle.std.proofs.Common.{◌≡◌, ℕ, ◌+◌, ◌-◌, ◌*◌, ◌<◌, ◌≤◌, ◌^◌, ◌&&◌, ◌||◌, nat_lt, bit_and, Bool, true, false, List, [], length, inl, inr, Some, None, is_some, slice_get, if◌then◌else◌, refl, sym, ◌∙◌, ap, subst, arith}
 use Rattle.std.specs.Prelude.{IfSome}
-use Rattle.std.proofs.lemmas.Bool.{cases_lt}
+use Rattle.std.proofs.lemmas.Bool.{and_right, cases_lt, lt-ltb, or_from}
+use Rattle.std.proofs.lemmas.List.{get_or_past}
 use Rattle.std.proofs.lemmas.List.FromFn.{length-map-range_with_len}
 use Rattle.rb_base.specs.Nodes.{Side, other, has, set_of}
 use Rattle.std.proofs.lemmas.Nat.{and_le_l, and_le_r}
+use Rattle.std.proofs.lemmas.Option.{same_Some}
 use Rattle.std.proofs.Math.Pow.{pow_mono}
-use Rattle.rb_base.proofs.Sets.{has-set_of, has-and, same_set, first_is, lt_true}
+use Rattle.rb_base.proofs.Sets.{has-set_of, has-and, same_set, first_is}
 use Rattle.rb_base.specs.declared.values.Heard.{Heard}
 use Rattle.rb_base.specs.declared.values.Heard.TheVariants.{Word}
+use Rattle.rb_base.proofs.Plain.{and_first, none-if}
 use Rattle.rb_rules.specs.declared.role.Role.{Role}
 use Rattle.rb_rules.specs.declared.role.Role.TheVariants.{Schedule, Data, DiagBiu, DiagRmu, Sync}
 use Rattle.rb_rules.specs.declared.sense.Sense.{Sense}
@@ -26,11 +29,12 @@ use Rattle.rb_rules.specs.Slots.Sender.{Nobody, Node, EachTrusted}
 use Rattle.rb_rules.specs.Standing.{Standing, taken_of, vector_of}
 use Rattle.rb_rules.specs.Moments.{before_slot}
 use Rattle.rb_rules.proofs.Senses.{IsCarried}
+use Rattle.rb_rules.proofs.Slots.{other_twice}
 use Rattle.rb_rules.proofs.Votes.{taken_at}
-use Rattle.rb_laws_agreement.proofs.Tests.{and_first, and_none, or_neither, Present, same_some, less_true}
+use Rattle.rb_laws_agreement.proofs.Tests.{Present}
 use Rattle.rb_laws_agreement.proofs.Goodnesses.{good_below_16, few_nodes}
 use Rattle.rb_laws_agreement.proofs.Invariant.{Shared, sender_of, kind_in, IsGoodNode, is_good_now, slot_numbered, is_diagnosis, IsVector, GoodSent, HasRelays, Holds}
-use Rattle.rb_laws_agreement.proofs.ExactWindows.{other_twice, expected_at, closing_at}
+use Rattle.rb_laws_agreement.proofs.ExactWindows.{expected_at, closing_at}
 use Rattle.rb_laws_agreement.proofs.Exchanges.{IsHeard, sender-held, far-held}
 use Rattle.rb_laws_agreement.proofs.NodeWindows.{sense_in, word_at}
 use Rattle.rb_laws_agreement.proofs.StageVotes.{IsSeen}
@@ -46,16 +50,10 @@ carried_1 sc hands n m s slot c me i st here =
     only-fits (says sc.sizes me i st slot 1 word) (own_value st (role_of sc.sizes slot) word) (says_own sc.sizes me i st slot word)
     (own_fits st (role_of sc.sizes slot) word (word_fits sc m.ports i slot (role_of sc.sizes slot) c.law))
 
--- past the end of a list there is nothing
-get-past : {X : Type 0} (xs : List X) (i : ℕ) (d : X) → length xs ≤ i → get_or xs i d ≡ d
-get-past [] i d h = refl
-get-past (x ∷ xs) zero d h = absurd (omega arith)
-get-past (x ∷ xs) (suc i) d h = get-past xs i d (omega arith)
-
 pub nothing-past : (s : Standing) (expected : ℕ → Bool) (sense : ℕ → Sense) (p : ℕ) → 16 ≤ p → at_source (closing_of s expected sense).taken p ≡ None
 nothing-past s expected sense p h =
     let long : length (closing_of s expected sense).taken ≡ 16 = length-map-range_with_len (taken_of value_in s expected sense) 0 16 in
-    get-past (closing_of s expected sense).taken p None (omega arith)
+    get_or_past (closing_of s expected sense).taken p None (omega arith)
 
 -- what a relay has got is what it took of the sender
 got-is : (sc : Scenario) (hands : List HandIn) (n : ℕ) (m : Moment) (s : Shared) (slot : ℕ) (c : Setting sc hands n m s slot 0) (me : Side) (i p : ℕ) (st now : NodeState)
@@ -88,7 +86,7 @@ set-fits count set few fits inside =
     omega arith
   where
     go : (i : ℕ) → i < 16 → (b : Bool) → has set i ≡ b → has set i ≡ (has set i && nat_lt i count)
-    go i h true e = let lt : i < count = inside i h e in rw (e, lt_true i count lt) refl
+    go i h true e = let lt : i < count = inside i h e in rw (e, lt-ltb i count lt) refl
     go i h false e = rw e refl
 
 -- a vector names trusted nodes alone
@@ -100,7 +98,7 @@ vector-inside s j small h =
 vector-spares : (s : Standing) (j : ℕ) → j < 16 → has s.direct j ≡ false → has s.mismatch j ≡ false → has (vector_of s) j ≡ false
 vector-spares s j small d m =
     has-set_of j (λ j. has s.trusted j && (has s.direct j || has s.mismatch j)) small
-    ∙ and_none (has s.trusted j) (has s.direct j || has s.mismatch j) (or_neither (has s.direct j) (has s.mismatch j) d m)
+    ∙ and_right (has s.trusted j) (has s.direct j || has s.mismatch j) (or_from (has s.direct j) (has s.mismatch j) d m)
 
 -- a good node's vector is one of nodes that there are, and names no good one
 vector-of : (sc : Scenario) (hands : List HandIn) (n : ℕ) (m : Moment) (s : Shared) (slot : ℕ) (c : Setting sc hands n m s slot 0) (me : Side) (i : ℕ) (st : NodeState)
@@ -109,7 +107,7 @@ vector-of sc hands n m s slot c me i st here =
     let holds : Holds sc m s me st = c.agree.nodes me i st here in
     let trusts : st.far.trusted ≡ s.trusted (other me) = far-held sc m s me st holds in
     record {
-      valid = less_true (vector_of st.far) (2 ^ count_of (other me) sc.sizes)
+      valid = lt-ltb (vector_of st.far) (2 ^ count_of (other me) sc.sizes)
           (set-fits (count_of (other me) sc.sizes) (vector_of st.far) (few_nodes sc.sizes c.law.sizes (other me)) (vector_fits st)
           (λ j small h. c.agree.inside (other me) j (ap (λ t. has t j) (sym trusts) ∙ vector-inside st.far j small h)));
       spared = λ j good.
@@ -154,14 +152,14 @@ own_1 sc hands n m s slot c p sender good =
       value = value;
       own = record {
         said = λ st is.
-            let same : old.value ≡ st = same_some old.value st (sym old.is ∙ ap (λ x. slice_get (of_kind k x.nodes) p) (sym begins) ∙ is) in
+            let same : old.value ≡ st = same_Some old.value st (sym old.is ∙ ap (λ x. slice_get (of_kind k x.nodes) p) (sym begins) ∙ is) in
             ap (λ t. own_value t role word) same ∙ ap (λ x. own_value st role (word_for sc x.ports p slot role)) (sym begins);
         carried = own_fits old.value role word (word_fits sc m.ports p slot role c.law);
         vector = own-vector sc hands n m s slot c p old.value word here;
       };
       sent = λ st h.
           let from : CameFrom sc m k p st = came_from sc hands n m s c.agree k p st h in
-          let same : from.st ≡ old.value = same_some from.st old.value (sym from.was.there ∙ old.is) in
+          let same : from.st ≡ old.value = same_Some from.st old.value (sym from.was.there ∙ old.is) in
           let x : Closed sc hands n m s slot 0 c k p old.value = closes sc hands n m s slot 0 c k p old.value here in
           ap (λ t. t.sent) (sym from.is ∙ ap (after sc m k p) same ∙ x.is) ∙ x.parts.sent_after
           ∙ ap (λ o. if is_some o then o else old.value.sent) said;
@@ -199,10 +197,6 @@ got-carried sc hands n m s slot c me i st now here is sender e =
         ]
 
 -- After stage 1.
-
-none-if : (o : Option Heard) → (is_some o ≡ true → ⊥) → o ≡ None
-none-if None h = refl
-none-if (Some v) h = absurd (h refl)
 
 pub relays_1 : (sc : Scenario) (hands : List HandIn) (n : ℕ) (m : Moment) (s : Shared) (slot : ℕ) → Setting sc hands n m s slot 0
     → HasRelays sc hands (next sc m) s slot

@@ -1,11 +1,12 @@
 -- Over the end of a frame all good nodes agree, and at the run's begin.
-use Rattle.std.proofs.Common.{◌≡◌, ℕ, suc, ◌+◌, ◌-◌, ◌*◌, ◌<◌, ◌&&◌, nat_lt, not, true, false, List, [], length, inl, inr, Option, Some, None, is_some, option_map, slice_get, refl, sym, ◌∙◌, ap, subst, arith}
-use Rattle.std.proofs.lemmas.Bool.{cases_lt}
+use Rattle.std.proofs.Common.{◌≡◌, ℕ, suc, ◌+◌, ◌-◌, ◌*◌, ◌<◌, ◌&&◌, nat_lt, not, true, false, List, [], length, inl, inr, Option, Some, None, is_some, slice_get, refl, sym, ◌∙◌, ap, subst, arith}
+use Rattle.std.proofs.lemmas.Bool.{and_from, cases_lt, lt-ltb, ltb-true, not_from_false}
 use Rattle.rb_base.specs.Nodes.{Side, other, has, set_of}
 use Rattle.rb_base.specs.Nodes.Side.{Biu, Rmu}
 use Rattle.rb_base.specs.Sizes.{Sizes, sync_slot_of}
 use Rattle.rb_base.proofs.Sets.{has-set_of, has_above, has_none, set_of-lt}
 use Rattle.rb_base.specs.declared.values.Heard.TheVariants.{Fault}
+use Rattle.rb_base.proofs.Plain.{and_first, is_some-map}
 use Rattle.rb_rules.specs.declared.plan.Plan.{Plan}
 use Rattle.rb_rules.specs.Book.{of_kind, each_of}
 use Rattle.rb_rules.specs.Conviction.{convicted_at, turn}
@@ -22,7 +23,8 @@ use Rattle.rb_rules.proofs.RoundStates.{Knows, knows-none, state-turned}
 use Rattle.rb_rules.proofs.WindowNumbers.{length-each, get-made}
 use Rattle.std.proofs.lemmas.List.FromFn.{length-map-range_with_len}
 use Rattle.std.proofs.lemmas.List.{length-replicate}
-use Rattle.rb_laws_agreement.proofs.Tests.{Present, same_some, and_first, and_both, not_so, less_from, less_true}
+use Rattle.std.proofs.lemmas.Option.{same_Some}
+use Rattle.rb_laws_agreement.proofs.Tests.{Present}
 use Rattle.rb_laws_agreement.proofs.Goodnesses.{good_before, good_counts, good_below_16}
 use Rattle.rb_laws_agreement.proofs.Invariant.{Shared, IsGoodNode, is_good_now, slot_numbered, Holds, Agree}
 use Rattle.rb_laws_agreement.proofs.Settings.{good_state}
@@ -30,16 +32,12 @@ use Rattle.rb_laws_agreement.proofs.FrameTurns.{AtEnd, convicted_all, convicted_
 
 -- What a turn makes of a node.
 
-map-some : (f : ℕ → ℕ) (o : Option ℕ) → is_some (option_map f o) ≡ is_some o
-map-some f None = refl
-map-some f (Some x) = refl
-
 -- at the end of a frame a node knows its next epoch
-epoch-known : (sizes : Sizes) (plan : Plan) (me : Side) (st : NodeState) → Knows sizes me (windows_in sizes) st → is_some (new_epoch_of plan me st) ≡ true
+pub epoch-known : (sizes : Sizes) (plan : Plan) (me : Side) (st : NodeState) → Knows sizes me (windows_in sizes) st → is_some (new_epoch_of plan me st) ≡ true
 epoch-known sizes plan Biu st h =
-    map-some (λ k2. k2 + plan.v + plan.z + plan.c) st.k2 ∙ h.k2 ∙ less_true (3 * sync_slot_of sizes + 2 - 1) (windows_in sizes) (omega arith)
+    is_some-map (λ k2. k2 + plan.v + plan.z + plan.c) st.k2 ∙ h.k2 ∙ lt-ltb (3 * sync_slot_of sizes + 2 - 1) (windows_in sizes) (omega arith)
 epoch-known sizes plan Rmu st h =
-    map-some (λ k3. k3 + plan.z) st.k3 ∙ h.k3 ∙ less_true (3 * sync_slot_of sizes + 3 - 1) (windows_in sizes) (omega arith)
+    is_some-map (λ k3. k3 + plan.z) st.k3 ∙ h.k3 ∙ lt-ltb (3 * sync_slot_of sizes + 3 - 1) (windows_in sizes) (omega arith)
 
 -- what a node is after its turn
 pub record IsTurned (sizes : Sizes) (probation : ℕ) (me : Side) (st now : NodeState) : Type 0 where
@@ -133,7 +131,7 @@ turned_from sc hands n m s agree me i now h =
     record {
       st = old.value;
       was = record { there = old.is; good = good };
-      is = same_some (turn_if_known sc.sizes sc.plan me old.value) now (sym (state-turned sc hands m me i old.value old.is) ∙ h.there);
+      is = same_Some (turn_if_known sc.sizes sc.plan me old.value) now (sym (state-turned sc hands m me i old.value old.is) ∙ h.there);
     }
 
 pub holds-turned : (sc : Scenario) (hands : List HandIn) (n : ℕ) (m : Moment) (s : Shared) → AtEnd sc hands n m s
@@ -175,8 +173,8 @@ agree_frame sc hands n m s e is = record {
   trusted = λ kind j good.
       let was : is_good_now sc m kind j ≡ true = was_good_then sc hands m kind j good in
       has-set_of j (λ j. has (s.trusted kind) j && not (has (convicted_all sc.sizes s kind) j)) (good_below_16 sc e.law.sizes kind j m.frame (slot_numbered sc.sizes m.window) was)
-      ∙ and_both (has (s.trusted kind) j) (not (has (convicted_all sc.sizes s kind) j)) (e.agree.trusted kind j was)
-      (not_so (has (convicted_all sc.sizes s kind) j) (good_not_convicted sc hands n m s e kind j was));
+      ∙ and_from (has (s.trusted kind) j) (not (has (convicted_all sc.sizes s kind) j)) (e.agree.trusted kind j was)
+      (not_from_false (has (convicted_all sc.sizes s kind) j) (good_not_convicted sc hands n m s e kind j was));
   inside = λ kind j h. e.agree.inside kind j (trusted-before (s.trusted kind) (convicted_all sc.sizes s kind) j h);
   owned = λ k p h. cc;
   finished = λ t lt done. absurd (omega arith);
@@ -203,7 +201,7 @@ counts-made sizes make Rmu = length-map-range_with_len (make Rmu) 0 sizes.rmus
 first-inside : (sc : Scenario) (kind : Side) (j : ℕ) → has (set_of (λ i. nat_lt i (count_of kind sc.sizes))) j ≡ true → j < count_of kind sc.sizes
 first-inside sc kind j h =
     elim (cases_lt j 16) [
-      | inl below ↦ less_from j (count_of kind sc.sizes) (sym (has-set_of j (λ i. nat_lt i (count_of kind sc.sizes)) below) ∙ h)
+      | inl below ↦ ltb-true j (count_of kind sc.sizes) (sym (has-set_of j (λ i. nat_lt i (count_of kind sc.sizes)) below) ∙ h)
       | inr above ↦
           let none : has (set_of (λ i. nat_lt i (count_of kind sc.sizes))) j ≡ false =
           has_above (set_of (λ i. nat_lt i (count_of kind sc.sizes))) j (set_of-lt (λ i. nat_lt i (count_of kind sc.sizes))) above in
@@ -237,7 +235,7 @@ agree_first sc hands law = record {
       let counted : i < count_of me sc.sizes = good_counts sc me i 0 (slot_numbered sc.sizes 0) h.good in
       let made : slice_get (of_kind me (each_of sc.sizes (λ me i. first_state sc.sizes me))) i ≡ Some (first_state sc.sizes me) =
       get-made sc.sizes (λ me i. first_state sc.sizes me) me i counted in
-      let same : first_state sc.sizes me ≡ st = same_some (first_state sc.sizes me) st (sym made ∙ h.there) in
+      let same : first_state sc.sizes me ≡ st = same_Some (first_state sc.sizes me) st (sym made ∙ h.there) in
       subst (λ st. Holds sc (first_moment sc hands) (first_shared sc) me st) same (record {
         frame = refl;
         trusted = λ kind. first-trusted sc.sizes kind me;
@@ -248,7 +246,7 @@ agree_first sc hands law = record {
       });
   trusted = λ kind j good.
       has-set_of j (λ i. nat_lt i (count_of kind sc.sizes)) (good_below_16 sc law.sizes kind j 0 (slot_numbered sc.sizes 0) good)
-      ∙ less_true j (count_of kind sc.sizes) (good_counts sc kind j 0 (slot_numbered sc.sizes 0) good);
+      ∙ lt-ltb j (count_of kind sc.sizes) (good_counts sc kind j 0 (slot_numbered sc.sizes 0) good);
   inside = first-inside sc;
   owned = λ k p h. cc;
   finished = λ t lt done. absurd (omega arith);

@@ -1,22 +1,22 @@
 -- A frame that is reached begins before the first breach.
 use Rattle.std.proofs.Common.{◌≡◌, ℕ, zero, suc, ◌+◌, ◌-◌, ◌*◌, ◌<◌, ◌≤◌, ◌==◌, nat_lt, Bool, true, false, List, inl, inr, refl, sym, ◌∙◌, ap, arith}
+use Rattle.std.proofs.lemmas.Bool.{le-ltb, lt-ltb}
 use Rattle.rb_base.specs.Sizes.{sync_slot_of}
-use Rattle.rb_rules.specs.Book.{Begun, Book, with_frame}
+use Rattle.rb_rules.specs.Book.{with_frame}
 use Rattle.rb_rules.specs.Goodness.{Scenario}
 use Rattle.rb_rules.specs.Lawful.{IsLawful}
 use Rattle.rb_rules.specs.Moments.{before_stage, before_slot, after_slot, IsRunning, IsComplete, IsReached, BeginsFrame, IsSettled}
 use Rattle.rb_rules.specs.Ports.{HandIn}
 use Rattle.rb_rules.specs.Rounds.{Moment, first_moment, begin_frame, next_frame, step, moment, windows_in}
-use Rattle.rb_rules.proofs.Books.{stepped}
+use Rattle.rb_rules.proofs.Books.{begun-open, stepped}
 use Rattle.rb_laws_agreement.proofs.Agreement.{ended-end}
 use Rattle.rb_laws_agreement.proofs.NextMoments.{next}
 use Rattle.rb_laws_agreement.proofs.Places.{IsPlaced, placed, complete_before}
 use Rattle.rb_laws_agreement.proofs.SlotRuns.{stage_next, next-frame, next-window}
 use Rattle.rb_laws_agreement.proofs.SyncAgrees.{book_tail}
-use Rattle.rb_laws_agreement.proofs.Tests.{less_false, less_true}
 
 -- a step after which the run goes on is not its end
-not-over : (sc : Scenario) (hands : List HandIn) (m : Moment) → IsRunning (step sc hands m) → (m.frame == sc.frames) ≡ false
+pub not-over : (sc : Scenario) (hands : List HandIn) (m : Moment) → IsRunning (step sc hands m) → (m.frame == sc.frames) ≡ false
 unfolding step
 not-over sc hands m running = go (m.frame == sc.frames) (nat_lt m.window (windows_in sc.sizes)) running
   where
@@ -27,7 +27,7 @@ not-over sc hands m running = go (m.frame == sc.frames) (nat_lt m.window (window
 -- such a step is a window, or a turn
 window-step : (sc : Scenario) (hands : List HandIn) (m : Moment) → (m.frame == sc.frames) ≡ false → m.window < windows_in sc.sizes → step sc hands m ≡ next sc m
 unfolding step
-window-step sc hands m over below = go (m.frame == sc.frames) (nat_lt m.window (windows_in sc.sizes)) over (less_true m.window (windows_in sc.sizes) below)
+window-step sc hands m over below = go (m.frame == sc.frames) (nat_lt m.window (windows_in sc.sizes)) over (lt-ltb m.window (windows_in sc.sizes) below)
   where
     go : (over in_frame : Bool) → over ≡ false → in_frame ≡ true → stepped sc hands m over in_frame ≡ next sc m
     go true in_frame p q = cc
@@ -36,16 +36,12 @@ window-step sc hands m over below = go (m.frame == sc.frames) (nat_lt m.window (
 
 turn-step : (sc : Scenario) (hands : List HandIn) (m : Moment) → (m.frame == sc.frames) ≡ false → windows_in sc.sizes ≤ m.window → step sc hands m ≡ next_frame sc hands m
 unfolding step
-turn-step sc hands m over full = go (m.frame == sc.frames) (nat_lt m.window (windows_in sc.sizes)) over (less_false m.window (windows_in sc.sizes) full)
+turn-step sc hands m over full = go (m.frame == sc.frames) (nat_lt m.window (windows_in sc.sizes)) over (le-ltb m.window (windows_in sc.sizes) full)
   where
     go : (over in_frame : Bool) → over ≡ false → in_frame ≡ false → stepped sc hands m over in_frame ≡ next_frame sc hands m
     go true in_frame p q = cc
     go false true p q = cc
     go false false p q = refl
-
-begun-open : (sc : Scenario) (frame : ℕ) (begun : List Begun) (b : Book) → b.ended ≡ false → (with_frame sc frame begun b).ended ≡ false
-unfolding with_frame
-begun-open sc frame begun b h = rw (h, with_frame) refl
 
 turn-open : (sc : Scenario) (hands : List HandIn) (m : Moment) → IsRunning m → IsRunning (next_frame sc hands m)
 unfolding begin_frame

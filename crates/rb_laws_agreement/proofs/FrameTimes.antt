@@ -1,7 +1,7 @@
 -- Where good nodes begin frames near each other, and frames take as long as they must, times are kept.
-use Rattle.std.proofs.Common.{◌≡◌, ℕ, zero, suc, ◌+◌, ◌-◌, ◌*◌, ◌<◌, ◌≤◌, Bool, true, false, List, [], length, inl, inr, ◌⊎◌, Option, Some, None, option_map, slice_get, if◌then◌else◌, refl, sym, ◌∙◌, ap, subst, arith}
+use Rattle.std.proofs.Common.{◌≡◌, ℕ, zero, suc, ◌+◌, ◌-◌, ◌*◌, ◌≤◌, Bool, true, false, List, [], length, inl, inr, ◌⊎◌, Option, Some, None, option_map, slice_get, if◌then◌else◌, refl, sym, ◌∙◌, ap, subst, arith}
+use Rattle.std.proofs.lemmas.Option.{same_Some}
 use Rattle.rb_base.specs.Nodes.{Side}
-use Rattle.rb_base.specs.Nodes.Side.{Biu, Rmu}
 use Rattle.rb_base.specs.Sizes.{Sizes, sync_slot_of}
 use Rattle.rb_rules.specs.declared.plan.Plan.{Plan}
 use Rattle.rb_rules.specs.Book.{of_kind}
@@ -15,13 +15,13 @@ use Rattle.rb_rules.specs.NodeSteps.{turn_if_known}
 use Rattle.rb_rules.specs.Plan.{shortest_of, longest_of, tail_start_of}
 use Rattle.rb_rules.specs.Ports.{HandIn}
 use Rattle.rb_rules.specs.Rounds.{Moment, moment, windows_in}
-use Rattle.rb_rules.specs.Slots.{count_of}
 use Rattle.rb_rules.specs.StandsFor.{FrameTakes, IsLow}
 use Rattle.rb_rules.specs.SyncStage.{new_epoch_of}
 use Rattle.rb_rules.proofs.Drift.{HasLengths, drift, has_lengths, times_rise_to}
 use Rattle.rb_rules.proofs.RoundStates.{state-after}
+use Rattle.rb_rules.proofs.Slots.{place-within}
 use Rattle.rb_laws_agreement.specs.Times.{KeepsTime}
-use Rattle.rb_laws_agreement.proofs.Tests.{Present, same_some}
+use Rattle.rb_laws_agreement.proofs.Tests.{Present}
 use Rattle.rb_laws_agreement.proofs.Goodnesses.{good_earlier, good_before, good_counts, good_below_16}
 use Rattle.rb_laws_agreement.proofs.Invariant.{IsGoodNode, slot_numbered}
 use Rattle.rb_laws_agreement.proofs.Settings.{good_state, after}
@@ -38,12 +38,7 @@ use Rattle.rb_laws_agreement.proofs.WidelyAccused.{HasStayed, stays_on, IsEnd, f
 
 -- Clocks.
 
--- there is a clock for each node
-place-within : (sizes : Sizes) (me : Side) (i n : ℕ) → n ≡ sizes.bius + sizes.rmus → i < count_of me sizes → clock_place sizes me i < n
-place-within sizes Biu i n e h = omega arith
-place-within sizes Rmu i n e h = omega arith
-
-good-clock : (sc : Scenario) → IsLawful sc → (me : Side) (i frame slot : ℕ) → is_good sc me i frame slot ≡ true
+pub good-clock : (sc : Scenario) → IsLawful sc → (me : Side) (i frame slot : ℕ) → is_good sc me i frame slot ≡ true
     → HasLengths (shortest_of sc.plan) (longest_of sc.plan) (clock_of sc me i)
 good-clock sc law me i frame slot good =
     has_lengths (shortest_of sc.plan) (longest_of sc.plan) (clock_of sc me i)
@@ -67,7 +62,7 @@ has-begun : (sc : Scenario) (hands : List HandIn) → IsLawful sc → (frame slo
 has-begun sc hands law frame slot k le running me i st good there = record {
   begun = first.value;
   is = record { good = was; state = first.is };
-  epoch = ap (λ x. x.epoch) (same_some st stay.now (sym there ∙ stay.there)) ∙ stay.stays.epoch;
+  epoch = ap (λ x. x.epoch) (same_Some st stay.now (sym there ∙ stay.there)) ∙ stay.stays.epoch;
 }
   where
     n : ℕ
@@ -121,7 +116,7 @@ begun-after sc hands law frame complete me i st g =
 start-at : Scenario → Side → ℕ → Bool → Option NodeState → Option ℕ
 start-at sc me i good st = if good then option_map (λ st. time_in_frame sc me i st 0) st else None
 
-starts : Scenario → List HandIn → ℕ → Side → ℕ → Option ℕ
+pub starts : Scenario → List HandIn → ℕ → Side → ℕ → Option ℕ
 starts sc hands frame me i = start-at sc me i (is_good sc me i frame 0) (slice_get (of_kind me (before_slot sc hands frame 0).nodes) i)
 
 -- the least of these; where there is none, what is left
@@ -146,7 +141,7 @@ starts-there sc hands frame me i time h = go (is_good sc me i frame 0) (slice_ge
   where
     go : (good : Bool) (o : Option NodeState) → is_good sc me i frame 0 ≡ good → slice_get (of_kind me (before_slot sc hands frame 0).nodes) i ≡ o
         → start-at sc me i good o ≡ Some time → Starts sc hands frame me i time
-    go true (Some st) p q h = record { st = st; is = record { good = p; state = q }; at = same_some (time_in_frame sc me i st 0) time h }
+    go true (Some st) p q h = record { st = st; is = record { good = p; state = q }; at = same_Some (time_in_frame sc me i st 0) time h }
     go true None p q h = cc
     go false o p q h = cc
 
@@ -212,7 +207,7 @@ in-time sc hands law frames frame slot le reached running me i st g offset =
 
 -- The next frame.
 
-turned-epoch : (sizes : Sizes) (plan : Plan) (me : Side) (st : NodeState) (epoch : ℕ) → new_epoch_of plan me st ≡ Some epoch → (turn_if_known sizes plan me st).epoch ≡ epoch
+pub turned-epoch : (sizes : Sizes) (plan : Plan) (me : Side) (st : NodeState) (epoch : ℕ) → new_epoch_of plan me st ≡ Some epoch → (turn_if_known sizes plan me st).epoch ≡ epoch
 unfolding turn
 turned-epoch sizes plan me st epoch e = ap (λ o. (elim o as (λ _. NodeState) [ None ↦ st | Some epoch ↦ turn sizes plan.probation me epoch st ]).epoch) e
 
@@ -242,7 +237,7 @@ next-epoch sc hands law frame complete me i st now g h epoch known =
         (subst (λ m. IsGoodNode sc m me i now) (sym e.turn.turn) (good_before_slot sc hands (suc frame) 0 (omega arith) next_p me i now h))
 
     left : after sc a me i st ≡ from.st
-    left = same_some (after sc a me i st) from.st (sym (state-after sc a me i st g.state) ∙ from.was.there)
+    left = same_Some (after sc a me i st) from.st (sym (state-after sc a me i st g.state) ∙ from.was.there)
 
 -- a node that begins the next frame does so all its ticks after the first time of this one
 turns-later : (sc : Scenario) (hands : List HandIn) → IsLawful sc → KeepsTime sc hands → (frame : ℕ) → IsComplete sc hands frame (sync_slot_of sc.sizes)

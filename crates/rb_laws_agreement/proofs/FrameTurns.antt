@@ -1,11 +1,13 @@
 -- The end of a frame: all good nodes convict the same nodes, and no good one.
 use Rattle.std.proofs.Common.{◌≡◌, ℕ, ◌+◌, ◌*◌, ◌<◌, ◌≤◌, ◌&&◌, not, Bool, true, false, List, if◌then◌else◌, refl, sym, ◌∙◌, ap, subst, arith}
+use Rattle.std.proofs.lemmas.Bool.{and_from, false_from_ne_true, not_from_false}
 use Rattle.rb_base.specs.Counting.{count_if, numbers}
 use Rattle.rb_base.specs.Nodes.{Side, other, has}
 use Rattle.rb_base.specs.Nodes.Side.{Biu, Rmu}
 use Rattle.rb_base.specs.Sizes.{Sizes, sync_slot_of}
 use Rattle.rb_base.specs.declared.values.Heard.{Heard}
 use Rattle.rb_base.specs.declared.values.Heard.TheVariants.{Fault}
+use Rattle.rb_base.proofs.Plain.{and_first, and_second}
 use Rattle.rb_rules.specs.Conviction.{is_valid, names, naming, sparing, convicted_by, voted_vector, convicted_at}
 use Rattle.rb_rules.specs.Goodness.{Scenario, is_good}
 use Rattle.rb_rules.specs.Judging.{is_benign}
@@ -16,12 +18,11 @@ use Rattle.rb_rules.specs.Rounds.{Moment, windows_in}
 use Rattle.rb_rules.specs.Slots.{same_side, sender_kind, has_third_stage, count_of, role_of, sender_in}
 use Rattle.rb_rules.specs.Slots.Sender.{Node}
 use Rattle.rb_rules.proofs.Convictions.{named_is_convicted, spared_is_not_convicted}
-use Rattle.rb_laws_agreement.proofs.Tests.{and_first, and_second, and_both, not_so, so_not}
+use Rattle.rb_rules.proofs.Slots.{other_twice}
 use Rattle.rb_laws_agreement.proofs.Numbers.{how_many, how_many-le}
 use Rattle.rb_laws_agreement.proofs.Premises.{Premise, is_active, is_sound}
 use Rattle.rb_laws_agreement.proofs.Goodnesses.{good_below_16, few_nodes, slot_last}
 use Rattle.rb_laws_agreement.proofs.Invariant.{Shared, sender_of, kind_in, IsGoodNode, is_good_now, slot_numbered, is_diagnosis, IsVector, IsOwn, IsFinished, Holds, Agree}
-use Rattle.rb_laws_agreement.proofs.ExactWindows.{other_twice}
 use Rattle.rb_laws_agreement.proofs.Exchanges.{trusted-either}
 use Rattle.rb_laws_agreement.proofs.StageVotes.{how_many-count}
 use Rattle.rb_laws_agreement.proofs.Vectors.{vector_slot, vector_role, vector_slot-role, vector_slot-lt, convicted_same}
@@ -76,7 +77,7 @@ vector_at sc hands n m s agree kind i done t =
       finished = f;
       kind_is = kind_is;
       sender = sender;
-      seen = λ others valid. so_not (is_benign kind m.book.stages i) (λ benign.
+      seen = λ others valid. false_from_ne_true (is_benign kind m.book.stages i) (λ benign.
           let fault : s.values slot ≡ Fault = f.is_value.unseen i sender (ap (λ k. is_benign k m.book.stages i) kind_is ∙ benign) in
           let both : true ≡ false = sym valid ∙ ap (is_valid others) fault in cc);
       good = λ good.
@@ -141,9 +142,9 @@ valid-active : (sc : Scenario) (hands : List HandIn) (n : ℕ) (m : Moment) (s :
 valid-active sc hands n m s e kind others i t valid faulty =
     let v : VectorOf sc hands m s kind i = vector_end sc hands n m s e kind i t in
     let not_good : is_good sc kind i m.frame (sync_slot_of sc.sizes) ≡ false = sym (good-last sc hands n m s e kind i) ∙ faulty in
-    and_both (has (s.trusted kind) i && not (is_good sc kind i m.frame (sync_slot_of sc.sizes))) (not (is_benign kind m.book.stages i))
-    (and_both (has (s.trusted kind) i) (not (is_good sc kind i m.frame (sync_slot_of sc.sizes))) t (not_so (is_good sc kind i m.frame (sync_slot_of sc.sizes)) not_good))
-    (not_so (is_benign kind m.book.stages i) (v.seen others valid))
+    and_from (has (s.trusted kind) i && not (is_good sc kind i m.frame (sync_slot_of sc.sizes))) (not (is_benign kind m.book.stages i))
+    (and_from (has (s.trusted kind) i) (not (is_good sc kind i m.frame (sync_slot_of sc.sizes))) t (not_from_false (is_good sc kind i m.frame (sync_slot_of sc.sizes)) not_good))
+    (not_from_false (is_benign kind m.book.stages i) (v.seen others valid))
 
 -- a test on valid vectors that no good node's vector passes is passed by fewer than there are good nodes
 few_pass : (sc : Scenario) (hands : List HandIn) (n : ℕ) (m : Moment) (s : Shared) (e : AtEnd sc hands n m s) (kind : Side) (others : ℕ) (test : Heard → Bool)
@@ -158,7 +159,7 @@ few_pass sc hands n m s e kind others test none =
     let both : (has (s.trusted kind) i && is_valid others value) ≡ true = and_first (has (s.trusted kind) i && is_valid others value) (test value) h in
     let t : has (s.trusted kind) i ≡ true = and_first (has (s.trusted kind) i) (is_valid others value) both in
     let faulty : is_good_now sc m kind i ≡ false =
-    so_not (is_good_now sc m kind i) (λ good.
+    false_from_ne_true (is_good_now sc m kind i) (λ good.
     let contrary : true ≡ false = sym (and_second (has (s.trusted kind) i && is_valid others value) (test value) h) ∙ none i t good in cc) in
     valid-active sc hands n m s e kind others i t (and_second (has (s.trusted kind) i) (is_valid others value) both) faulty)
 
@@ -177,7 +178,7 @@ many_pass sc hands n m s e kind others test all =
     let good : is_good_now sc m kind i ≡ true =
     good-last sc hands n m s e kind i ∙ and_second (has (s.trusted kind) i) (is_good sc kind i m.frame (sync_slot_of sc.sizes)) h in
     let both = all i t good in
-    and_both (has (s.trusted kind) i && is_valid others value) (test value) (and_both (has (s.trusted kind) i) (is_valid others value) t both.0) both.1)
+    and_from (has (s.trusted kind) i && is_valid others value) (test value) (and_from (has (s.trusted kind) i) (is_valid others value) t both.0) both.1)
 
 -- a good node's vector, as one of the kind that is accused
 far-vector : (sc : Scenario) (hands : List HandIn) (n : ℕ) (m : Moment) (s : Shared) (e : AtEnd sc hands n m s) (accused : Side) (i : ℕ)
@@ -197,7 +198,7 @@ good_not_convicted sc hands n m s e accused j good =
     few_pass sc hands n m s e from others (names j) (λ i t g. (far-vector sc hands n m s e accused i t g).spared j good) in
     let many : how_many (is_sound sc from m.frame (sync_slot_of sc.sizes) s.trusted) ≤ sparing others (s.trusted from) vector j =
     many_pass sc hands n m s e from others (λ v. not (names j v))
-    (λ i t g. let v : IsVector sc m accused (vector i) = far-vector sc hands n m s e accused i t g in (v.valid, not_so (names j (vector i)) (v.spared j good))) in
+    (λ i t g. let v : IsVector sc m accused (vector i) = far-vector sc hands n m s e accused i t g in (v.valid, not_from_false (names j (vector i)) (v.spared j good))) in
     spared_is_not_convicted others (s.trusted from) (s.trusted accused) vector j (good_below_16 sc e.law.sizes accused j m.frame (slot_numbered sc.sizes m.window) good)
     (le-from-lt (naming others (s.trusted from) vector j) (sparing others (s.trusted from) vector j)
     (between (naming others (s.trusted from) vector j) (how_many (is_active sc from m.frame (sync_slot_of sc.sizes) s.trusted m.book.stages))

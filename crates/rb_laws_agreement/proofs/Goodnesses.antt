@@ -1,23 +1,24 @@
 -- Good nodes: which there are, and that none becomes good again. The slot of a window, and what a slot is for.
 use Rattle.std.proofs.Common.{◌≡◌, ℕ, ◌+◌, ◌-◌, ◌*◌, ◌<◌, ◌≤◌, nat_lt, Bool, true, false, Option, Some, None, get_or, slice_get, if◌then◌else◌, List, refl, arith}
+use Rattle.std.proofs.lemmas.Bool.{and_from, lt-ltb, ltb-true}
 use Rattle.std.proofs.lemmas.Bool.Decides.{nat_tests}
 use Rattle.rb_base.specs.Nodes.{Side, has}
 use Rattle.rb_base.specs.Nodes.Side.{Biu, Rmu}
 use Rattle.rb_base.specs.Sizes.{Sizes, IsShape, sync_slot_of}
+use Rattle.rb_base.proofs.Plain.{and_first, and_second}
 use Rattle.rb_rules.specs.declared.role.Role.{Role}
 use Rattle.rb_rules.specs.declared.role.Role.TheVariants.{Schedule, Data, DiagBiu, DiagRmu, Sync}
 use Rattle.rb_rules.specs.Goodness.{Scenario, onsets_of, is_before, is_good}
 use Rattle.rb_rules.specs.Slots.{count_of, first_diagnosis_of, role_of, if_trusted, if_owned, sender_in}
 use Rattle.rb_rules.specs.Slots.Sender.{Nobody, Node}
-use Rattle.rb_laws_agreement.proofs.Tests.{and_first, and_second, and_both, less_from, less_true}
 use Rattle.rb_laws_agreement.proofs.ExactWindows.{IsSingle}
 use Rattle.rb_laws_agreement.proofs.Invariant.{slot_numbered}
 
-before-same : (o : Option (ℕ × ℕ)) (frame a b : ℕ) → a ≤ b → is_before o frame b ≡ true → is_before o frame a ≡ true
+pub before-same : (o : Option (ℕ × ℕ)) (frame a b : ℕ) → a ≤ b → is_before o frame b ≡ true → is_before o frame a ≡ true
 before-same None frame a b h g = refl
 before-same (Some onset) frame a b h g = grind (arith, nat_tests)
 
-before-earlier : (o : Option (ℕ × ℕ)) (frame later a b : ℕ) → frame < later → is_before o later b ≡ true → is_before o frame a ≡ true
+pub before-earlier : (o : Option (ℕ × ℕ)) (frame later a b : ℕ) → frame < later → is_before o later b ≡ true → is_before o frame a ≡ true
 before-earlier None frame later a b h g = refl
 before-earlier (Some onset) frame later a b h g = grind (arith, nat_tests)
 
@@ -25,20 +26,20 @@ before-earlier (Some onset) frame later a b h g = grind (arith, nat_tests)
 pub good_earlier : (sc : Scenario) (me : Side) (i frame a b : ℕ) → a ≤ b → is_good sc me i frame b ≡ true → is_good sc me i frame a ≡ true
 good_earlier sc me i frame a b h g =
     let there : nat_lt i (count_of me sc.sizes) ≡ true = and_first (nat_lt i (count_of me sc.sizes)) (is_before (get_or (onsets_of me sc) i None) frame b) g in
-    and_both (nat_lt i (count_of me sc.sizes)) (is_before (get_or (onsets_of me sc) i None) frame a) there
+    and_from (nat_lt i (count_of me sc.sizes)) (is_before (get_or (onsets_of me sc) i None) frame a) there
     (before-same (get_or (onsets_of me sc) i None) frame a b h (and_second (nat_lt i (count_of me sc.sizes)) (is_before (get_or (onsets_of me sc) i None) frame b) g))
 
 -- and in all slots of earlier frames
 pub good_before : (sc : Scenario) (me : Side) (i frame later a b : ℕ) → frame < later → is_good sc me i later b ≡ true → is_good sc me i frame a ≡ true
 good_before sc me i frame later a b h g =
     let there : nat_lt i (count_of me sc.sizes) ≡ true = and_first (nat_lt i (count_of me sc.sizes)) (is_before (get_or (onsets_of me sc) i None) later b) g in
-    and_both (nat_lt i (count_of me sc.sizes)) (is_before (get_or (onsets_of me sc) i None) frame a) there
+    and_from (nat_lt i (count_of me sc.sizes)) (is_before (get_or (onsets_of me sc) i None) frame a) there
     (before-earlier (get_or (onsets_of me sc) i None) frame later a b h (and_second (nat_lt i (count_of me sc.sizes)) (is_before (get_or (onsets_of me sc) i None) later b) g))
 
 -- a good node is one of the bus
 pub good_counts : (sc : Scenario) (me : Side) (i frame slot : ℕ) → is_good sc me i frame slot ≡ true → i < count_of me sc.sizes
 good_counts sc me i frame slot g =
-    less_from i (count_of me sc.sizes) (and_first (nat_lt i (count_of me sc.sizes)) (is_before (get_or (onsets_of me sc) i None) frame slot) g)
+    ltb-true i (count_of me sc.sizes) (and_first (nat_lt i (count_of me sc.sizes)) (is_before (get_or (onsets_of me sc) i None) frame slot) g)
 
 -- no kind has more than 16
 pub few_nodes : (sizes : Sizes) → IsShape sizes → (kind : Side) → count_of kind sizes ≤ 16
@@ -47,10 +48,6 @@ few_nodes sizes shape Rmu = shape.most_rmus
 
 pub good_below_16 : (sc : Scenario) → IsShape sc.sizes → (me : Side) (i frame slot : ℕ) → is_good sc me i frame slot ≡ true → i < 16
 good_below_16 sc shape me i frame slot g = omega (arith, good_counts sc me i frame slot g, few_nodes sc.sizes shape me)
-
--- slots are few
-pub few_slots : (sizes : Sizes) → IsShape sizes → sync_slot_of sizes ≤ 112
-few_slots sizes shape = omega (arith, shape.most_bius, shape.most_rmus, shape.most_slots)
 
 -- The slot of a window.
 
@@ -74,7 +71,7 @@ IsExact Sync = ⊥
 
 pub exact_role : (sizes : Sizes) (slot : ℕ) → slot < sync_slot_of sizes → IsExact (role_of sizes slot)
 exact_role sizes slot below =
-    go (nat_lt slot sizes.bius) (nat_lt slot (first_diagnosis_of Biu sizes)) (nat_lt slot (first_diagnosis_of Rmu sizes)) (nat_lt slot (sync_slot_of sizes)) (less_true slot (sync_slot_of sizes) below)
+    go (nat_lt slot sizes.bius) (nat_lt slot (first_diagnosis_of Biu sizes)) (nat_lt slot (first_diagnosis_of Rmu sizes)) (nat_lt slot (sync_slot_of sizes)) (lt-ltb slot (sync_slot_of sizes) below)
   where
     go : (a b c d : Bool) → d ≡ true
         → IsExact (if a then Schedule slot else (if b then Data (slot - sizes.bius) else (if c then DiagBiu (slot - first_diagnosis_of Biu sizes) else (if d then DiagRmu (slot - first_diagnosis_of Rmu sizes) else Sync))))

@@ -3,7 +3,9 @@
 use Rattle.std.proofs.Common.{◌≡◌, ℕ, zero, suc, ◌<◌, ◌≤◌, ◌&&◌, ◌⊎◌, inl, inr, not, nat_le, Bool, true, false, List, [], ◌∷◌, ◌++◌, Option, Some, None, is_some, option_map, slice_get, get_or, refl, sym, ◌∙◌, ap, subst, arith}
 use Rattle.std.specs.List.{list_any}
 use Rattle.std.proofs.lemmas.List.FromFn.{get_or-map-range_with_len}
+use Rattle.std.proofs.lemmas.Option.{same_Some}
 use Rattle.std.proofs.Common.{zero-add}
+use Rattle.std.proofs.lemmas.Bool.{and_from, leb-true, not_from_false}
 use Rattle.rb_base.specs.Counting.{numbers}
 use Rattle.rb_base.specs.Nodes.{Side, other, has}
 use Rattle.rb_base.specs.Nodes.Side.{Biu, Rmu}
@@ -11,6 +13,7 @@ use Rattle.rb_base.proofs.Sets.{has-set_of, has_none}
 use Rattle.rb_base.specs.declared.values.Heard.{Heard}
 use Rattle.rb_base.specs.declared.values.Place.{Place}
 use Rattle.rb_base.specs.declared.values.See.TheVariants.{Nothing}
+use Rattle.rb_base.proofs.Plain.{and_first}
 use Rattle.rb_rules.specs.declared.cause.Cause.{Cause}
 use Rattle.rb_rules.specs.declared.closing.Closed.{Closed}
 use Rattle.rb_rules.specs.declared.plan.Window.{Window}
@@ -24,11 +27,11 @@ use Rattle.rb_rules.specs.NodeSteps.{close}
 use Rattle.rb_rules.specs.Rounds.{Moment, Result, window_in, sent_in, close_on, go_through, results_of}
 use Rattle.rb_rules.proofs.Majorities.{same_heard-is}
 use Rattle.rb_rules.proofs.RoundStates.{Stays, through-stays}
+use Rattle.rb_rules.proofs.Slots.{other_twice}
 use Rattle.rb_rules.proofs.WindowNumbers.{get-each}
-use Rattle.rb_laws_agreement.proofs.Tests.{and_both, and_first, not_so, passes_at, get-some, same_some, Passing, le_from}
+use Rattle.rb_laws_agreement.proofs.Tests.{passes_at, get-some, Passing}
 use Rattle.rb_laws_agreement.proofs.Numbers.{how_many, one_of_many}
 use Rattle.rb_laws_agreement.proofs.Premises.{Premise, premise_holds}
-use Rattle.rb_laws_agreement.proofs.ExactWindows.{other_twice}
 use Rattle.rb_laws_agreement.proofs.NodeWindows.{Windows, own_window, kept_in, heard_in, sense_in, goes}
 
 -- Rows.
@@ -81,8 +84,8 @@ told_by_good sc m slot stage ws me i st r told =
 trusts_told : (sc : Scenario) (me : Side) (i : ℕ) (st : NodeState) (w : Window) (heard : ℕ → List Coming) (r : Row) (kind : Side)
     → (close_on sc me i st w heard).row ≡ Some r → trusted_in kind r ≡ trusted_of kind me (close_on sc me i st w heard).state
 unfolding close_on row_of
-trusts_told sc me i st w heard r Biu told = sym (ap (trusted_in Biu) (same_some _ r told))
-trusts_told sc me i st w heard r Rmu told = sym (ap (trusted_in Rmu) (same_some _ r told))
+trusts_told sc me i st w heard r Biu told = sym (ap (trusted_in Biu) (same_Some _ r told))
+trusts_told sc me i st w heard r Rmu told = sym (ap (trusted_in Rmu) (same_Some _ r told))
 
 pub stays-trusted : (kind me : Side) (a b : NodeState) → Stays a b → trusted_of kind me b ≡ trusted_of kind me a
 stays-trusted Biu Biu a b s = s.near
@@ -118,7 +121,7 @@ first_row_trusts sc m slot stage ws trusted all r rs h kind =
         → (go_through sc m (sent_in sc m) me i st (window_in sc m me st)).row ≡ Some x → trusted_in kind x ≡ trusted kind
     of_node me i x st is told =
         let both : (is_good sc me i m.frame slot ≡ true) × (nat_le (ws.first me st) (ws.last me st) ≡ true) = told_by_good sc m slot stage ws me i st x told in
-        let e = goes sc m slot stage ws me i st both.0 (le_from (ws.first me st) (ws.last me st) both.1) in
+        let e = goes sc m slot stage ws me i st both.0 (leb-true (ws.first me st) (ws.last me st) both.1) in
         trusts_told sc me i (kept_in sc m slot stage me i st) (own_window sc m slot stage ws me st) (heard_in sc m slot stage ws me i st) x kind (sym (ap (λ r. r.row) e) ∙ told)
         ∙ ap (λ r. trusted_of kind me r.state) (sym e)
         ∙ stays-trusted kind me st _ (through-stays sc m (sent_in sc m) me i st (window_in sc m me st))
@@ -127,7 +130,7 @@ first_row_trusts sc m slot stage ws trusted all r rs h kind =
     of_row : (me : Side) (i : ℕ) (x : Row) (o : Option NodeState) → slice_get (of_kind me m.nodes) i ≡ o
         → option_map (λ st. (go_through sc m (sent_in sc m) me i st (window_in sc m me st)).row) o ≡ Some (Some x) → trusted_in kind x ≡ trusted kind
     of_row me i x None is told = cc
-    of_row me i x (Some st) is told = of_node me i x st is (same_some _ (Some x) told)
+    of_row me i x (Some st) is told = of_node me i x st is (same_Some _ (Some x) told)
 
 -- Verdicts.
 
@@ -150,7 +153,7 @@ passed sc place rows b h = go b.ended (verdict_of (judged_of sc place rows ∷ b
     go false (Some cause) p q h = cc
     go false None p q h = record { not_ended = p; no_cause = q; is = rw (p, q, with_stage) refl }
 
-nobody_trusted : (p : ℕ → Bool) → 0 < how_many (λ j. has 0 j && p j) → ⊥
+pub nobody_trusted : (p : ℕ → Bool) → 0 < how_many (λ j. has 0 j && p j) → ⊥
 nobody_trusted p some =
     let one : Passing (λ j. has 0 j && p j) 0 16 = one_of_many (λ j. has 0 j && p j) some in
     let yes_it : has 0 one.at ≡ true = and_first (has 0 one.at) (p one.at) one.passes in
@@ -204,7 +207,7 @@ taken_in_stage sc place rows me i j below good some =
     let s : JudgedStage = judged_of sc place rows in
     subst (λ k. list_any (λ i. has (s.good k) i && is_something (s.sight k i j)) (numbers 16) ≡ true) (sym (other_twice me))
     (passes_at (λ i. has (s.good me) i && is_something (s.sight me i j)) i below
-    (and_both (has (s.good me) i) (is_something (s.sight me i j)) (has-set_of i (λ i. is_good sc me i place.frame place.slot) below ∙ good) some))
+    (and_from (has (s.good me) i) (is_something (s.sight me i j)) (has-set_of i (λ i. is_good sc me i place.frame place.slot) below ∙ good) some))
 
 -- two good receivers that see a source unlike
 pub unlike_in_stage : (sc : Scenario) (place : Place) (rows : Each (Option Row)) (me : Side) (a b j : ℕ)
@@ -215,10 +218,10 @@ unlike_in_stage sc place rows me a b j below_a below_b good_a good_b unlike =
     let s : JudgedStage = judged_of sc place rows in
     subst (λ k. list_any (λ a. has (s.good k) a && list_any (λ b. has (s.good k) b && not (are_alike s.eps (s.sight k a j) (s.sight k b j))) (numbers 16)) (numbers 16) ≡ true) (sym (other_twice me))
     (passes_at (λ a. has (s.good me) a && list_any (λ b. has (s.good me) b && not (are_alike s.eps (s.sight me a j) (s.sight me b j))) (numbers 16)) a below_a
-    (and_both (has (s.good me) a) _ (has-set_of a (λ i. is_good sc me i place.frame place.slot) below_a ∙ good_a)
+    (and_from (has (s.good me) a) _ (has-set_of a (λ i. is_good sc me i place.frame place.slot) below_a ∙ good_a)
     (passes_at (λ b. has (s.good me) b && not (are_alike s.eps (s.sight me a j) (s.sight me b j))) b below_b
-    (and_both (has (s.good me) b) (not (are_alike s.eps (s.sight me a j) (s.sight me b j))) (has-set_of b (λ i. is_good sc me i place.frame place.slot) below_b ∙ good_b)
-    (not_so (are_alike s.eps (s.sight me a j) (s.sight me b j)) unlike)))))
+    (and_from (has (s.good me) b) (not (are_alike s.eps (s.sight me a j) (s.sight me b j))) (has-set_of b (λ i. is_good sc me i place.frame place.slot) below_b ∙ good_b)
+    (not_from_false (are_alike s.eps (s.sight me a j) (s.sight me b j)) unlike)))))
 
 -- values seen alike are equal
 pub alike_values : (eps : ℕ) (x y : Option Heard) → are_alike eps (see_value x) (see_value y) ≡ true → x ≡ y

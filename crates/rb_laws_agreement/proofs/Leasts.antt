@@ -1,9 +1,9 @@
 -- The least of some times.
 use Rattle.std.proofs.Common.{◌≡◌, ℕ, zero, suc, ◌<◌, ◌≤◌, Option, Some, None, ◌⊎◌, inl, inr, refl, sym, ◌∙◌, ap, arith}
 use Rattle.std.proofs.lemmas.Bool.{cases_lt}
+use Rattle.std.proofs.lemmas.Option.{same_Some}
 use Rattle.rb_base.specs.Nodes.{Side}
 use Rattle.rb_base.specs.Nodes.Side.{Biu, Rmu}
-use Rattle.rb_laws_agreement.proofs.Tests.{same_some}
 
 -- The times of numbers.
 
@@ -25,7 +25,7 @@ with-next time n at before here j t lt is =
     elim (cases_lt j n) [ inl below ↦ before j t below is | inr late ↦ (let same : n ≡ j = omega arith in here t (ap time same ∙ is)) ]
 
 one-time : (o : Option ℕ) (x : ℕ) → o ≡ Some x → (t : ℕ) → o ≡ Some t → x ≤ t
-one-time o x e t is = let same : x ≡ t = same_some x t (sym e ∙ is) in omega arith
+one-time o x e t is = let same : x ≡ t = same_Some x t (sym e ∙ is) in omega arith
 
 no-time : (o : Option ℕ) → o ≡ None → (t : ℕ) → o ≡ Some t → ⊥
 no-time o e t is = let both : None ≡ Some t = sym e ∙ is in cc

@@ -1,6 +1,6 @@
 -- The moment after a window: its good nodes were good before, and each became what its close made of it.
 use Rattle.std.proofs.Common.{◌≡◌, ℕ, ◌+◌, ◌*◌, ◌/◌, ◌%◌, ◌<◌, true, List, length, map, Some, option_map, slice_get, sym, ◌∙◌, ap, arith}
-use Rattle.std.proofs.lemmas.Option.{slice_get-map}
+use Rattle.std.proofs.lemmas.Option.{same_Some, slice_get-map}
 use Rattle.std.proofs.lemmas.List.FromFn.{length-map-range_with_len}
 use Rattle.rb_base.specs.Counting.{numbers}
 use Rattle.rb_base.specs.Nodes.{Side, other}
@@ -14,10 +14,11 @@ use Rattle.rb_rules.specs.Ports.{HandIn}
 use Rattle.rb_rules.specs.Rounds.{Moment, Result, window_in, sent_in, go_through, results_of, book_after, after_window}
 use Rattle.rb_rules.specs.Windows.{exact_window, sync_windows, windows_of_frame}
 use Rattle.rb_rules.proofs.RoundStates.{state-after}
-use Rattle.rb_rules.proofs.WindowNumbers.{get-front, get-back, get-number, length-each}
-use Rattle.rb_laws_agreement.proofs.Tests.{Present, same_some}
+use Rattle.rb_rules.proofs.WindowNumbers.{get-number, length-each}
+use Rattle.rb_laws_agreement.proofs.Tests.{Present}
 use Rattle.rb_laws_agreement.proofs.JudgedWindows.{rows_of}
 use Rattle.rb_base.specs.declared.values.Heard.{Heard}
+use Rattle.rb_base.proofs.Plain.{slice_get-back, slice_get-front}
 use Rattle.rb_laws_agreement.proofs.Invariant.{Shared, kind_in, IsGoodNode, is_good_now, slot_numbered, IsVector, IsOwn, Agree}
 use Rattle.rb_laws_agreement.proofs.Goodnesses.{good_earlier, slot_goes_on}
 use Rattle.rb_laws_agreement.proofs.Settings.{Setting, stages_with, good_state, after}
@@ -45,7 +46,7 @@ came_from sc hands n m s agree me i now h =
     record {
       st = old.value;
       was = record { there = old.is; good = good };
-      is = same_some (after sc m me i old.value) now (sym (state-after sc m me i old.value old.is) ∙ h.there);
+      is = same_Some (after sc m me i old.value) now (sym (state-after sc m me i old.value old.is) ∙ h.there);
     }
 
 -- the nodes are as many as before
@@ -62,7 +63,7 @@ exact-there : (sizes : Sizes) (plan : Plan) (n : ℕ) → n < 3 * sync_slot_of s
 exact-there sizes plan n h =
     let front : List Window = map (exact_window plan) (numbers (3 * sync_slot_of sizes)) in
     let long : length front ≡ 3 * sync_slot_of sizes = length-map-range_with_len (exact_window plan) 0 (3 * sync_slot_of sizes) in
-    get-front front (sync_windows sizes plan) n (omega arith) ∙ slice_get-map (exact_window plan) (numbers (3 * sync_slot_of sizes)) n
+    slice_get-front front (sync_windows sizes plan) n (omega arith) ∙ slice_get-map (exact_window plan) (numbers (3 * sync_slot_of sizes)) n
     ∙ ap (option_map (exact_window plan)) (get-number (3 * sync_slot_of sizes) n h)
 
 -- from the sync slot on
@@ -70,7 +71,7 @@ pub sync-there : (sizes : Sizes) (plan : Plan) (r : ℕ) → slice_get (windows_
 sync-there sizes plan r =
     let front : List Window = map (exact_window plan) (numbers (3 * sync_slot_of sizes)) in
     let long : length front ≡ 3 * sync_slot_of sizes = length-map-range_with_len (exact_window plan) 0 (3 * sync_slot_of sizes) in
-    ap (λ m. slice_get (windows_of_frame sizes plan) (m + r)) (sym long) ∙ get-back front (sync_windows sizes plan) r
+    ap (λ m. slice_get (windows_of_frame sizes plan) (m + r)) (sym long) ∙ slice_get-back front (sync_windows sizes plan) r
 
 -- the book after a window below the sync slot is that with its stage
 pub book_exact : (sc : Scenario) (m : Moment) (slot q : ℕ) → slot < sync_slot_of sc.sizes → q < 3 → m.window ≡ 3 * slot + q

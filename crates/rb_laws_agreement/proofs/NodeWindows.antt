@@ -125,13 +125,13 @@ sent-at sc m slot stage ws me j st is =
     get-some (of_kind me (map_each make m.nodes)) j None (make me j st) (get-each make m.nodes me j ∙ ap (option_map (make me j)) is)
     ∙ ap (sending_in sc m me j st) (ws.are me st)
 
-sending-none : (sizes : Sizes) (plan : Plan) (me : Side) (j : ℕ) (st : NodeState) (slot stage word : ℕ)
+pub sending-none : (sizes : Sizes) (plan : Plan) (me : Side) (j : ℕ) (st : NodeState) (slot stage word : ℕ)
     → message_said sizes me j st slot stage word ≡ None → sending sizes plan me j st slot stage word ≡ None
 unfolding sending
 sending-none sizes plan me j st slot stage word none =
     ap (option_and_then (λ m. option_map (λ tick. record { tick = tick; message = m }) (send_tick_of sizes plan st slot stage))) none
 
-sending-some : (sizes : Sizes) (plan : Plan) (me : Side) (j : ℕ) (st : NodeState) (slot stage word tick : ℕ) (message : Message)
+pub sending-some : (sizes : Sizes) (plan : Plan) (me : Side) (j : ℕ) (st : NodeState) (slot stage word tick : ℕ) (message : Message)
     → message_said sizes me j st slot stage word ≡ Some message → send_tick_of sizes plan st slot stage ≡ Some tick
     → sending sizes plan me j st slot stage word ≡ Some (record { tick = tick; message = message })
 unfolding sending
@@ -155,7 +155,7 @@ sense_in sc m slot stage ws me i st j =
     sense_of (expect_of sc.sizes sc.plan.version (kept_in sc m slot stage me i st) slot stage)
     (map (arrival_of (clock_of sc me i)) (heard_in sc m slot stage ws me i st j))
 
-from-good : (sc : Scenario) (me : Side) (i : ℕ) (span : Span) (sent : List (Option Sending)) (j : ℕ)
+pub from-good : (sc : Scenario) (me : Side) (i : ℕ) (span : Span) (sent : List (Option Sending)) (j : ℕ)
     → is_good sc (other me) j span.place.frame span.place.slot ≡ true
     → heard_from sc me i span sent j ≡ option_to_list (option_map (coming_of sc me i j span.place.frame) (at_source sent j))
 unfolding heard_from

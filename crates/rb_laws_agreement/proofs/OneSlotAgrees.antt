@@ -2,12 +2,14 @@
 use Rattle.std.proofs.Common.{◌≡◌, ℕ, zero, suc, ◌<◌, ◌≤◌, ◌&&◌, ◌⊎◌, inl, inr, Bool, true, false, List, Option, Some, None, unwrap_or, if◌then◌else◌, refl, sym, ◌∙◌, ap, subst, arith}
 use Rattle.std.specs.List.{list_any}
 use Rattle.std.proofs.lemmas.Bool.{cases_lt}
+use Rattle.std.proofs.lemmas.Option.{same_Some}
 use Rattle.rb_base.specs.Counting.{count_if, numbers}
 use Rattle.rb_base.specs.Nodes.{Side, other}
 use Rattle.rb_base.specs.Nodes.Side.{Biu, Rmu}
 use Rattle.rb_base.specs.declared.values.Delivery.{Delivery}
 use Rattle.rb_base.specs.declared.values.Heard.{Heard}
 use Rattle.rb_base.specs.declared.values.Heard.TheVariants.{Fault}
+use Rattle.rb_base.proofs.Plain.{and_first}
 use Rattle.rb_rules.specs.declared.role.Role.{Role}
 use Rattle.rb_rules.specs.declared.role.Role.TheVariants.{Data}
 use Rattle.rb_rules.specs.ExactStage.{at_source, delivery_of, is_sender, votes_in}
@@ -16,18 +18,18 @@ use Rattle.rb_rules.specs.Slots.{Sender, same_side, has_third_stage, listens, ro
 use Rattle.rb_rules.specs.Slots.Sender.{Nobody, Node, EachTrusted}
 use Rattle.rb_rules.specs.Standing.{is_unlike}
 use Rattle.rb_rules.specs.StandsFor.{votes_on}
+use Rattle.rb_rules.proofs.Slots.{one_or_other, other_twice, same_side_other}
 use Rattle.rb_rules.proofs.Votes.{closing_vote_is, same_vote, taken_at}
 use Rattle.rb_laws_agreement.specs.OneSlot.{AccuseNoGoodNode, DeliverTheirVotes, Exchange, GoodOutnumber, IsExchange, KeepsPremise, NoneIsAsymmetric, OneSlotAgrees, VotesAgree, VotesAreValid, delivered_by, sender_of, state_after, takes_after, value_sent, vote_after}
 use Rattle.rb_laws_agreement.specs.Values.{vote_on}
-use Rattle.rb_laws_agreement.proofs.ExactWindows.{other_twice, IsSingle, expected_at, closing_at}
+use Rattle.rb_laws_agreement.proofs.ExactWindows.{IsSingle, expected_at, closing_at}
 use Rattle.rb_laws_agreement.proofs.FirstStages.{nothing-past}
 use Rattle.rb_laws_agreement.proofs.Numbers.{how_many, one_of_many}
 use Rattle.rb_laws_agreement.proofs.OneSlotStages.{NoneUnlike, Stands, all-vote, good-below, got-is, hears-good, idle-vote, parts, said, sender-held, sent-is, single, stands-first, stands-next, stays, takes-alike, vote-held, vote-kept, voted}
 use Rattle.rb_laws_agreement.proofs.SecondStages.{sender-is, voters-vote}
-use Rattle.rb_laws_agreement.proofs.Senders.{one_or_other}
-use Rattle.rb_laws_agreement.proofs.Speaking.{IsOnly, got_is_said, listens_third, only-alike, own_is_said, same_side_other, says_got, says_vote, vote_is_said, voters_deaf}
+use Rattle.rb_laws_agreement.proofs.Speaking.{IsOnly, got_is_said, listens_third, only-alike, own_is_said, says_got, says_vote, vote_is_said, voters_deaf}
 use Rattle.rb_laws_agreement.proofs.StageVotes.{how_many-count}
-use Rattle.rb_laws_agreement.proofs.Tests.{Passing, and_first, passes_at, passing, same_some, true_or_false}
+use Rattle.rb_laws_agreement.proofs.Tests.{Passing, passes_at, passing, true_or_false}
 use Rattle.rb_laws_agreement.proofs.ThirdStages.{third-voted}
 
 -- One stage.
@@ -169,7 +171,7 @@ none-unlike-2 x trusted owners e s0 s1 me i j g h value reference =
     let relay : x.good (other (kind_in x)) j ≡ true = ap (λ k. x.good (other k) j) (sym mine.1) ∙ h in
     let sent : st.sent ≡ Some (value_sent x i) =
     ap (λ k. (state_after x 1 k i).sent) mine.1 ∙ sent-is x (kind_in x) i (value_sent x i) (sender-says x trusted owners s0 i sender own) in
-    let same : value_sent x i ≡ value = same_some (value_sent x i) value (sym sent ∙ is.1) in
+    let same : value_sent x i ≡ value = same_Some (value_sent x i) value (sym sent ∙ is.1) in
     let got : (state_after x 1 (other me) j).got ≡ Some value =
     ap (λ k. (state_after x 1 (other k) j).got) mine.1 ∙ got-own x trusted owners e s0 i sender own j relay ∙ ap Some same in
     let says_it : IsOnly (said x 1 (other me) j) value =
@@ -256,7 +258,7 @@ none-unlike-3 x trusted owners e pr v s1 s2 me i j g h value reference =
     ap (is_unlike value) (hears-good x trusted owners 2 e s2 (omega arith) me i j g h).takes ∙ only-alike (said x 2 (other me) j) value says_it
   where
     by_test : (b : Bool) (vote : Heard) → (if b then Some vote else None) ≡ Some value → (b ≡ true) × (vote ≡ value)
-    by_test true vote h = (refl, same_some vote value h)
+    by_test true vote h = (refl, same_Some vote value h)
     by_test false vote h = cc
 
 -- The slot.

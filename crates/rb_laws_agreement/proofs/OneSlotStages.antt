@@ -8,6 +8,7 @@ use Rattle.rb_base.specs.Nodes.Side.{Biu, Rmu}
 use Rattle.rb_base.specs.Sizes.{Sizes, sync_slot_of}
 use Rattle.rb_base.specs.declared.values.Heard.{Heard}
 use Rattle.rb_base.specs.declared.values.Heard.TheVariants.{Fault}
+use Rattle.rb_base.proofs.Plain.{less-differs}
 use Rattle.rb_rules.specs.declared.role.Role.{Role}
 use Rattle.rb_rules.specs.declared.sense.Sense.{Sense}
 use Rattle.rb_rules.specs.ExactStage.{says_of, says, keep_sent, at_source, votes_in, reference_value, owners_after, close_exact, taken_of_sender}
@@ -19,13 +20,14 @@ use Rattle.rb_rules.specs.Slots.Sender.{Nobody, Node}
 use Rattle.rb_rules.specs.Standing.{does_wrong, is_unlike}
 use Rattle.rb_rules.proofs.ExactStages.{idle_expects_nobody, vote_over_nothing}
 use Rattle.rb_rules.proofs.RoundStates.{Stays, stays-trans, keeping-stays, close-stays}
+use Rattle.rb_rules.proofs.Slots.{other_twice}
 use Rattle.rb_rules.proofs.Votes.{closing_vote_is}
 use Rattle.rb_laws_agreement.specs.OneSlot.{Exchange, closes_in, state_after, takes_after, Brings, IsSpared, IsExchange, NoneIsAsymmetric, KeepsPremise, sender_of}
 use Rattle.rb_laws_agreement.specs.Values.{vote_on}
 use Rattle.rb_laws_agreement.proofs.Tests.{true_or_false}
 use Rattle.rb_laws_agreement.proofs.Goodnesses.{few_nodes, exact_role, single_sender}
-use Rattle.rb_laws_agreement.proofs.ExactWindows.{other_twice, IsSingle, expects_who_speaks, expected_at, closing_at, IsSenseOf, takes_what_is_said, does_right, sent_by, with_sent, keeping-is, ExactClose, exact_close, spares_right, spares_alike}
-use Rattle.rb_laws_agreement.proofs.Exchanges.{trusted-either, far-trusted, close-exact, not-sync, eligible}
+use Rattle.rb_laws_agreement.proofs.ExactWindows.{IsSingle, expects_who_speaks, expected_at, closing_at, IsSenseOf, takes_what_is_said, does_right, sent_by, with_sent, keeping-is, ExactClose, exact_close, spares_right, spares_alike}
+use Rattle.rb_laws_agreement.proofs.Exchanges.{trusted-either, far-trusted, close-exact, eligible}
 use Rattle.rb_laws_agreement.proofs.JudgedWindows.{stays-trusted}
 
 -- what node j of a kind says in the stage after these, and the vote of a node's close of it
@@ -144,7 +146,7 @@ stays x trusted owners q e me i =
     let st : NodeState = state_after x q me i in
     let kept : NodeState = keep_sent x.sizes me i st x.slot (q + 1) (x.word i) in
     let exact : close x.sizes me i kept x.slot (q + 1) 0 (x.came (q + 1) me i) ≡ close_exact x.sizes me i kept x.slot (q + 1) (x.came (q + 1) me i) =
-    close-exact x.sizes me i kept x.slot (q + 1) 0 (x.came (q + 1) me i) (not-sync x.slot (sync_slot_of x.sizes) e.below) in
+    close-exact x.sizes me i kept x.slot (q + 1) 0 (x.came (q + 1) me i) (less-differs x.slot (sync_slot_of x.sizes) e.below) in
     stays-trans st kept (closes_in x (q + 1) me i st).state (keeping-stays x.sizes me i st x.slot (q + 1) (x.word i))
     (subst (λ o. Stays kept o.state) exact (close-stays x.sizes me i kept x.slot (q + 1) 0 (x.came (q + 1) me i)))
 

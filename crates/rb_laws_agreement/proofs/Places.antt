@@ -1,6 +1,6 @@
 -- The moments of a run by their places.
 use Rattle.std.proofs.Common.{◌≡◌, ℕ, ◌+◌, ◌-◌, ◌*◌, ◌<◌, ◌≤◌, true, false, List, inl, inr, sym, ◌∙◌, ap, arith}
-use Rattle.std.proofs.lemmas.Bool.{cases_order}
+use Rattle.std.proofs.lemmas.Bool.{cases_order, false_from_ne_true}
 use Rattle.std.proofs.Math.Nat.{mul-le-mul_right, add-sub_of_le}
 use Rattle.rb_base.specs.Nodes.{Side}
 use Rattle.rb_base.specs.Sizes.{sync_slot_of}
@@ -11,7 +11,6 @@ use Rattle.rb_rules.specs.NodeState.{NodeState}
 use Rattle.rb_rules.specs.Ports.{HandIn}
 use Rattle.rb_rules.specs.Rounds.{moment, windows_in}
 use Rattle.rb_rules.proofs.Books.{moments-on}
-use Rattle.rb_laws_agreement.proofs.Tests.{so_not}
 use Rattle.rb_laws_agreement.proofs.Invariant.{Shared, IsGoodNode, slot_numbered, Agree}
 use Rattle.rb_laws_agreement.proofs.Agreement.{IsAgreed, agreement}
 
@@ -41,7 +40,7 @@ same_place size f w g v e small_w small_v =
 pub running_earlier : (sc : Scenario) (hands : List HandIn) (n k : ℕ) → n ≤ k → IsRunning (moment sc hands k) → IsRunning (moment sc hands n)
 running_earlier sc hands n k le running =
     let e : n + (k - n) ≡ k = add-sub_of_le le in
-    so_not (moment sc hands n).book.ended (λ ended.
+    false_from_ne_true (moment sc hands n).book.ended (λ ended.
     let same : (moment sc hands (n + (k - n))).book ≡ (moment sc hands n).book = (moments-on sc hands n (k - n)).over ended in
     let both : true ≡ false = sym ended ∙ ap (λ b. b.ended) (sym same) ∙ ap (λ x. (moment sc hands x).book.ended) e ∙ running in cc)
 

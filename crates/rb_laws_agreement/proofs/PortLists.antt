@@ -39,7 +39,7 @@ port-after sc rows ports i within =
 
 -- As a frame begins.
 
-with-state-long : (k state : ℕ) (ports : List PortState) → length (with_state k state ports) ≡ length ports
+pub with-state-long : (k state : ℕ) (ports : List PortState) → length (with_state k state ports) ≡ length ports
 with-state-long k state [] = refl
 with-state-long zero state (p ∷ ps) = refl
 with-state-long (suc k) state (p ∷ ps) = ap suc (with-state-long k state ps)
@@ -101,7 +101,7 @@ handed-at frame i (x ∷ xs) ports d h = go (x.frame == frame) (λ ps. handed-at
 
 -- There is a port for each BIU.
 
-stepped-long : (sc : Scenario) (hands : List HandIn) (m : Moment) (over in_frame : Bool) → length (stepped sc hands m over in_frame).ports ≡ length m.ports
+pub stepped-long : (sc : Scenario) (hands : List HandIn) (m : Moment) (over in_frame : Bool) → length (stepped sc hands m over in_frame).ports ≡ length m.ports
 unfolding after_window begin_frame
 stepped-long sc hands m over true = ports-long _ m.ports
 stepped-long sc hands m over false = handed-long (m.frame + 1) hands m.ports

@@ -1,16 +1,18 @@
 -- What a verdict that gives no cause says of the frame so far: of each kind the trusted good nodes outnumber the others of which
 -- something was taken, and of one kind none of these others was seen unlike.
 use Rattle.std.proofs.Common.{◌≡◌, ℕ, ◌+◌, ◌<◌, ◌≤◌, Bool, true, false, ◌&&◌, ◌||◌, not, if◌then◌else◌, Option, Some, None, List, refl, sym, ◌∙◌, ap, nat_lt, ◌⊎◌, inl, inr, arith}
+use Rattle.std.proofs.lemmas.Bool.{and_from, not_from_false}
 use Rattle.std.proofs.lemmas.Bool.Decides.{nat_tests}
 use Rattle.rb_base.specs.Nodes.{Side, has, set_of, size}
 use Rattle.rb_base.specs.Nodes.Side.{Biu, Rmu}
+use Rattle.rb_base.proofs.Plain.{none_below}
 use Rattle.rb_base.proofs.Sets.{has-set_of, same_set_of}
 use Rattle.rb_base.proofs.SetSizes.{size_some, size_within_two}
 use Rattle.rb_rules.specs.declared.cause.Cause.{Cause}
 use Rattle.rb_rules.specs.declared.cause.Cause.TheVariants.{FewGoodBiu, FewGoodRmu, TwoSided}
 use Rattle.rb_rules.specs.Goodness.{Scenario, is_good, good_at}
 use Rattle.rb_rules.specs.Judging.{JudgedStage, ClassSets, good_now, trusted_now, is_suspect, is_asymmetric, is_benign, classes_of, are_few_good, some_asymmetric, cause_of, verdict_of}
-use Rattle.rb_laws_agreement.proofs.Tests.{true_or_false, and_both, not_so}
+use Rattle.rb_laws_agreement.proofs.Tests.{true_or_false}
 use Rattle.rb_laws_agreement.proofs.Numbers.{how_many, how_many-is}
 
 -- a trusted node that is not good and of which something was taken in the frame
@@ -30,9 +32,6 @@ pub record Premise (sc : Scenario) (frame slot : ℕ) (trusted : Side → ℕ) (
 
 lt-from : (a b : ℕ) → not (nat_lt a b) ≡ false → a < b
 lt-from a b h = grind (arith, nat_tests)
-
-none-from : (a : ℕ) → nat_lt 0 a ≡ false → a ≡ 0
-none-from a h = grind (arith, nat_tests)
 
 -- the parts of a verdict that gives no cause
 pub record NoCause (biu rmu : ClassSets) : Type 0 where
@@ -83,11 +82,11 @@ alike_of : (kind : Side) (stages : List JudgedStage) → some_asymmetric (classe
 unfolding classes_of
 alike_of kind stages h j below suspect =
     let c : ClassSets = classes_of kind stages in
-    let none : size c.asymmetric ≡ 0 = none-from (size c.asymmetric) h in
+    let none : size c.asymmetric ≡ 0 = none_below (size c.asymmetric) h in
     elim (true_or_false (is_asymmetric kind stages j)) [
       | inl is ↦
           let here : has c.asymmetric j ≡ true =
-          has-set_of j (λ j. is_suspect kind stages j && is_asymmetric kind stages j) below ∙ and_both (is_suspect kind stages j) (is_asymmetric kind stages j) suspect is in
+          has-set_of j (λ j. is_suspect kind stages j && is_asymmetric kind stages j) below ∙ and_from (is_suspect kind stages j) (is_asymmetric kind stages j) suspect is in
           absurd (omega (arith, size_some c.asymmetric j below here))
       | inr is ↦ is
     ]
@@ -117,7 +116,7 @@ premise_holds sc frame slot trusted stages same_trusted same_good h =
     omega (arith, most_of kind stages (few kind)) in
     let alike : (kind : Side) → some_asymmetric (classes_of kind stages) ≡ false → (j : ℕ) → j < 16 → has (trusted kind) j ≡ true → is_good sc kind j frame slot ≡ false → is_asymmetric kind stages j ≡ false =
     λ kind none j below t g.
-    alike_of kind stages none j below (suspect kind j below ∙ and_both (has (trusted kind) j) (not (is_good sc kind j frame slot)) t (not_so (is_good sc kind j frame slot) g)) in
+    alike_of kind stages none j below (suspect kind j below ∙ and_from (has (trusted kind) j) (not (is_good sc kind j frame slot)) t (not_from_false (is_good sc kind j frame slot) g)) in
     elim parts.one_side [
       | inl none ↦ record { most = most; side = Biu; alike = alike Biu none }
       | inr none ↦ record { most = most; side = Rmu; alike = alike Rmu none }

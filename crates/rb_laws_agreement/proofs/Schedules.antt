@@ -1,15 +1,16 @@
 -- The schedule: equal votes give equal owners, and each owner is trusted.
 use Rattle.std.proofs.Common.{◌≡◌, ℕ, zero, suc, ◌+◌, ◌<◌, ◌≤◌, ◌&&◌, nat_lt, Bool, true, false, cond, List, [], ◌∷◌, ◌++◌, length, map, take, filter, Some, slice_get, get_or, refl, sym, ◌∙◌, ap, subst, arith}
 use Rattle.std.specs.List.{flat_map, range_with_len}
+use Rattle.std.proofs.lemmas.Option.{same_Some}
 use Rattle.rb_base.specs.Counting.{numbers}
 use Rattle.rb_base.specs.Nodes.{has}
 use Rattle.rb_base.specs.Sizes.{Sizes}
 use Rattle.rb_base.specs.declared.values.Heard.{Heard}
 use Rattle.rb_base.specs.declared.values.Heard.TheVariants.{Fault}
-use Rattle.rb_rules.specs.declared.role.Role.TheVariants.{Schedule}
+use Rattle.rb_base.proofs.Plain.{and_first}
 use Rattle.rb_rules.specs.Owners.{request_in, owners_in_pass, owners_of}
 use Rattle.rb_rules.specs.Slots.{role_of, sender_in}
-use Rattle.rb_laws_agreement.proofs.Tests.{and_first, same_some, less_true}
+use Rattle.rb_rules.proofs.Slots.{schedule_role}
 
 -- each item of a list is so
 abbrev pub AllIn : (ℕ → Type 0) → List ℕ → Type 0
@@ -19,7 +20,7 @@ pub all-nil : (P : ℕ → Type 0) → AllIn P []
 all-nil P k p h = cc
 
 all-cons : (P : ℕ → Type 0) (x : ℕ) (xs : List ℕ) → P x → AllIn P xs → AllIn P (x ∷ xs)
-all-cons P x xs here rest zero p h = subst P (same_some x p h) here
+all-cons P x xs here rest zero p h = subst P (same_Some x p h) here
 all-cons P x xs here rest (suc k) p h = rest k p h
 
 all-tail : (P : ℕ → Type 0) (x : ℕ) (xs : List ℕ) → AllIn P (x ∷ xs) → AllIn P xs
@@ -70,10 +71,6 @@ take-range f (suc k) from (x ∷ xs) long each =
 
 pub take-are : (f : ℕ → Heard) (k : ℕ) (xs : List Heard) → k ≤ length xs → ((t : ℕ) → t < k → get_or xs t Fault ≡ f t) → take k xs ≡ map f (numbers k)
 take-are f k xs long each = take-range f k 0 xs long (λ t h. each t h ∙ ap f (let g : t ≡ 0 + t = omega arith in g))
-
--- the first slots are for requests
-pub schedule_role : (sizes : Sizes) (t : ℕ) → t < sizes.bius → role_of sizes t ≡ Schedule t
-schedule_role sizes t h = rw (less_true t sizes.bius h) refl
 
 -- whose sender is the same by any owners
 pub same_requester : (sizes : Sizes) (bius rmus : ℕ) (a b : List ℕ) (t : ℕ) → t < sizes.bius

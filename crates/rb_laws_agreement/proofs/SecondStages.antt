@@ -1,14 +1,17 @@
 -- Stage 2 of a slot: after it the good nodes of the sender's kind hold one vote.
-use Rattle.std.proofs.Common.{◌≡◌, ℕ, ◌+◌, ◌*◌, ◌<◌, ◌==◌, ◌&&◌, ◌||◌, not, nat_lt, Bool, true, false, List, [], ◌∷◌, length, map, inl, inr, Option, Some, None, is_some, unwrap_or, slice_get, slice_set, get_or, if◌then◌else◌, refl, sym, ◌∙◌, ap, subst, arith}
+use Rattle.std.proofs.Common.{◌≡◌, ℕ, ◌+◌, ◌*◌, ◌<◌, ◌==◌, ◌&&◌, ◌||◌, not, nat_lt, Bool, true, false, List, [], ◌∷◌, length, map, inl, inr, Option, Some, None, unwrap_or, slice_get, slice_set, get_or, if◌then◌else◌, refl, sym, ◌∙◌, ap, subst, arith}
 use Rattle.std.specs.Prelude.{IfSome}
 use Rattle.std.specs.List.{list_any, cons_option}
+use Rattle.std.proofs.lemmas.Bool.{eqb-true}
 use Rattle.std.proofs.lemmas.List.{get_or-set_same}
+use Rattle.std.proofs.lemmas.Option.{same_Some}
 use Rattle.rb_base.specs.Counting.{numbers}
 use Rattle.rb_base.specs.Nodes.{Side, other, has}
 use Rattle.rb_base.specs.Nodes.Side.{Biu, Rmu}
 use Rattle.rb_base.specs.Sizes.{sync_slot_of}
 use Rattle.rb_base.specs.declared.values.Heard.{Heard}
 use Rattle.rb_base.specs.declared.values.Heard.TheVariants.{Fault}
+use Rattle.rb_base.proofs.Plain.{and_first, and_second, none-if}
 use Rattle.rb_rules.specs.declared.role.Role.{Role}
 use Rattle.rb_rules.specs.declared.sense.Sense.{Sense}
 use Rattle.rb_rules.specs.Book.{of_kind, judged_of}
@@ -25,18 +28,19 @@ use Rattle.rb_rules.specs.Slots.Sender.{Nobody, Node, EachTrusted}
 use Rattle.rb_rules.specs.Standing.{Standing, taken_of, is_unlike}
 use Rattle.rb_rules.proofs.ExactStages.{idle_expects_nobody, vote_over_nothing}
 use Rattle.rb_rules.proofs.Senses.{IsCarried}
+use Rattle.rb_rules.proofs.Slots.{one_or_other, other_twice, same_side-is}
 use Rattle.rb_rules.proofs.Votes.{same_vote}
-use Rattle.rb_laws_agreement.proofs.Tests.{true_or_false, and_first, and_second, Present, Passing, same_some, or_neither_second, equal_from}
+use Rattle.rb_laws_agreement.proofs.Tests.{true_or_false, Present, Passing, or_neither_second}
 use Rattle.rb_laws_agreement.proofs.Numbers.{one_of_many}
 use Rattle.rb_laws_agreement.proofs.Premises.{Premise, is_sound}
 use Rattle.rb_laws_agreement.proofs.Goodnesses.{few_nodes, exact_role, single_sender}
 use Rattle.rb_laws_agreement.proofs.Invariant.{Shared, sender_of, kind_in, IsGoodNode, is_good_now, IsOwn, GoodSent, HasRelays, HasVoted}
-use Rattle.rb_laws_agreement.proofs.ExactWindows.{other_twice, IsSingle, expected_at, closing_at}
+use Rattle.rb_laws_agreement.proofs.ExactWindows.{IsSingle, expected_at, closing_at}
 use Rattle.rb_laws_agreement.proofs.Exchanges.{sender-held}
 use Rattle.rb_laws_agreement.proofs.NodeWindows.{Windows, sense_in, word_at}
 use Rattle.rb_laws_agreement.proofs.StageVotes.{one_voice}
-use Rattle.rb_laws_agreement.proofs.Senders.{sender_is_trusted, one_or_other}
-use Rattle.rb_laws_agreement.proofs.Speaking.{IsOnly, only-fits, only-alike, says_got, says_nothing, got_is_said, listens_second, voters_listen, same_side-is}
+use Rattle.rb_laws_agreement.proofs.Senders.{sender_is_trusted}
+use Rattle.rb_laws_agreement.proofs.Speaking.{IsOnly, only-fits, only-alike, says_got, says_nothing, got_is_said, listens_second, voters_listen}
 use Rattle.rb_laws_agreement.proofs.Settings.{Setting, windows, stages_with, good_here, good_state, premise, AllCarried, all_heard, all_seen, all_alike, taken, after, Closed, closes, NoneUnlike}
 use Rattle.rb_laws_agreement.proofs.Carrying.{all_carried}
 use Rattle.rb_laws_agreement.proofs.JudgedWindows.{rows_of}
@@ -46,7 +50,7 @@ use Rattle.rb_laws_agreement.proofs.NextMoments.{next, was_good, CameFrom, came_
 pub relays : (sc : Scenario) (hands : List HandIn) (n : ℕ) (m : Moment) (s : Shared) (slot : ℕ) → Setting sc hands n m s slot 1 → HasRelays sc hands m s slot
 relays sc hands n m s slot c = c.agree.relayed slot c.below c.at
 
-unwrap-fits : (o : Option Heard) → IfSome o IsCarried → IsCarried (unwrap_or o Fault)
+pub unwrap-fits : (o : Option Heard) → IfSome o IsCarried → IsCarried (unwrap_or o Fault)
 unwrap-fits None h = tt
 unwrap-fits (Some v) h = h
 
@@ -162,10 +166,6 @@ voted-for sc hands n m s slot c p got sender all i st here =
 
 -- The votes agree.
 
-some-none : (o : Option Heard) → (is_some o ≡ true → ⊥) → o ≡ None
-some-none None h = refl
-some-none (Some v) h = absurd (h refl)
-
 -- a sender that is not good is seen alike, where its kind is: so all relays have got the same
 same-got : (sc : Scenario) (hands : List HandIn) (n : ℕ) (m : Moment) (s : Shared) (slot : ℕ) (c : Setting sc hands n m s slot 1) (p : ℕ) → sender_of sc.sizes s slot ≡ Node p
     → ((j : ℕ) → j < 16 → has (s.trusted (kind_in sc.sizes slot)) j ≡ true → is_good sc (kind_in sc.sizes slot) j m.frame slot ≡ false → is_asymmetric (kind_in sc.sizes slot) (stages_with sc m slot 2) j ≡ false)
@@ -205,7 +205,7 @@ same-taken sc hands n m s slot c me alike a b sta stb here_a here_b j small =
   where
     nothing : (i : ℕ) (st : NodeState) → IsGoodNode sc m me i st → has (s.trusted (other me)) j ≡ false → taken sc hands n m s slot 1 c me i st j ≡ None
     nothing i st here out =
-        some-none (taken sc hands n m s slot 1 c me i st j) (λ some.
+        none-if (taken sc hands n m s slot 1 c me i st j) (λ some.
         let in_it : has (s.trusted (other me)) j ≡ true = (all_seen sc hands n m s slot 1 c me i j st here small some).trusts in
         let both : true ≡ false = sym in_it ∙ out in cc)
 
@@ -311,7 +311,7 @@ pub sender-is : (me : Side) (i : ℕ) (role : Role) (sender : Sender) → is_sen
 sender-is me i role Nobody h = cc
 sender-is me i role EachTrusted h = cc
 sender-is me i role (Node p) h =
-    let same : i ≡ p = equal_from i p (and_second (same_side me (sender_kind role)) (i == p) h) in
+    let same : i ≡ p = eqb-true i p (and_second (same_side me (sender_kind role)) (i == p) h) in
     (ap (λ k. Node k) (sym same), same_side-is me (sender_kind role) (and_first (same_side me (sender_kind role)) (i == p) h))
 
 pub none_unlike_2 : (sc : Scenario) (hands : List HandIn) (n : ℕ) (m : Moment) (s : Shared) (slot : ℕ) (c : Setting sc hands n m s slot 1) → NoneUnlike sc hands n m s slot 1 c
@@ -325,7 +325,7 @@ none_unlike_2 sc hands n m s slot c me i j st source here there value reference 
     let own : IsGoodNode sc m k i st = subst (λ x. IsGoodNode sc m x i st) mine.1 here in
     let relay : IsGoodNode sc m (other k) j source = subst (λ x. IsGoodNode sc m (other x) j source) mine.1 there in
     let sent : GoodSent sc hands m slot i = (relays sc hands n m s slot c).own i sender own.good in
-    let same : sent.value ≡ value = same_some sent.value value (sym (sent.sent st own) ∙ is.1) in
+    let same : sent.value ≡ value = same_Some sent.value value (sym (sent.sent st own) ∙ is.1) in
     let says_it : IsOnly (says sc.sizes (other me) j source slot 2 (word_at sc m slot j)) value =
     subst (IsOnly (says sc.sizes (other me) j source slot 2 (word_at sc m slot j)))
     (ap (λ o. unwrap_or o Fault) (sent.got j source relay) ∙ same) (says_got sc.sizes (other me) j source slot (word_at sc m slot j)) in

@@ -1,6 +1,6 @@
 -- The sender of a slot is a trusted node.
-use Rattle.std.proofs.Common.{◌≡◌, ℕ, Bool, true, false, List, Option, Some, None, slice_get, if◌then◌else◌, refl, sym, ◌∙◌, ap, ◌⊎◌, inl, inr}
-use Rattle.rb_base.specs.Nodes.{Side, other, has}
+use Rattle.std.proofs.Common.{◌≡◌, ℕ, Bool, true, false, List, Option, Some, None, slice_get, if◌then◌else◌, refl, sym, ◌∙◌, ap}
+use Rattle.rb_base.specs.Nodes.{Side, has}
 use Rattle.rb_base.specs.Nodes.Side.{Biu, Rmu}
 use Rattle.rb_rules.specs.declared.role.Role.{Role}
 use Rattle.rb_rules.specs.declared.role.Role.TheVariants.{Schedule, Data, DiagBiu, DiagRmu, Sync}
@@ -29,10 +29,3 @@ sender_is_trusted trusted owners (Data n) p owned h = owned n p (owned-if (slice
 sender_is_trusted trusted owners (DiagBiu i) p owned h = trusted-if (trusted Biu) i p h
 sender_is_trusted trusted owners (DiagRmu i) p owned h = trusted-if (trusted Rmu) i p h
 sender_is_trusted trusted owners Sync p owned h = cc
-
--- a kind is the one or the other
-pub one_or_other : (a k : Side) → (a ≡ k) ⊎ (a ≡ other k)
-one_or_other Biu Biu = inl refl
-one_or_other Biu Rmu = inr refl
-one_or_other Rmu Biu = inr refl
-one_or_other Rmu Rmu = inl refl

@@ -1,6 +1,6 @@
 -- What all good nodes hold in common is what the abstract bus holds.
 use Rattle.std.proofs.Common.{◌≡◌, ℕ, zero, suc, ◌+◌, ◌<◌, ◌==◌, nat_lt, Bool, true, false, List, [], ◌∷◌, ◌++◌, length, length-append, map, take, get_or, if◌then◌else◌, inl, inr, refl, sym, ◌∙◌, ap, subst, arith}
-use Rattle.std.proofs.lemmas.Bool.{cases_lt}
+use Rattle.std.proofs.lemmas.Bool.{cases_lt, eqb-true}
 use Rattle.rb_base.specs.Counting.{numbers}
 use Rattle.rb_base.specs.Nodes.{Side, other, has, set_of}
 use Rattle.rb_base.specs.Nodes.Side.{Biu, Rmu}
@@ -19,7 +19,6 @@ use Rattle.rb_laws_agreement.proofs.FrameTurns.{convicted_all}
 use Rattle.rb_laws_agreement.proofs.Invariant.{Shared, sender_of}
 use Rattle.rb_laws_agreement.proofs.Schedules.{take-are}
 use Rattle.rb_laws_agreement.proofs.Vectors.{vector_slot, vector_slot-lt, convicted_same}
-use Rattle.rb_laws_agreement.proofs.Tests.{equal_from}
 
 -- the bus holds what all good nodes do before a slot
 pub record IsBusOf (s : Shared) (frame slot : ℕ) (bus : AbstractBus) : Type 0 where
@@ -101,7 +100,7 @@ bus-slot sc s frame slot bus value b = record {
         ≡ (if e then owners_of sc.sizes bus.bius (bus.values ++ value ∷ []) else bus.owners)
     go false h = b.owners
     go true h =
-        let full : slot + 1 ≡ sc.sizes.bius = equal_from (slot + 1) sc.sizes.bius h in
+        let full : slot + 1 ≡ sc.sizes.bius = eqb-true (slot + 1) sc.sizes.bius h in
         let all : List Heard = bus.values ++ value ∷ [] in
         let long : length all ≡ sc.sizes.bius = length-append bus.values (value ∷ []) ∙ ap (λ n. n + 1) b.long ∙ full in
         let votes : map (with_value sc s slot value).values (numbers sc.sizes.bius) ≡ all =

@@ -1,6 +1,6 @@
 -- What good nodes hold before a slot, and whom they accuse after it.
 use Rattle.std.proofs.Common.{◌≡◌, ℕ, suc, ◌+◌, ◌-◌, ◌*◌, ◌<◌, ◌≤◌, ◌&&◌, nat_lt, not, true, List, slice_get, inl, inr, sym, ◌∙◌, ap, subst, arith, lit<}
-use Rattle.std.proofs.lemmas.Bool.{cases_lt}
+use Rattle.std.proofs.lemmas.Bool.{and_right, cases_lt}
 use Rattle.rb_base.specs.Nodes.{Side, other, has}
 use Rattle.rb_base.specs.Sizes.{sync_slot_of}
 use Rattle.rb_base.proofs.Sets.{has-set_of}
@@ -15,7 +15,6 @@ use Rattle.rb_rules.specs.Rounds.{Moment, step}
 use Rattle.rb_rules.specs.Slots.{count_of}
 use Rattle.rb_rules.specs.StandsFor.{SparesAllGood}
 use Rattle.rb_laws_agreement.specs.Laws.{TrustAlike, NoGoodNodeIsAccused, NoGoodNodeIsConvicted}
-use Rattle.rb_laws_agreement.proofs.Tests.{and_none}
 use Rattle.rb_laws_agreement.proofs.Invariant.{Shared, is_good_now, slot_numbered, Holds}
 use Rattle.rb_laws_agreement.proofs.Goodnesses.{good_below_16, slot_last}
 use Rattle.rb_laws_agreement.proofs.JudgedWindows.{rows_of, IsPassed, passed}
@@ -68,7 +67,7 @@ none_convicted sc hands law frame slot le settled me i st h kind j good =
     let b : HoldsBefore sc hands frame slot = held_before sc hands law frame slot le (settled_before sc hands law frame slot settled) in
     let trusts : has (trusted_of me kind st) j ≡ true = ap (λ t. has t j) (trusted-either me kind st ∙ (b.holds me i st h).trusted kind) ∙ b.trusted kind j good in
     has-set_of j (λ j. nat_lt j (count_of kind sc.sizes) && not (has (trusted_of me kind st) j)) (good_below_16 sc law.sizes kind j frame slot good)
-    ∙ and_none (nat_lt j (count_of kind sc.sizes)) (not (has (trusted_of me kind st) j)) (ap not trusts)
+    ∙ and_right (nat_lt j (count_of kind sc.sizes)) (not (has (trusted_of me kind st) j)) (ap not trusts)
 
 -- Who is accused after a slot.
 

@@ -1,5 +1,6 @@
 -- A complete slot below the sync slot, stage by stage: all good nodes hold the same through it.
 use Rattle.std.proofs.Common.{◌≡◌, ℕ, suc, ◌+◌, ◌-◌, ◌*◌, ◌<◌, ◌≤◌, true, List, Some, slice_get, inl, inr, refl, sym, ◌∙◌, ap, arith}
+use Rattle.std.proofs.lemmas.Option.{same_Some}
 use Rattle.rb_base.specs.Nodes.{Side}
 use Rattle.rb_base.specs.Sizes.{sync_slot_of}
 use Rattle.rb_rules.specs.Book.{of_kind}
@@ -10,7 +11,7 @@ use Rattle.rb_rules.specs.NodeState.{NodeState}
 use Rattle.rb_rules.specs.Ports.{HandIn}
 use Rattle.rb_rules.specs.Rounds.{Moment, after_window, step, moment, windows_in}
 use Rattle.rb_rules.proofs.RoundStates.{state-after}
-use Rattle.rb_laws_agreement.proofs.Tests.{Present, same_some}
+use Rattle.rb_laws_agreement.proofs.Tests.{Present}
 use Rattle.rb_laws_agreement.proofs.Invariant.{Shared, IsGoodNode, is_good_now, Agree}
 use Rattle.rb_laws_agreement.proofs.NextMoments.{next}
 use Rattle.rb_laws_agreement.proofs.Settings.{Setting, good_here, good_state, after}
@@ -133,7 +134,7 @@ state_from sc hands n m s agree me i now good there =
     record {
       st = old.value;
       was = record { there = old.is; good = good };
-      is = same_some (after sc m me i old.value) now (sym (state-after sc m me i old.value old.is) ∙ there);
+      is = same_Some (after sc m me i old.value) now (sym (state-after sc m me i old.value old.is) ∙ there);
     }
 
 -- the frame of the slot's third stage

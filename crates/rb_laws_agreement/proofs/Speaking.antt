@@ -22,20 +22,7 @@ use Rattle.rb_rules.specs.Slots.Sender.{Nobody, Node, EachTrusted}
 use Rattle.rb_rules.specs.Standing.{is_unlike, vector_of}
 use Rattle.rb_rules.proofs.Standings.{alike_is_not_unlike}
 use Rattle.rb_rules.proofs.Senses.{IsCarried}
-
-pub same_side-is : (a b : Side) → same_side a b ≡ true → a ≡ b
-same_side-is Biu Biu h = refl
-same_side-is Biu Rmu h = cc
-same_side-is Rmu Biu h = cc
-same_side-is Rmu Rmu h = refl
-
-pub same_side_self : (a : Side) → same_side a a ≡ true
-same_side_self Biu = refl
-same_side_self Rmu = refl
-
-pub same_side_other : (a : Side) → same_side (other a) a ≡ false
-same_side_other Biu = refl
-same_side_other Rmu = refl
+use Rattle.rb_rules.proofs.Slots.{same_side-is, same_side_other, same_side_self}
 
 pub not_same_side : (a b : Side) → same_side a b ≡ false → a ≡ other b
 not_same_side Biu Biu h = cc

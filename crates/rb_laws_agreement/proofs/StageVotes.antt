@@ -1,9 +1,11 @@
 -- The votes of one stage, under the premise: good nodes that hear one value of all good sources vote for it.
-use Rattle.std.proofs.Common.{◌≡◌, ℕ, ◌<◌, ◌≤◌, ◌&&◌, not, Bool, true, false, List, Some, is_some, refl, ◌∙◌, arith}
+use Rattle.std.proofs.Common.{◌≡◌, ℕ, ◌<◌, ◌≤◌, ◌&&◌, not, Bool, true, false, List, Some, is_some, ◌∙◌, arith}
+use Rattle.std.proofs.lemmas.Bool.{and_from, not_from_false}
 use Rattle.rb_base.specs.Counting.{count_if, numbers}
 use Rattle.rb_base.specs.Nodes.{Side, has}
 use Rattle.rb_base.proofs.SetSizes.{size-set_of}
 use Rattle.rb_base.specs.declared.values.Heard.{Heard}
+use Rattle.rb_base.proofs.Plain.{and_first, and_second, less-same, not_both}
 use Rattle.rb_rules.specs.declared.sense.Sense.{Sense}
 use Rattle.rb_rules.specs.ExactStage.{closing_of}
 use Rattle.rb_rules.specs.Goodness.{Scenario, is_good}
@@ -11,12 +13,8 @@ use Rattle.rb_rules.specs.Judging.{JudgedStage, is_benign}
 use Rattle.rb_rules.specs.Sense.{value_in}
 use Rattle.rb_rules.specs.Standing.{Standing, taken_of}
 use Rattle.rb_rules.proofs.Votes.{closing_vote_is}
-use Rattle.rb_laws_agreement.proofs.Tests.{and_first, and_second, and_both, not_so}
 use Rattle.rb_laws_agreement.proofs.Numbers.{how_many, how_many-is, how_many-le}
 use Rattle.rb_laws_agreement.proofs.Premises.{Premise, is_active, is_sound}
-
-less-same : (a b c d : ℕ) → a ≡ b → c ≡ d → a < c → b < d
-less-same a b c d p q h = omega arith
 
 pub how_many-count : (p : ℕ → Bool) → how_many p ≡ count_if p (numbers 16)
 how_many-count p = how_many-is p ∙ size-set_of p
@@ -25,11 +23,6 @@ how_many-count p = how_many-is p ∙ size-set_of p
 pub record IsSeen (trusted : Side → ℕ) (kind : Side) (stages : List JudgedStage) (j : ℕ) : Type 0 where
   pub trusts : has (trusted kind) j ≡ true
   pub seen : is_benign kind stages j ≡ false
-
-not_sound : (t g : Bool) → t ≡ true → not (t && g) ≡ true → g ≡ false
-not_sound true true p h = cc
-not_sound true false p h = refl
-not_sound false g p h = cc
 
 -- of a kind of which all good nodes are heard to say one value, this is the vote
 pub one_voice : (sc : Scenario) (frame slot : ℕ) (trusted : Side → ℕ) (stages : List JudgedStage) (kind : Side) (s : Standing) (expected : ℕ → Bool) (sense : ℕ → Sense) (value : Heard)
@@ -45,10 +38,10 @@ one_voice sc frame slot trusted stages kind s expected sense value premise said 
     let some : is_some (taken_of value_in s expected sense j) ≡ true = and_second (not (good j)) (is_some (taken_of value_in s expected sense j)) is in
     let known : IsSeen trusted kind stages j = seen j below some in
     let faulty : is_good sc kind j frame slot ≡ false =
-    not_sound (has (trusted kind) j) (is_good sc kind j frame slot) known.trusts (and_first (not (good j)) (is_some (taken_of value_in s expected sense j)) is) in
-    and_both (has (trusted kind) j && not (is_good sc kind j frame slot)) (not (is_benign kind stages j))
-    (and_both (has (trusted kind) j) (not (is_good sc kind j frame slot)) known.trusts (not_so (is_good sc kind j frame slot) faulty))
-    (not_so (is_benign kind stages j) known.seen)) in
+    not_both (has (trusted kind) j) (is_good sc kind j frame slot) known.trusts (and_first (not (good j)) (is_some (taken_of value_in s expected sense j)) is) in
+    and_from (has (trusted kind) j && not (is_good sc kind j frame slot)) (not (is_benign kind stages j))
+    (and_from (has (trusted kind) j) (not (is_good sc kind j frame slot)) known.trusts (not_from_false (is_good sc kind j frame slot) faulty))
+    (not_from_false (is_benign kind stages j) known.seen)) in
     let more : how_many others < how_many good = omega (arith, few, premise.most kind) in
     closing_vote_is s expected sense good value
     (λ j g. said j (and_first (has (trusted kind) j) (is_good sc kind j frame slot) g) (and_second (has (trusted kind) j) (is_good sc kind j frame slot) g))

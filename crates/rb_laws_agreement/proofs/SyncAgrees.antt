@@ -18,7 +18,7 @@ use Rattle.rb_laws_agreement.proofs.Tests.{Present}
 use Rattle.rb_laws_agreement.proofs.Premises.{Premise}
 use Rattle.rb_laws_agreement.proofs.Goodnesses.{good_below_16, slot_last}
 use Rattle.rb_laws_agreement.proofs.Invariant.{Shared, kind_in, IsGoodNode, is_good_now, slot_numbered, IsFinished, Holds, Agree}
-use Rattle.rb_laws_agreement.proofs.ExactAgrees.{knows_next}
+use Rattle.rb_laws_agreement.proofs.ExactAgrees.{knows_next, suc-place}
 use Rattle.rb_laws_agreement.proofs.JudgedWindows.{rows_of, IsPassed, premise_after, stays-trusted}
 use Rattle.rb_laws_agreement.proofs.NodeWindows.{Windows, sense_in, sync_window, sync_windows_are, tail_windows}
 use Rattle.rb_laws_agreement.proofs.SecondStages.{benign-before}
@@ -99,9 +99,6 @@ finished-sync sc hands n m s q ws c t lt =
           ap (λ x. get_or x.votes t Fault) (sym from.is) ∙ ap (λ x. get_or x t Fault) (leaves sc hands n m s q ws c me i from.st from.was).votes
           ∙ f.held me i from.st from.was votes;
     }
-
-suc-place : (n frame window size : ℕ) → n ≡ frame * size + window → suc n ≡ frame * size + (window + 1)
-suc-place n frame window size h = omega arith
 
 pub agree_sync : (sc : Scenario) (hands : List HandIn) (n : ℕ) (m : Moment) (s : Shared) (q : ℕ) (ws : Windows sc m (sync_slot_of sc.sizes) (q + 1)) → SyncSetting sc hands n m s q ws
     → next sc m ≡ moment sc hands (suc n) → Agree sc hands (suc n) (next sc m) s

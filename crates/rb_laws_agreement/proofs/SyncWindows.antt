@@ -1,10 +1,11 @@
 -- The windows of the sync slot, the tail with them: whoever is good calls where it is expected, and is not accused.
 use Rattle.std.proofs.Common.{◌≡◌, ℕ, zero, suc, ◌+◌, ◌-◌, ◌*◌, ◌<◌, ◌≤◌, ◌%◌, ◌==◌, ◌&&◌, nat_le, Bool, true, false, Option, Some, None, is_some, option_map, slice_get, if◌then◌else◌, refl, sym, ◌∙◌, ap, subst, arith, inl, inr}
-use Rattle.std.proofs.lemmas.Bool.Decides.{nat_tests}
+use Rattle.std.proofs.lemmas.Bool.{leb-true, lt-ltb}
 use Rattle.rb_base.specs.Nodes.{Side, other, has}
 use Rattle.rb_base.specs.Nodes.Side.{Biu, Rmu}
 use Rattle.rb_base.specs.Sizes.{Sizes, IsShape, sync_slot_of}
 use Rattle.rb_base.specs.declared.values.Heard.{Heard}
+use Rattle.rb_base.proofs.Plain.{eq_self}
 use Rattle.rb_rules.specs.declared.message.Message.{Message}
 use Rattle.rb_rules.specs.declared.message.Version.{Version}
 use Rattle.rb_rules.specs.declared.plan.Plan.{Plan}
@@ -22,19 +23,16 @@ use Rattle.rb_rules.specs.Slots.{listens}
 use Rattle.rb_rules.specs.Spelling.{IsMessage}
 use Rattle.rb_rules.specs.Standing.{does_wrong, has_evidence}
 use Rattle.rb_rules.specs.SyncStage.{calls, call_of, expects_call, close_sync, sync_outcome_of, call_tick_of, new_epoch_of}
-use Rattle.rb_rules.proofs.RoundStates.{Knows, keeping-stays}
+use Rattle.rb_rules.proofs.RoundStates.{Knows}
+use Rattle.rb_rules.proofs.Slots.{few_slots, other_twice}
 use Rattle.rb_rules.proofs.Standings.{right_is_no_evidence, others_stay}
-use Rattle.rb_laws_agreement.proofs.Tests.{true_or_false, Present, present_if, le_from, less_true}
-use Rattle.rb_laws_agreement.proofs.Goodnesses.{few_slots}
+use Rattle.rb_laws_agreement.proofs.Tests.{true_or_false, Present, present_if}
 use Rattle.rb_laws_agreement.proofs.Invariant.{Shared, Holds}
-use Rattle.rb_laws_agreement.proofs.Exchanges.{far-held}
-use Rattle.rb_laws_agreement.proofs.ExactWindows.{other_twice, with_sent, sent_by, keeping-is}
+use Rattle.rb_laws_agreement.proofs.Exchanges.{far-held, kept-frame}
+use Rattle.rb_laws_agreement.proofs.ExactWindows.{with_sent, sent_by, keeping-is}
 use Rattle.rb_laws_agreement.proofs.NodeWindows.{Windows, own_window, word_at, kept_in, heard_in, sense_in, IsOne, good_is_silent, good_is_heard, goes, state-closed}
 
 -- Who calls.
-
-same-number : (n : ℕ) → (n == n) ≡ true
-same-number n = grind (arith, nat_tests)
 
 -- a node expects a trusted source where that one calls
 expects-callers : (sizes : Sizes) (me : Side) (st source : NodeState) (stage j : ℕ) → has st.far.trusted j ≡ true
@@ -51,9 +49,9 @@ expects-callers sizes me st source stage j t =
 call-suits : (sizes : Sizes) (version : Version) (sender receiver : NodeState) (stage : ℕ) → sender.frame ≡ receiver.frame
     → suits (expect_of sizes version receiver (sync_slot_of sizes) stage) (call_of sizes sender stage) ≡ true
 call-suits sizes version sender receiver stage same =
-    let a : (sender.frame % 65536 == receiver.frame % 65536) ≡ true = ap (λ f. f % 65536 == receiver.frame % 65536) same ∙ same-number (receiver.frame % 65536) in
+    let a : (sender.frame % 65536 == receiver.frame % 65536) ≡ true = ap (λ f. f % 65536 == receiver.frame % 65536) same ∙ eq_self (receiver.frame % 65536) in
     all_four (sender.frame % 65536 == receiver.frame % 65536) (sync_slot_of sizes == sync_slot_of sizes) (stage == stage) (sync_slot_of sizes == sync_slot_of sizes)
-    a (same-number (sync_slot_of sizes)) (same-number stage) (same-number (sync_slot_of sizes))
+    a (eq_self (sync_slot_of sizes)) (eq_self stage) (eq_self (sync_slot_of sizes))
   where
     all_four : (a b c d : Bool) → a ≡ true → b ≡ true → c ≡ true → d ≡ true → (a && b && c && d) ≡ true
     all_four a b c d p q r s = rw (p, q, r, s) refl
@@ -69,13 +67,13 @@ call-tick sizes plan Biu st zero small h knows = refl
 call-tick sizes plan Rmu st zero small h knows = cc
 call-tick sizes plan Biu st (suc zero) small h knows = cc
 call-tick sizes plan Rmu st (suc zero) small h knows =
-    mapped st.k1 plan.l (knows.k1 ∙ less_true (3 * sync_slot_of sizes + 1 - 1) (3 * sync_slot_of sizes + 1) (omega arith))
+    mapped st.k1 plan.l (knows.k1 ∙ lt-ltb (3 * sync_slot_of sizes + 1 - 1) (3 * sync_slot_of sizes + 1) (omega arith))
   where
     mapped : (o : Option ℕ) (d : ℕ) → is_some o ≡ true → is_some (option_map (λ k. k + d) o) ≡ true
     mapped None d h = h
     mapped (Some k) d h = refl
 call-tick sizes plan Biu st (suc (suc zero)) small h knows =
-    mapped st.k2 plan.v (knows.k2 ∙ less_true (3 * sync_slot_of sizes + 2 - 1) (3 * sync_slot_of sizes + 2) (omega arith))
+    mapped st.k2 plan.v (knows.k2 ∙ lt-ltb (3 * sync_slot_of sizes + 2 - 1) (3 * sync_slot_of sizes + 2) (omega arith))
   where
     mapped : (o : Option ℕ) (d : ℕ) → is_some o ≡ true → is_some (option_map (λ k. k + d) o) ≡ true
     mapped None d h = h
@@ -91,14 +89,11 @@ tail-silent sizes Rmu st = refl
 -- How good sources are heard.
 
 in-sync : (sizes : Sizes) → (sync_slot_of sizes == sync_slot_of sizes) ≡ true
-in-sync sizes = same-number (sync_slot_of sizes)
+in-sync sizes = eq_self (sync_slot_of sizes)
 
 said-in-sync : (sizes : Sizes) (me : Side) (j : ℕ) (st : NodeState) (stage word : ℕ)
     → message_said sizes me j st (sync_slot_of sizes) stage word ≡ calls sizes me st stage
 said-in-sync sizes me j st stage word = rw (in-sync sizes) refl
-
-kept-frame : (sc : Scenario) (m : Moment) (slot stage : ℕ) (me : Side) (i : ℕ) (st : NodeState) → (kept_in sc m slot stage me i st).frame ≡ st.frame
-kept-frame sc m slot stage me i st = (keeping-stays sc.sizes me i st slot stage (word_at sc m slot i)).frame
 
 -- a stage is one in which a caller knows its tick
 abbrev pub HasTicksOf : (sc : Scenario) (m : Moment) (stage : ℕ) → Type 0
@@ -220,7 +215,7 @@ sync_closes sc m stage ws me i st good =
     elim (true_or_false (nat_le (ws.first me st) (ws.last me st))) [
       | inl tick ↦
           let sent : Option Heard = sent_by sc.sizes me i st slot stage (word_at sc m slot i) in
-          subst (λ now. IsAfterSync st now wrong) (sym (closed-state sc m stage ws me i st good (le_from (ws.first me st) (ws.last me st) tick)))
+          subst (λ now. IsAfterSync st now wrong) (sym (closed-state sc m stage ws me i st good (leb-true (ws.first me st) (ws.last me st) tick)))
           (close-parts sc.sizes me st sent stage ((kept_in sc m slot stage me i st).epoch + ws.first me st) sense)
       | inr none ↦
           subst (λ now. IsAfterSync st now wrong) (sym (passed-over sc m slot stage ws me i st none))
@@ -245,7 +240,7 @@ tail_keeps_epoch sc m ws me i st good =
     elim (true_or_false (nat_le (ws.first me st) (ws.last me st))) [
       | inl tick ↦
           let sent : Option Heard = sent_by sc.sizes me i st slot 4 (word_at sc m slot i) in
-          ap (new_epoch_of sc.plan me) (closed-state sc m 4 ws me i st good (le_from (ws.first me st) (ws.last me st) tick))
+          ap (new_epoch_of sc.plan me) (closed-state sc m 4 ws me i st good (leb-true (ws.first me st) (ws.last me st) tick))
           ∙ epoch-kept sc.sizes sc.plan me st sent ((kept_in sc m slot 4 me i st).epoch + ws.first me st) sense
       | inr none ↦ ap (new_epoch_of sc.plan me) (passed-over sc m slot 4 ws me i st none)
     ]

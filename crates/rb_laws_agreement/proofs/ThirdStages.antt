@@ -2,10 +2,12 @@
 use Rattle.std.proofs.Common.{◌≡◌, ℕ, ◌+◌, ◌<◌, ◌&&◌, ◌||◌, Bool, true, false, List, inl, inr, Some, None, slice_set, get_or, if◌then◌else◌, refl, sym, ◌∙◌, ap, subst, arith}
 use Rattle.std.specs.Prelude.{IfSome}
 use Rattle.std.proofs.lemmas.List.{get_or-set_other}
+use Rattle.std.proofs.lemmas.Option.{same_Some}
 use Rattle.rb_base.specs.Nodes.{Side, other}
 use Rattle.rb_base.specs.Nodes.Side.{Biu, Rmu}
 use Rattle.rb_base.specs.declared.values.Heard.{Heard}
 use Rattle.rb_base.specs.declared.values.Heard.TheVariants.{Fault}
+use Rattle.rb_base.proofs.Plain.{and_first}
 use Rattle.rb_rules.specs.declared.role.Role.{Role}
 use Rattle.rb_rules.specs.declared.role.Role.TheVariants.{Schedule, Data, DiagBiu, DiagRmu, Sync}
 use Rattle.rb_rules.specs.Book.{judged_of}
@@ -20,15 +22,15 @@ use Rattle.rb_rules.specs.Slots.Sender.{Nobody, Node, EachTrusted}
 use Rattle.rb_rules.specs.Standing.{is_unlike}
 use Rattle.rb_rules.specs.StandsFor.{votes_on}
 use Rattle.rb_rules.proofs.Senses.{IsCarried}
-use Rattle.rb_laws_agreement.proofs.Tests.{true_or_false, and_first, same_some}
+use Rattle.rb_rules.proofs.Slots.{one_or_other, other_twice, same_side_other}
+use Rattle.rb_laws_agreement.proofs.Tests.{true_or_false}
 use Rattle.rb_laws_agreement.proofs.Goodnesses.{exact_role, single_sender}
 use Rattle.rb_laws_agreement.proofs.Invariant.{Shared, sender_of, kind_in, IsGoodNode, IsValue, IsFinished, HasVoted}
-use Rattle.rb_laws_agreement.proofs.ExactWindows.{other_twice, IsSingle}
+use Rattle.rb_laws_agreement.proofs.ExactWindows.{IsSingle}
 use Rattle.rb_laws_agreement.proofs.Exchanges.{sender-held}
 use Rattle.rb_laws_agreement.proofs.JudgedWindows.{rows_of}
 use Rattle.rb_laws_agreement.proofs.NodeWindows.{word_at}
-use Rattle.rb_laws_agreement.proofs.Senders.{one_or_other}
-use Rattle.rb_laws_agreement.proofs.Speaking.{IsOnly, only-fits, only-alike, says_vote, says_nothing, vote_is_said, listens_third, same_side_other, voters_deaf}
+use Rattle.rb_laws_agreement.proofs.Speaking.{IsOnly, only-fits, only-alike, says_vote, says_nothing, vote_is_said, listens_third, voters_deaf}
 use Rattle.rb_laws_agreement.proofs.Settings.{Setting, AllCarried, all_heard, after, Closed, closes, NoneUnlike}
 use Rattle.rb_laws_agreement.proofs.SecondStages.{vote_of, vote-held, all_vote, idle-vote, benign-before}
 use Rattle.rb_laws_agreement.proofs.NextMoments.{next, was_good, CameFrom, came_from, stages_after, own_next}
@@ -98,7 +100,7 @@ none_unlike_3 sc hands n m s slot c me i j st source here there value reference 
     ∙ only-alike (says sc.sizes (other me) j source slot 3 (word_at sc m slot j)) value says_it
   where
     by_test : (b : Bool) (voted : Heard) → (if b then Some voted else None) ≡ Some value → (b ≡ true) × (voted ≡ value)
-    by_test true voted h = (refl, same_some voted value h)
+    by_test true voted h = (refl, same_Some voted value h)
     by_test false voted h = cc
 
     third-from : (b t : Bool) → (if b then false else (false || (true && t))) ≡ true → t ≡ true

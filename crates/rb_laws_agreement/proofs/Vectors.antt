@@ -1,5 +1,6 @@
 -- The vectors of a frame: their slots, and whom they convict.
 use Rattle.std.proofs.Common.{◌≡◌, ℕ, ◌+◌, ◌-◌, ◌*◌, ◌<◌, ◌&&◌, nat_lt, not, Bool, true, false, refl, sym, ◌∙◌, ap, arith}
+use Rattle.std.proofs.lemmas.Bool.{le-ltb, lt-ltb}
 use Rattle.rb_base.specs.Counting.{count_if, numbers}
 use Rattle.rb_base.specs.Nodes.{Side, has, size}
 use Rattle.rb_base.specs.Nodes.Side.{Biu, Rmu}
@@ -11,7 +12,6 @@ use Rattle.rb_rules.specs.declared.role.Role.{Role}
 use Rattle.rb_rules.specs.declared.role.Role.TheVariants.{DiagBiu, DiagRmu}
 use Rattle.rb_rules.specs.Conviction.{is_valid, names, naming, sparing, convicted_by}
 use Rattle.rb_rules.specs.Slots.{count_of, first_diagnosis_of, role_of}
-use Rattle.rb_laws_agreement.proofs.Tests.{less_false, less_true}
 
 -- the slot of a node's vector
 abbrev pub vector_slot : Sizes → Side → ℕ → ℕ
@@ -24,17 +24,17 @@ vector_role Rmu i = DiagRmu i
 pub vector_slot-role : (sizes : Sizes) (kind : Side) (i : ℕ) → i < count_of kind sizes → role_of sizes (vector_slot sizes kind i) ≡ vector_role kind i
 vector_slot-role sizes Biu i h =
     let slot : ℕ = sizes.bius + sizes.data_slots + i in
-    let a : nat_lt slot sizes.bius ≡ false = less_false slot sizes.bius (omega arith) in
-    let b : nat_lt slot (sizes.bius + sizes.data_slots) ≡ false = less_false slot (sizes.bius + sizes.data_slots) (omega arith) in
-    let c : nat_lt slot (2 * sizes.bius + sizes.data_slots) ≡ true = less_true slot (2 * sizes.bius + sizes.data_slots) (omega arith) in
+    let a : nat_lt slot sizes.bius ≡ false = le-ltb slot sizes.bius (omega arith) in
+    let b : nat_lt slot (sizes.bius + sizes.data_slots) ≡ false = le-ltb slot (sizes.bius + sizes.data_slots) (omega arith) in
+    let c : nat_lt slot (2 * sizes.bius + sizes.data_slots) ≡ true = lt-ltb slot (2 * sizes.bius + sizes.data_slots) (omega arith) in
     let e : slot - (sizes.bius + sizes.data_slots) ≡ i = omega arith in
     rw (a, b, c) (ap (λ n. DiagBiu n) e)
 vector_slot-role sizes Rmu i h =
     let slot : ℕ = 2 * sizes.bius + sizes.data_slots + i in
-    let a : nat_lt slot sizes.bius ≡ false = less_false slot sizes.bius (omega arith) in
-    let b : nat_lt slot (sizes.bius + sizes.data_slots) ≡ false = less_false slot (sizes.bius + sizes.data_slots) (omega arith) in
-    let c : nat_lt slot (2 * sizes.bius + sizes.data_slots) ≡ false = less_false slot (2 * sizes.bius + sizes.data_slots) (omega arith) in
-    let d : nat_lt slot (sync_slot_of sizes) ≡ true = less_true slot (sync_slot_of sizes) (omega arith) in
+    let a : nat_lt slot sizes.bius ≡ false = le-ltb slot sizes.bius (omega arith) in
+    let b : nat_lt slot (sizes.bius + sizes.data_slots) ≡ false = le-ltb slot (sizes.bius + sizes.data_slots) (omega arith) in
+    let c : nat_lt slot (2 * sizes.bius + sizes.data_slots) ≡ false = le-ltb slot (2 * sizes.bius + sizes.data_slots) (omega arith) in
+    let d : nat_lt slot (sync_slot_of sizes) ≡ true = lt-ltb slot (sync_slot_of sizes) (omega arith) in
     let e : slot - (2 * sizes.bius + sizes.data_slots) ≡ i = omega arith in
     rw (a, b, c, d) (ap (λ n. DiagRmu n) e)
 

@@ -1,5 +1,6 @@
 -- Whoever is accused by all nodes of the other kind that are good at a frame's end is convicted there.
 use Rattle.std.proofs.Common.{◌≡◌, ℕ, zero, suc, ◌+◌, ◌-◌, ◌*◌, ◌<◌, ◌≤◌, ◌&&◌, ◌||◌, nat_lt, not, true, false, List, Some, slice_get, inl, inr, refl, sym, ◌∙◌, ap, subst, arith}
+use Rattle.std.proofs.lemmas.Bool.{and_from, and_right, lt-ltb, not_from_false}
 use Rattle.rb_base.specs.Nodes.{Side, other, has}
 use Rattle.rb_base.specs.Nodes.Side.{Biu, Rmu}
 use Rattle.rb_base.specs.Sizes.{sync_slot_of}
@@ -18,11 +19,11 @@ use Rattle.rb_rules.specs.Rounds.{Moment, moment, next_frame, step, sent_in, win
 use Rattle.rb_rules.specs.Slots.{count_of, role_of}
 use Rattle.rb_rules.specs.Standing.{vector_of, without}
 use Rattle.rb_rules.proofs.RoundStates.{Stays, stays-refl, stays-trans, through-stays, state-after}
+use Rattle.rb_rules.proofs.Slots.{other_twice}
 use Rattle.rb_laws_agreement.specs.Laws.{Accuses, IsAccusedByAll, AccusedByAllIsConvicted}
-use Rattle.rb_laws_agreement.proofs.Tests.{true_or_false, and_both, and_none, not_so, Present, less_true}
+use Rattle.rb_laws_agreement.proofs.Tests.{true_or_false, Present}
 use Rattle.rb_laws_agreement.proofs.Goodnesses.{good_earlier, few_nodes, slot_last}
 use Rattle.rb_laws_agreement.proofs.Invariant.{Shared, IsGoodNode, is_good_now, slot_numbered, IsOwn, Holds}
-use Rattle.rb_laws_agreement.proofs.ExactWindows.{other_twice}
 use Rattle.rb_laws_agreement.proofs.Exchanges.{trusted-either, far-trusted}
 use Rattle.rb_laws_agreement.proofs.JudgedWindows.{stays-trusted}
 use Rattle.rb_laws_agreement.proofs.NextMoments.{next}
@@ -98,7 +99,7 @@ own-vector sc hands m s kind i st count v good there =
 names-accused : (st : NodeState) (j : ℕ) → j < 16 → has st.far.trusted j ≡ true → Accuses st.far j → has (vector_of st.far) j ≡ true
 names-accused st j small t accuses =
     has-set_of j (λ j. has st.far.trusted j && (has st.far.direct j || has st.far.mismatch j)) small
-    ∙ and_both (has st.far.trusted j) (has st.far.direct j || has st.far.mismatch j) t accuses
+    ∙ and_from (has st.far.trusted j) (has st.far.direct j || has st.far.mismatch j) t accuses
 
 -- The end of the frame.
 
@@ -243,7 +244,7 @@ convicted-then sc hands law frame complete e accused j small all =
     has-set_of j (λ j. has (e.shared.trusted accused) j && not (has (convicted_all sc.sizes e.shared accused) j)) small
     ∙ elim (true_or_false (has (e.shared.trusted accused) j)) [
       | inl t ↦
-          and_none (has (e.shared.trusted accused) j) (not (has (convicted_all sc.sizes e.shared accused) j))
+          and_right (has (e.shared.trusted accused) j) (not (has (convicted_all sc.sizes e.shared accused) j))
           (ap not (named_by_all sc hands (suc (frame * (windows_in sc.sizes + 1) + 3 * sync_slot_of sc.sizes + 4 - 1)) (next sc (after_slot sc hands frame (sync_slot_of sc.sizes)))
           e.shared e.at_end accused j t (vector-names sc hands law frame complete e accused j t all)))
       | inr out ↦ ap (λ b. b && not (has (convicted_all sc.sizes e.shared accused) j)) out
@@ -265,4 +266,4 @@ accused_by_all sc hands law frame complete accused j count all me i st h =
     ap (λ x. has x j) (trusted-either me accused st ∙ holds.trusted accused ∙ next-trusted sc.sizes e.shared accused)
     ∙ convicted-then sc hands law frame complete e accused j small all in
     has-set_of j (λ j. nat_lt j (count_of accused sc.sizes) && not (has (trusted_of me accused st) j)) small
-    ∙ and_both (nat_lt j (count_of accused sc.sizes)) (not (has (trusted_of me accused st) j)) (less_true j (count_of accused sc.sizes) count) (not_so (has (trusted_of me accused st) j) out)
+    ∙ and_from (nat_lt j (count_of accused sc.sizes)) (not (has (trusted_of me accused st) j)) (lt-ltb j (count_of accused sc.sizes) count) (not_from_false (has (trusted_of me accused st) j) out)

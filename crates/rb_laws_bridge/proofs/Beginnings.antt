@@ -1,5 +1,5 @@
 -- A frame begins with its record. Where no BIU is good at its begin, the run ends there.
-use Rattle.std.proofs.Common.{◌≡◌, ℕ, zero, suc, ◌+◌, ◌-◌, ◌*◌, ◌<◌, ◌≤◌, ◌==◌, ◌&&◌, not, nat_lt, if◌then◌else◌, lit≤, Bool, true, false, inl, inr, Option, Some, None, List, [], ◌∷◌, ◌++◌, append_assoc, length, slice_get, option_map, refl, sym, ◌∙◌, ap, subst, arith}
+use Rattle.std.proofs.Common.{◌≡◌, ℕ, zero, suc, ◌+◌, ◌-◌, ◌*◌, ◌<◌, ◌≤◌, ◌==◌, nat_lt, Bool, true, false, inl, inr, Option, Some, None, List, [], ◌∷◌, ◌++◌, append_assoc, length, slice_get, option_map, refl, sym, ◌∙◌, ap, subst, arith}
 use Rattle.std.proofs.Math.Nat.{add-sub_of_le}
 use Rattle.std.proofs.lemmas.Bool.{cases_lt, le-ltb, lt-ltb}
 use Rattle.std.proofs.lemmas.Bool.Decides.{nat_tests}
@@ -7,16 +7,14 @@ use Rattle.std.proofs.lemmas.List.{append-nil}
 use Rattle.rb_base.specs.Nodes.Side.{Biu, Rmu}
 use Rattle.rb_base.specs.Sizes.{sync_slot_of}
 use Rattle.rb_base.specs.declared.values.Place.{Place}
-use Rattle.rb_base.proofs.SetSizes.{size_none}
-use Rattle.rb_base.proofs.Sets.{has_none, is_set_of, same_set_of}
-use Rattle.rb_base.specs.Nodes.{Side, has, size}
-use Rattle.rb_rules.specs.declared.cause.Cause.TheVariants.{FewGoodBiu, FewGoodRmu, TwoSided}
+use Rattle.rb_base.specs.Nodes.{Side}
+use Rattle.rb_rules.specs.declared.cause.Cause.TheVariants.{FewGoodBiu}
 use Rattle.rb_rules.specs.Book.{Begun, Book, Each, Record, Row, after_verdict, in_order, judged_of, map_each, map_from, of_kind, with_end, with_frame, with_stage}
 use Rattle.rb_rules.specs.Book.Record.{Breach, Ended}
 use Rattle.rb_rules.specs.ExactStage.{present}
 use Rattle.rb_rules.specs.Goodness.{Scenario, good_at, is_good}
 use Rattle.rb_rules.specs.Hearing.{begun_of, epoch_of}
-use Rattle.rb_rules.specs.Judging.{ClassSets, JudgedStage, are_few_good, cause_of, classes_of, some_asymmetric, trusted_now, verdict_of}
+use Rattle.rb_rules.specs.Judging.{JudgedStage, verdict_of}
 use Rattle.rb_rules.specs.NodeState.{NodeState}
 use Rattle.rb_rules.specs.NodeSteps.{turn_if_known}
 use Rattle.rb_rules.specs.Ports.{HandIn}
@@ -25,41 +23,20 @@ use Rattle.rb_rules.specs.Slots.{count_of}
 use Rattle.rb_rules.specs.WorldStep.{frame_in}
 use Rattle.rb_rules.proofs.Books.{GoesOn, moments-on, records-are, stepped}
 use Rattle.rb_rules.proofs.WindowNumbers.{get-each}
-use Rattle.rb_laws_events.proofs.CloseOrder.{frame-later, has-ticks, IsFrameLater}
+use Rattle.rb_laws_events.proofs.CloseOrder.{frame-later, IsFrameLater}
+use Rattle.rb_laws_events.proofs.GivenAlone.{breach-alone}
 use Rattle.rb_laws_events.proofs.HandedMoments.{before-frame, place-of}
-use Rattle.rb_laws_events.proofs.RoundNodes.{AllStand, good-counts, item-at, moments-stand}
+use Rattle.rb_laws_events.proofs.RoundNodes.{AllStand, item-at, moments-stand}
 use Rattle.rb_laws_events.proofs.SettledOnce.{FrameGiven, frame-given}
 use Rattle.rb_laws_events.proofs.Waiting.{no-good}
 use Rattle.rb_laws_agreement.proofs.JudgedWindows.{rows_of}
 use Rattle.rb_laws_agreement.proofs.NextMoments.{book_exact}
+use Rattle.rb_laws_agreement.proofs.Goodnesses.{good_counts}
+use Rattle.rb_laws_agreement.proofs.ExactAgrees.{has_ticks}
 use Rattle.rb_laws_bridge.specs.Laws.{BeginsOrEnds, FramesBeginInOrder, ends_run, frame_told}
 use Rattle.rb_laws_bridge.proofs.Ordered.{IsGivenAt, given-at, split-last}
 
 -- A stage without a good BIU is a breach.
-
-no-classes : (stages : List JudgedStage) (s : JudgedStage) → s.good Biu ≡ 0 → (classes_of Biu (s ∷ stages)).good ≡ 0
-unfolding classes_of
-no-classes stages s h =
-    same_set_of (λ j. has (trusted_now Biu (s ∷ stages)) j && has (s.good Biu) j) (λ j. false)
-    (λ j lt. ap (λ g. has (trusted_now Biu (s ∷ stages)) j && has g j) h ∙ ap (λ b. has (trusted_now Biu (s ∷ stages)) j && b) (has_none j) ∙ and-none (has (trusted_now Biu (s ∷ stages)) j))
-    ∙ sym (is_set_of 0 (λ j. false) (lit≤ tt) (λ j lt. has_none j))
-  where
-    and-none : (a : Bool) → (a && false) ≡ false
-    and-none true = refl
-    and-none false = refl
-
-few-cause : (a b : ClassSets) → are_few_good a ≡ true → cause_of a b ≡ Some FewGoodBiu
-few-cause a b few =
-    ap (λ t. if t then Some FewGoodBiu else (if are_few_good b then Some FewGoodRmu else (if some_asymmetric a && some_asymmetric b then Some TwoSided else None))) few
-
-breach-alone : (stages : List JudgedStage) (s : JudgedStage) → s.good Biu ≡ 0 → verdict_of (s ∷ stages) ≡ Some FewGoodBiu
-unfolding verdict_of
-breach-alone stages s h =
-    let c : ClassSets = classes_of Biu (s ∷ stages) in
-    let none : size c.good ≡ 0 = ap size (no-classes stages s h) ∙ size_none in
-    let few : are_few_good c ≡ true =
-    ap (λ n. not (nat_lt (size c.symmetric + size c.asymmetric) n)) none ∙ ap not (le-ltb (size c.symmetric + size c.asymmetric) 0 (omega arith)) in
-    few-cause c (classes_of Rmu (s ∷ stages)) few
 
 stage-gives : (sc : Scenario) (place : Place) (rows : Each (Option Row)) (b : Book) → b.ended ≡ false → good_at sc Biu place.frame place.slot ≡ 0
     → (with_stage sc place rows b).given ≡ b.given ++ Breach place FewGoodBiu ∷ []
@@ -105,7 +82,7 @@ nobody-begins sc m stand none i = by (is_good sc Biu i (m.frame + 1) 0) refl
     by : (b : Bool) → is_good sc Biu i (m.frame + 1) 0 ≡ b → is_good sc Biu i (m.frame + 1) 0 ≡ false
     by false e = e
     by true e =
-        let counted : i < count_of Biu sc.sizes = good-counts sc Biu i (m.frame + 1) 0 e in
+        let counted : i < count_of Biu sc.sizes = good_counts sc Biu i (m.frame + 1) 0 e in
         let many : length m.nodes.bius ≡ count_of Biu sc.sizes = stand.counts Biu in
         let node = item-at m.nodes.bius i (omega (arith, counted, many)) in
         let st : NodeState = turned Biu i node.0 in
@@ -218,7 +195,7 @@ begins-or-ends sc lawful hands records rest r frame are upto later below = by m.
 
     empty : (given : FrameGiven sc (m.frame + 1) [] m.book x.book) → begun_next sc m ≡ [] → BeginsOrEnds sc (frame + 1) r
     empty given none =
-        let nobody : (i : ℕ) → is_good sc Biu i (m.frame + 1) 0 ≡ false = nobody-begins sc m (moments-stand sc hands e (has-ticks sc lawful)) none in
+        let nobody : (i : ℕ) → is_good sc Biu i (m.frame + 1) 0 ≡ false = nobody-begins sc m (moments-stand sc hands e (has_ticks sc lawful)) none in
         let here : (i : ℕ) → is_good sc Biu i (frame + 1) 0 ≡ false = subst (λ f. (i : ℕ) → is_good sc Biu i (f + 1) 0 ≡ false) place.0 nobody in
         let there : (i : ℕ) → is_good sc Biu i x.frame 0 ≡ false = subst (λ f. (i : ℕ) → is_good sc Biu i f 0 ≡ false) (sym next) here in
         elim (cases_lt (suc e) g.at) [

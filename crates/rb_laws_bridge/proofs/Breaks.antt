@@ -2,9 +2,10 @@
 use Rattle.std.proofs.Common.{◌≡◌, ℕ, zero, suc, ◌+◌, ◌-◌, ◌*◌, ◌/◌, ◌%◌, ◌<◌, ◌≤◌, ◌==◌, ◌&&◌, nat_lt, Bool, true, false, inl, inr, Option, Some, None, List, [], ◌∷◌, ◌++◌, if◌then◌else◌, refl, sym, ◌∙◌, ap, arith}
 use Rattle.std.specs.Option.{option_or}
 use Rattle.std.proofs.Math.Nat.{add-sub_of_le}
-use Rattle.std.proofs.lemmas.Bool.{cases_lt}
+use Rattle.std.proofs.lemmas.Bool.{cases_lt, eqb-true, ltb-true}
 use Rattle.rb_base.specs.Sizes.{sync_slot_of}
 use Rattle.rb_base.specs.declared.values.Place.{Place}
+use Rattle.rb_base.proofs.Plain.{option_or-joined, option_or-none}
 use Rattle.rb_rules.specs.declared.cause.Cause.{Cause}
 use Rattle.rb_rules.specs.Book.{Begun, Book, Each, Record, Row, after_verdict, frame_records, judged_of, slot_records, with_end, with_frame, with_stage}
 use Rattle.rb_rules.specs.Book.Milestone.{End, Stage}
@@ -18,7 +19,6 @@ use Rattle.rb_laws_events.proofs.MomentBooks.{number-of}
 use Rattle.rb_laws_agreement.proofs.JudgedWindows.{rows_of}
 use Rattle.rb_laws_agreement.proofs.NextMoments.{next, book_exact}
 use Rattle.rb_laws_agreement.proofs.SyncAgrees.{book_sync, book_tail}
-use Rattle.rb_laws_agreement.proofs.Tests.{equal_from, less_from}
 use Rattle.rb_rules_bridge.specs.declared.bank.Bank.{Bank}
 use Rattle.rb_rules_bridge.specs.Texts.{Break, break_in, break_told}
 use Rattle.rb_laws_bridge.specs.Laws.{LaterHandInsTellNothing}
@@ -33,24 +33,16 @@ broken_in bank frame b = break_in bank frame b.given
 abbrev pub BreaksAlike : Bank → ℕ → Book → Book → Type 0
 BreaksAlike bank frame a b = broken_in bank frame b ≡ broken_in bank frame a
 
-or-joined : {X : Type 0} (a b c : Option X) → option_or a (option_or b c) ≡ option_or (option_or a b) c
-or-joined None b c = refl
-or-joined (Some x) b c = refl
-
-or-none : {X : Type 0} (o : Option X) → option_or o None ≡ o
-or-none None = refl
-or-none (Some x) = refl
-
-break_in-append : (bank : Bank) (frame : ℕ) (xs ys : List Record) → break_in bank frame (xs ++ ys) ≡ option_or (break_in bank frame xs) (break_in bank frame ys)
+pub break_in-append : (bank : Bank) (frame : ℕ) (xs ys : List Record) → break_in bank frame (xs ++ ys) ≡ option_or (break_in bank frame xs) (break_in bank frame ys)
 break_in-append bank frame [] ys = refl
 break_in-append bank frame (x ∷ xs) ys =
     ap (option_or (break_told bank frame x)) (break_in-append bank frame xs ys)
-    ∙ or-joined (break_told bank frame x) (break_in bank frame xs) (break_in bank frame ys)
+    ∙ option_or-joined (break_told bank frame x) (break_in bank frame xs) (break_in bank frame ys)
 
 -- records without a breach of the frame
 with-others : (bank : Bank) (frame : ℕ) (given more : List Record) → break_in bank frame more ≡ None → break_in bank frame (given ++ more) ≡ break_in bank frame given
 with-others bank frame given more none =
-    break_in-append bank frame given more ∙ ap (option_or (break_in bank frame given)) none ∙ or-none (break_in bank frame given)
+    break_in-append bank frame given more ∙ ap (option_or (break_in bank frame given)) none ∙ option_or-none (break_in bank frame given)
 
 -- A stage, a frame, the end.
 
@@ -124,14 +116,14 @@ stepped-breaks : (sc : Scenario) (hands : List HandIn) (m : Moment) (bank : Bank
     → (in_frame ≡ true → (m.frame == frame) ≡ false) → BreaksAlike bank frame m.book (stepped sc hands m over in_frame).book
 unfolding begin_frame
 stepped-breaks sc hands m bank frame true in_frame e other = end-breaks m.book bank frame
-stepped-breaks sc hands m bank frame false true e other = window-breaks sc m bank frame (less_from m.window (windows_in sc.sizes) e) (other refl)
+stepped-breaks sc hands m bank frame false true e other = window-breaks sc m bank frame (ltb-true m.window (windows_in sc.sizes) e) (other refl)
 stepped-breaks sc hands m bank frame false false e other = frame-breaks sc (m.frame + 1) _ m.book bank frame
 
 step-breaks : (sc : Scenario) (hands : List HandIn) (m : Moment) (bank : Bank) (frame : ℕ) → (m.window < windows_in sc.sizes → (m.frame == frame) ≡ false)
     → BreaksAlike bank frame m.book (step sc hands m).book
 unfolding step
 step-breaks sc hands m bank frame other =
-    stepped-breaks sc hands m bank frame (m.frame == sc.frames) (nat_lt m.window (windows_in sc.sizes)) refl (λ e. other (less_from m.window (windows_in sc.sizes) e))
+    stepped-breaks sc hands m bank frame (m.frame == sc.frames) (nat_lt m.window (windows_in sc.sizes)) refl (λ e. other (ltb-true m.window (windows_in sc.sizes) e))
 
 -- Once the frame has ended there is no breach of it.
 
@@ -143,7 +135,7 @@ break-still sc hands bank frame p past =
     let number = number-of sc hands p in
     let next : past_frame sc frame ≡ frame * size + size = one-more frame size in
     not-here ((moment sc hands p).frame == frame) (λ e.
-    let same : (moment sc hands p).frame * size ≡ frame * size = ap (λ f. f * size) (equal_from (moment sc hands p).frame frame e) in
+    let same : (moment sc hands p).frame * size ≡ frame * size = ap (λ f. f * size) (eqb-true (moment sc hands p).frame frame e) in
     omega (arith, number.0, same, next, past, inside)))
   where
     one-more : (a n : ℕ) → (a + 1) * n ≡ a * n + n

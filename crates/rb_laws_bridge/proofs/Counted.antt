@@ -1,11 +1,11 @@
 -- Counting pairs by one of their BIUs: no two pairs share it, so each counts once.
 use Rattle.std.proofs.Common.{◌≡◌, ℕ, zero, suc, ◌+◌, ◌<◌, ◌≤◌, ◌==◌, ◌&&◌, ◌||◌, not, Bool, true, false, ◌⊎◌, inl, inr, cond, eqb, List, [], ◌∷◌, map, refl, sym, ◌∙◌, ap, arith}
 use Rattle.std.specs.List.{IsDistinct, list_any, range_with_len}
-use Rattle.std.proofs.lemmas.Bool.{cases_lt}
+use Rattle.std.proofs.lemmas.Bool.{and_from, cases_lt, eqb-true, not-true}
 use Rattle.std.proofs.lemmas.Bool.Decides.{nat_tests}
 use Rattle.rb_base.specs.Counting.{count_if, numbers}
 use Rattle.rb_base.proofs.Counts.{count_if-le}
-use Rattle.rb_laws_agreement.proofs.Tests.{and_both, and_first, and_second, equal_from}
+use Rattle.rb_base.proofs.Plain.{and_first, and_second, differs-turned, more-differs}
 
 -- What is in a list.
 
@@ -42,18 +42,8 @@ any_of passes x (y ∷ ys) (inr later) p = by (passes y) (any_of passes x ys lat
 abbrev without : (ℕ → Bool) → ℕ → ℕ → Bool
 without passes x i = passes i && not (i == x)
 
-differs : (a x : ℕ) → x < a → (a == x) ≡ false
-differs a x h = grind (arith, nat_tests)
-
-turned : (a b : ℕ) → (a == b) ≡ false → (b == a) ≡ false
-turned a b h = grind (arith, nat_tests)
-
 apart-from : (a b : ℕ) → a ≡ b → (a == b) ≡ false → ⊥
 apart-from a b same e = grind (arith, nat_tests)
-
-not-false : (b : Bool) → not b ≡ true → b ≡ false
-not-false true h = cc
-not-false false h = refl
 
 zero-more : (a b : ℕ) → a ≤ b → 0 + a ≤ b
 zero-more a b h = omega (arith, h)
@@ -61,7 +51,7 @@ zero-more a b h = omega (arith, h)
 none-after : (x from n : ℕ) → x < from → count_if (λ i. i == x) (range_with_len from n) ≡ 0
 none-after x from zero h = refl
 none-after x from (suc n) h =
-    ap (λ b. cond b 1 0 + count_if (λ i. i == x) (range_with_len (from + 1) n)) (differs from x h)
+    ap (λ b. cond b 1 0 + count_if (λ i. i == x) (range_with_len (from + 1) n)) (more-differs from x h)
     ∙ ap (λ k. 0 + k) (none-after x (from + 1) n (omega arith))
 
 at-most-once : (x from n : ℕ) → count_if (λ i. i == x) (range_with_len from n) ≤ 1
@@ -71,7 +61,7 @@ at-most-once x from (suc n) = by (from == x) refl (at-most-once x (from + 1) n)
     by : (b : Bool) → (from == x) ≡ b → count_if (λ i. i == x) (range_with_len (from + 1) n) ≤ 1
         → cond b 1 0 + count_if (λ i. i == x) (range_with_len (from + 1) n) ≤ 1
     by true e later =
-        let same : from ≡ x = equal_from from x e in
+        let same : from ≡ x = eqb-true from x e in
         let none : count_if (λ i. i == x) (range_with_len (from + 1) n) ≡ 0 = none-after x (from + 1) n (omega arith) in
         omega arith
     by false e later = omega (arith, later)
@@ -111,7 +101,7 @@ one-less passes x from (suc n) low high pass =
     by : (b : Bool) → (from == x) ≡ b → count_if (without passes x) rest ≤ count_if passes rest
         → (from < x → count_if (without passes x) rest + 1 ≤ count_if passes rest)
         → cond (passes from && not b) 1 0 + count_if (without passes x) rest + 1 ≤ cond (passes from) 1 0 + count_if passes rest
-    by true e fewer later = here (passes from) (ap passes (equal_from from x e) ∙ pass) fewer
+    by true e fewer later = here (passes from) (ap passes (eqb-true from x e) ∙ pass) fewer
     by false e fewer later =
         elim (cases_lt from x) [
           | inl less ↦ step (passes from) (later less)
@@ -127,7 +117,7 @@ later-apart key x y [] d h = absurd h
 later-apart key x y (z ∷ zs) d (inl same) = other (key x) (key z) (key y) d.0.0 (ap key same)
   where
     other : (a b c : ℕ) → eqb a b ≡ false → b ≡ c → (c == a) ≡ false
-    other a b c e same = turned a c (ap (λ c. a == c) (sym same) ∙ e)
+    other a b c e same = differs-turned a c (ap (λ c. a == c) (sym same) ∙ e)
 later-apart key x y (z ∷ zs) d (inr later) = later-apart key x y zs (d.0.1, d.1.1) later
 
 -- at least as many numbers pass as there are items whose numbers do
@@ -150,7 +140,7 @@ items-few {X} key chosen passes (x ∷ xs) d all =
         let rest : count_if chosen xs ≤ count_if (without passes (key x)) (numbers 16) =
         with (λ y inside c.
         let its = all y (inr inside) c in
-        (and_both (passes (key y)) (not (key y == key x)) its.0 (ap not (later-apart key x y xs d inside)), its.1)) in
+        (and_from (passes (key y)) (not (key y == key x)) its.0 (ap not (later-apart key x y xs d inside)), its.1)) in
         let less : count_if (without passes (key x)) (numbers 16) + 1 ≤ count_if passes (numbers 16) = one-less passes (key x) 0 16 (omega arith) (omega (arith, mine.1)) mine.0 in
         sum (count_if chosen xs) (count_if (without passes (key x)) (numbers 16)) (count_if passes (numbers 16)) rest less
       where
@@ -175,7 +165,7 @@ numbers-few key passes chosen [] some each = none-passes passes some (numbers 16
 numbers-few {X} key passes chosen (x ∷ xs) some each =
     by (passes (key x)) refl
     (numbers-few key (without passes (key x)) chosen xs
-    (λ i p. rest-some i (turned i (key x) (not-false (i == key x) (and_second (passes i) (not (i == key x)) p))) (and_first (passes i) (not (i == key x)) p))
+    (λ i p. rest-some i (differs-turned i (key x) (not-true (i == key x) (and_second (passes i) (not (i == key x)) p))) (and_first (passes i) (not (i == key x)) p))
     (λ y inside p. each y (inr inside) (and_first (passes (key y)) (not (key y == key x)) p)))
     (λ other. numbers-few key passes chosen xs (λ i p. rest-some i (other i p) p) (λ y inside p. each y (inr inside) p))
   where
@@ -198,7 +188,7 @@ numbers-few {X} key passes chosen (x ∷ xs) some each =
     sum a b c d r o m = omega (arith, r, o, m)
 
     is-other : (i : ℕ) → passes i ≡ true → passes (key x) ≡ false → (t : Bool) → (key x == i) ≡ t → t ≡ false
-    is-other i p q true h = absurd (let both : false ≡ true = sym q ∙ ap passes (equal_from (key x) i h) ∙ p in cc)
+    is-other i p q true h = absurd (let both : false ≡ true = sym q ∙ ap passes (eqb-true (key x) i h) ∙ p in cc)
     is-other i p q false h = refl
 
     by : (b : Bool) → passes (key x) ≡ b → count_if (without passes (key x)) (numbers 16) ≤ count_if chosen xs

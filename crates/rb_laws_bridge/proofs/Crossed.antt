@@ -1,14 +1,15 @@
 -- Words cross a bridge: sound pairs carry the near bus's word, offer it on the far bus, and outvote the others.
 use Rattle.std.proofs.Common.{◌≡◌, ℕ, zero, suc, ◌+◌, ◌-◌, ◌*◌, ◌^◌, ◌<◌, ◌≤◌, ◌==◌, ◌&&◌, not, All, Bool, true, false, inl, inr, Option, Some, None, is_some, List, [], ◌∷◌, if◌then◌else◌, refl, sym, ◌∙◌, ap, subst, arith}
 use Rattle.std.specs.List.{list_any, range_with_len}
-use Rattle.std.proofs.lemmas.Bool.{cases_lt}
+use Rattle.std.proofs.lemmas.Bool.{and_from, cases_lt, not-true}
 use Rattle.std.proofs.lemmas.List.Elements.{All-head, All-tail}
 use Rattle.std.proofs.Math.Nat.{mul-le-mul_right}
 use Rattle.rb_base.specs.Counting.{count_if, numbers}
 use Rattle.rb_base.specs.Nodes.{has}
 use Rattle.rb_base.specs.Nodes.Side.{Biu}
 use Rattle.rb_base.specs.Sizes.{IsShape, sync_slot_of}
-use Rattle.rb_base.proofs.Sets.{eq_self, has-set_of, has_above, set_of-lt}
+use Rattle.rb_base.proofs.Plain.{and_first, and_second, eq_self}
+use Rattle.rb_base.proofs.Sets.{has-set_of, has_above, set_of-lt}
 use Rattle.rb_rules.specs.Goodness.{Scenario, is_good}
 use Rattle.rb_rules.specs.Lawful.{IsLawful}
 use Rattle.rb_rules.specs.Moments.{IsComplete, offered_in}
@@ -17,7 +18,7 @@ use Rattle.rb_rules.specs.Rounds.{steps_of, windows_in}
 use Rattle.rb_laws_agreement.specs.Histories.{states_for}
 use Rattle.rb_laws_agreement.proofs.Goodnesses.{good_earlier}
 use Rattle.rb_laws_agreement.proofs.Places.{running_earlier}
-use Rattle.rb_laws_agreement.proofs.Tests.{Present, and_both, and_first, and_second, not_true, present_if}
+use Rattle.rb_laws_agreement.proofs.Tests.{Present, present_if}
 use Rattle.rb_laws_groups.specs.Laws.{IsSchedule, Outnumber, first_among, first_slot, has_slot, is_number, last_data_slot, offer_in, offer_of, offers}
 use Rattle.rb_laws_groups.proofs.Frames.{is-early}
 use Rattle.rb_laws_groups.proofs.Voted.{most-finds}
@@ -223,17 +224,17 @@ offers-outnumber b bank frame owner c more =
 
     pair-offers : (pair : Pair) → IsIn pair b.pairs → is_sound b bank owner frame pair ≡ true → offer (biu_on bank pair) ≡ true
     pair-offers pair inside sound =
-        and_both (has members (biu_on bank pair)) (is_number word (offer_of sc hands (frame + 1) owner (biu_on bank pair))) (is-member b bank c.bridge pair inside)
+        and_from (has members (biu_on bank pair)) (is_number word (offer_of sc hands (frame + 1) owner (biu_on bank pair))) (is-member b bank c.bridge pair inside)
         (ap (is_number word) (sound-offers b bank frame owner c pair inside sound) ∙ eq_self word)
 
     is-unsound : (pair : Pair) → not (offer (biu_on bank pair)) ≡ true → (is_sound b bank owner frame pair ≡ true → offer (biu_on bank pair) ≡ true)
         → (t : Bool) → is_sound b bank owner frame pair ≡ t → not t ≡ true
-    is-unsound pair none so true e = absurd (let both : true ≡ false = sym (so e) ∙ not_true (offer (biu_on bank pair)) none in cc)
+    is-unsound pair none so true e = absurd (let both : true ≡ false = sym (so e) ∙ not-true (offer (biu_on bank pair)) none in cc)
     is-unsound pair none so false e = refl
 
     others-unsound : (pair : Pair) → IsIn pair b.pairs → not (offer (biu_on bank pair)) ≡ true → counts_on b bank owner pair ≡ true → unsound pair ≡ true
     others-unsound pair inside none counts =
-        and_both (counts_on b bank owner pair) (not (is_sound b bank owner frame pair)) counts
+        and_from (counts_on b bank owner pair) (not (is_sound b bank owner frame pair)) counts
         (is-unsound pair none (pair-offers pair inside) (is_sound b bank owner frame pair) refl)
 
     between : (a b c d : ℕ) → a ≤ b → b < c → c ≤ d → a < d

@@ -5,8 +5,9 @@ use Rattle.std.proofs.Math.Nat.{add-sub_of_le}
 use Rattle.std.proofs.Math.Path.{fun_ext}
 use Rattle.std.proofs.lemmas.Bool.Decides.{nat_tests}
 use Rattle.std.proofs.lemmas.List.{append-nil}
+use Rattle.std.proofs.lemmas.List.Elements.{filter-append}
 use Rattle.rb_base.specs.Nodes.Side.{Biu}
-use Rattle.rb_base.proofs.Sets.{eq_self}
+use Rattle.rb_base.proofs.Plain.{eq_self}
 use Rattle.rb_rules.specs.Goodness.{is_good}
 use Rattle.rb_rules.specs.Ports.{HandIn}
 use Rattle.rb_rules.specs.Rounds.{records_of}
@@ -22,16 +23,6 @@ use Rattle.rb_rules_bridge.specs.Texts.{break_in}
 use Rattle.rb_laws_bridge.specs.Laws.{FramesGoByTheEarlier, HandInsAreCarried}
 use Rattle.rb_laws_bridge.proofs.Breaks.{breaks-alike}
 use Rattle.rb_laws_bridge.proofs.Later.{AreLater, deliveries-alike}
-
--- Lists.
-
-pub filter-append : {X : Type 0} (p : X → Bool) (xs ys : List X) → filter p (xs ++ ys) ≡ filter p xs ++ filter p ys
-filter-append p [] ys = refl
-filter-append {X} p (x ∷ xs) ys = by (p x) (filter-append p xs ys)
-  where
-    by : (b : Bool) → filter p (xs ++ ys) ≡ filter p xs ++ filter p ys → cond b (x ∷ filter p (xs ++ ys)) (filter p (xs ++ ys)) ≡ cond b (x ∷ filter p xs) (filter p xs) ++ filter p ys
-    by true h = ap (λ l. x ∷ l) h
-    by false h = h
 
 -- For which frame.
 

@@ -2,7 +2,7 @@
 use Rattle.std.specs.Prelude.{⊤}
 use Rattle.std.proofs.Common.{◌≡◌, ℕ, zero, suc, ◌+◌, ◌-◌, ◌*◌, ◌<◌, ◌≤◌, ◌==◌, All, Bool, true, false, inl, inr, List, [], ◌∷◌, ◌++◌, append_assoc, if◌then◌else◌, refl, sym, ◌∙◌, ap, arith}
 use Rattle.std.proofs.Math.Nat.{add-sub_of_le}
-use Rattle.std.proofs.lemmas.Bool.{cases_lt}
+use Rattle.std.proofs.lemmas.Bool.{cases_lt, eqb-true}
 use Rattle.std.proofs.lemmas.List.{append-nil}
 use Rattle.std.proofs.lemmas.List.Elements.{All-head, All-tail}
 use Rattle.rb_base.specs.Sizes.{sync_slot_of}
@@ -13,7 +13,6 @@ use Rattle.rb_rules.proofs.Books.{records-are}
 use Rattle.rb_rules.proofs.HandIns.{moments-more}
 use Rattle.rb_laws_events.proofs.HandedMoments.{before-frame}
 use Rattle.rb_laws_events.proofs.MomentBooks.{number-of}
-use Rattle.rb_laws_agreement.proofs.Tests.{equal_from}
 use Rattle.rb_group.specs.Portions.{deliveries_in, port_deliveries}
 use Rattle.rb_laws_groups.proofs.Added.{step-adds, told-more, told_in}
 
@@ -59,7 +58,7 @@ told-still sc hands frame i p past =
           let number = number-of sc hands p in
           let other : (m.frame == frame) ≡ false =
           not-here (m.frame == frame) (λ e.
-          let same : m.frame * size ≡ frame * size = ap (λ f. f * size) (equal_from m.frame frame e) in
+          let same : m.frame * size ≡ frame * size = ap (λ f. f * size) (eqb-true m.frame frame e) in
           let next : past_frame sc frame ≡ frame * size + size = one-more frame size in
           let at : m.window ≡ 3 * adds.slot + 2 = adds.at in
           let below : adds.slot < sync_slot_of sc.sizes = adds.below in

@@ -1,7 +1,7 @@
 -- Records come in the order of frames: once one of a later frame is given, all is told of a frame.
 use Rattle.std.proofs.Common.{◌≡◌, ℕ, zero, suc, ◌+◌, ◌-◌, ◌*◌, ◌/◌, ◌%◌, ◌<◌, ◌≤◌, ◌==◌, ◌&&◌, ◌⊎◌, nat_lt, Bool, true, false, inl, inr, Option, Some, None, List, [], ◌∷◌, ◌++◌, if◌then◌else◌, refl, sym, ◌∙◌, ap, subst, arith}
 use Rattle.std.proofs.Math.Nat.{add-sub_of_le}
-use Rattle.std.proofs.lemmas.Bool.{cases_lt}
+use Rattle.std.proofs.lemmas.Bool.{cases_lt, eqb-true, ltb-true}
 use Rattle.std.proofs.lemmas.List.{append-nil}
 use Rattle.rb_base.specs.Sizes.{sync_slot_of}
 use Rattle.rb_base.specs.declared.values.Place.{Place}
@@ -19,7 +19,6 @@ use Rattle.rb_laws_agreement.proofs.JudgedWindows.{rows_of}
 use Rattle.rb_laws_agreement.proofs.NextMoments.{next, book_exact}
 use Rattle.rb_laws_agreement.proofs.SlotRuns.{next-frame}
 use Rattle.rb_laws_agreement.proofs.SyncAgrees.{book_sync, book_tail}
-use Rattle.rb_laws_agreement.proofs.Tests.{equal_from, less_from}
 use Rattle.rb_group.specs.Portions.{port_deliveries}
 use Rattle.rb_rules_bridge.specs.Texts.{break_in}
 use Rattle.rb_laws_bridge.specs.Laws.{FramesAreToldInOrder, ends_run, frame_told}
@@ -107,10 +106,10 @@ stepped-adds : (sc : Scenario) (hands : List HandIn) (m : Moment) (over in_frame
     → AddsOne sc (stepped sc hands m over in_frame).frame m.book (stepped sc hands m over in_frame).book
 unfolding begin_frame
 stepped-adds sc hands m true true e f =
-    end-adds sc m.book (next sc m).frame (let same : m.frame ≡ sc.frames = equal_from m.frame sc.frames e in let is : (next sc m).frame ≡ m.frame = next-frame sc m in omega (arith, same, is))
-stepped-adds sc hands m true false e f = end-adds sc m.book (m.frame + 1) (let same : m.frame ≡ sc.frames = equal_from m.frame sc.frames e in omega (arith, same))
+    end-adds sc m.book (next sc m).frame (let same : m.frame ≡ sc.frames = eqb-true m.frame sc.frames e in let is : (next sc m).frame ≡ m.frame = next-frame sc m in omega (arith, same, is))
+stepped-adds sc hands m true false e f = end-adds sc m.book (m.frame + 1) (let same : m.frame ≡ sc.frames = eqb-true m.frame sc.frames e in omega (arith, same))
 stepped-adds sc hands m false true e f =
-    subst (λ frame. AddsOne sc frame m.book (next sc m).book) (sym (next-frame sc m)) (window-adds sc m (less_from m.window (windows_in sc.sizes) f))
+    subst (λ frame. AddsOne sc frame m.book (next sc m).book) (sym (next-frame sc m)) (window-adds sc m (ltb-true m.window (windows_in sc.sizes) f))
 stepped-adds sc hands m false false e f = frame-adds sc (m.frame + 1) _ m.book
 
 step-adds : (sc : Scenario) (hands : List HandIn) (m : Moment) → AddsOne sc (step sc hands m).frame m.book (step sc hands m).book

@@ -5,7 +5,7 @@ use Rattle.std.proofs.lemmas.Bool.Decides.{nat_tests}
 use Rattle.rb_base.specs.Nodes.Side.{Biu}
 use Rattle.rb_base.specs.Sizes.{sync_slot_of}
 use Rattle.rb_base.specs.declared.values.Heard.{Heard}
-use Rattle.rb_base.proofs.Sets.{eq_self}
+use Rattle.rb_base.proofs.Plain.{eq_self}
 use Rattle.rb_rules.specs.Goodness.{Scenario, is_good}
 use Rattle.rb_rules.specs.Hearing.{port_at}
 use Rattle.rb_rules.specs.Lawful.{IsLawful}

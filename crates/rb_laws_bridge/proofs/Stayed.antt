@@ -2,6 +2,7 @@
 use Rattle.std.proofs.Common.{◌≡◌, ℕ, zero, suc, ◌+◌, ◌-◌, ◌*◌, ◌<◌, ◌≤◌, ◌⊎◌, true, inl, inr, List, [], ◌∷◌, ◌++◌, append_assoc, refl, sym, ◌∙◌, ap, subst, arith}
 use Rattle.std.proofs.Math.Nat.{add-sub_of_le}
 use Rattle.std.proofs.lemmas.Bool.{cases_lt}
+use Rattle.rb_base.proofs.Plain.{times-more}
 use Rattle.rb_rules.specs.Book.{Record}
 use Rattle.rb_rules.specs.Goodness.{Scenario}
 use Rattle.rb_rules.specs.Ports.{HandIn}
@@ -40,9 +41,6 @@ times zero b c le = omega arith
 times (suc a) zero c le = absurd (omega (arith, le))
 times (suc a) (suc b) c le = let h : a * c ≤ b * c = times a b c (omega (arith, le)) in omega (arith, h)
 
-one-more : (a n : ℕ) → (a + 1) * n ≡ a * n + n
-one-more a n = omega arith
-
 -- the moments of a frame come before the next one begins
 in-frame : (sc : Scenario) (hands : List HandIn) (n frame : ℕ) → (moment sc hands n).frame ≤ frame → n < past_frame sc frame
 in-frame sc hands n frame le = elim (cases_lt n (past_frame sc frame)) [ inl lt ↦ lt | inr past ↦ absurd (never past) ]
@@ -57,14 +55,14 @@ in-frame sc hands n frame le = elim (cases_lt n (past_frame sc frame)) [ inl lt 
     never past =
         let number = number-of sc hands n in
         let most : m.frame * size ≤ frame * size = times m.frame frame size le in
-        let next : past_frame sc frame ≡ frame * size + size = one-more frame size in
+        let next : past_frame sc frame ≡ frame * size + size = times-more frame size in
         omega (arith, number.0, number.1, most, next, past)
 
 -- all steps of a run come before its last frame has ended
 all-steps : (sc : Scenario) (frame n : ℕ) → sc.frames ≤ frame → n ≤ steps_of sc → n < past_frame sc frame
 all-steps sc frame n late few =
     let le : (sc.frames + 1) * (windows_in sc.sizes + 1) ≤ past_frame sc frame = times (sc.frames + 1) (frame + 1) (windows_in sc.sizes + 1) (omega (arith, late)) in
-    let next : (sc.frames + 1) * (windows_in sc.sizes + 1) ≡ sc.frames * (windows_in sc.sizes + 1) + (windows_in sc.sizes + 1) = one-more sc.frames (windows_in sc.sizes + 1) in
+    let next : (sc.frames + 1) * (windows_in sc.sizes + 1) ≡ sc.frames * (windows_in sc.sizes + 1) + (windows_in sc.sizes + 1) = times-more sc.frames (windows_in sc.sizes + 1) in
     let some : 1 ≤ windows_in sc.sizes = omega arith in
     omega (arith, next, le, few, some)
 

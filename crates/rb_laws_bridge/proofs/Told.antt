@@ -3,14 +3,14 @@ use Rattle.std.proofs.Common.{◌≡◌, ℕ, zero, suc, ◌+◌, ◌-◌, ◌*�
 use Rattle.std.specs.List.{range_with_len}
 use Rattle.std.specs.Option.{option_or}
 use Rattle.std.proofs.Math.Nat.{add-sub_of_le}
-use Rattle.std.proofs.lemmas.Bool.{cases_lt}
+use Rattle.std.proofs.lemmas.Bool.{cases_lt, eqb-true}
 use Rattle.rb_base.specs.Counting.{numbers}
 use Rattle.rb_base.specs.Nodes.Side.{Biu}
 use Rattle.rb_base.specs.Sizes.{sync_slot_of}
 use Rattle.rb_base.specs.declared.values.Delivery.{Delivery}
 use Rattle.rb_base.specs.declared.values.Heard.{Heard}
 use Rattle.rb_base.specs.declared.values.Heard.TheVariants.{Word, Fault}
-use Rattle.rb_base.proofs.Sets.{eq_self}
+use Rattle.rb_base.proofs.Plain.{eq_self, option_or-if, option_or-none}
 use Rattle.rb_rules.specs.declared.record.SlotLine.{SlotLine}
 use Rattle.rb_rules.specs.Book.Record.{Slot}
 use Rattle.rb_rules.specs.Goodness.{Scenario, is_good}
@@ -30,7 +30,6 @@ use Rattle.rb_laws_agreement.proofs.Invariant.{sender_of}
 use Rattle.rb_laws_agreement.proofs.NextMoments.{next}
 use Rattle.rb_laws_agreement.proofs.SlotRuns.{IsSlot, slot_runs, third_frame}
 use Rattle.rb_laws_agreement.proofs.SlotValues.{slot-lines, value_of_slot}
-use Rattle.rb_laws_agreement.proofs.Tests.{equal_from}
 use Rattle.rb_laws_agreement.proofs.ThirdStages.{voted}
 use Rattle.rb_group.specs.Portions.{deliveries_in, line_told, port_deliveries, told_of}
 use Rattle.rb_laws_groups.proofs.Added.{first-told, step-adds, told-more, told_in}
@@ -41,18 +40,10 @@ use Rattle.rb_laws_bridge.specs.Laws.{GoodBiusTellTheBus, OtherBiusTellNothing}
 
 -- Deliveries of a slot.
 
-one_before : {X : Type 0} (b : Bool) (v : X) (a other : Option X) → (if b then Some v else option_or a other) ≡ option_or (if b then Some v else a) other
-one_before true v a other = refl
-one_before false v a other = refl
-
-value_in-append : (slot : ℕ) (ds es : List Delivery) → value_in slot (ds ++ es) ≡ option_or (value_in slot ds) (value_in slot es)
+pub value_in-append : (slot : ℕ) (ds es : List Delivery) → value_in slot (ds ++ es) ≡ option_or (value_in slot ds) (value_in slot es)
 value_in-append slot [] es = refl
 value_in-append slot (d ∷ ds) es =
-    ap (λ o. if d.slot == slot then Some d.value else o) (value_in-append slot ds es) ∙ one_before (d.slot == slot) d.value (value_in slot ds) (value_in slot es)
-
-or-none : {X : Type 0} (o : Option X) → option_or o None ≡ o
-or-none None = refl
-or-none (Some x) = refl
+    ap (λ o. if d.slot == slot then Some d.value else o) (value_in-append slot ds es) ∙ option_or-if (d.slot == slot) d.value (value_in slot ds) (value_in slot es)
 
 -- what a slot delivers is no value of another one
 other-slot : (frame s slot i : ℕ) → (s == slot) ≡ false → (lines : List SlotLine) → value_in slot (deliveries_in frame s i lines) ≡ None
@@ -60,7 +51,7 @@ other-slot frame s slot i other [] = refl
 other-slot frame s slot i other (l ∷ ls) =
     value_in-append slot (line_told frame s i l) (deliveries_in frame s i ls)
     ∙ ap (option_or (value_in slot (line_told frame s i l))) (other-slot frame s slot i other ls)
-    ∙ or-none (value_in slot (line_told frame s i l)) ∙ line (l.receiver == i)
+    ∙ option_or-none (value_in slot (line_told frame s i l)) ∙ line (l.receiver == i)
   where
     line : (b : Bool) → value_in slot (if b then record { frame = frame; slot = s; sender = l.sender; value = l.value } ∷ [] else []) ≡ None
     line true = ap (λ b. if b then Some l.value else None) other
@@ -83,7 +74,7 @@ no-line sc frame slot owner value i faulty = none (numbers sc.sizes.bius)
     here = record { frame = frame; slot = slot; sender = owner; value = value }
 
     other : (k : ℕ) → good k ≡ true → (b : Bool) → (k == i) ≡ b → b ≡ false
-    other k g true e = absurd (let both : true ≡ false = sym g ∙ ap good (equal_from k i e) ∙ faulty in cc)
+    other k g true e = absurd (let both : true ≡ false = sym g ∙ ap good (eqb-true k i e) ∙ faulty in cc)
     other k g false e = refl
 
     step : (k : ℕ) (ks : List ℕ) (b : Bool) → good k ≡ b → told ks ≡ [] → told (cond b (k ∷ ks) ks) ≡ []
@@ -157,7 +148,7 @@ still-step sc hands law frame slot i p adds_none =
           (λ same_frame same_slot. adds_none (s.number ∙ ap (λ f. f * (windows_in sc.sizes + 1) + 3 * s.slot + 3) same_frame
           ∙ ap (λ k. frame * (windows_in sc.sizes + 1) + 3 * k + 3) same_slot))
           ((moment sc hands p).frame == frame) refl (s.slot == slot) refl)
-          ∙ or-none (value_by sc hands frame slot i p)
+          ∙ option_or-none (value_by sc hands frame slot i p)
     ]
   where
     by : (f s : ℕ) (owner : Option ℕ) (value : Heard) → (f ≡ frame → s ≡ slot → is_good sc Biu i frame slot ≡ false)
@@ -166,8 +157,8 @@ still-step sc hands law frame slot i p adds_none =
     by f s owner value faulty false e c d = refl
     by f s owner value faulty true e false d = other-slot frame s slot i d (lines_in sc f s owner value)
     by f s owner value faulty true e true d =
-        let same_frame : f ≡ frame = equal_from f frame e in
-        let same_slot : s ≡ slot = equal_from s slot d in
+        let same_frame : f ≡ frame = eqb-true f frame e in
+        let same_slot : s ≡ slot = eqb-true s slot d in
         ap (λ f. value_in slot (deliveries_in frame s i (lines_in sc f s owner value))) same_frame
         ∙ ap (λ s. value_in slot (deliveries_in frame s i (lines_in sc frame s owner value))) same_slot
         ∙ ap (value_in slot) (no-line-in sc frame slot owner value i (faulty same_frame same_slot))

@@ -1,12 +1,12 @@
 -- For the law that events are rounds: where no node is good any more, what is settled by itself leaves nothing that waits
 -- for an event.
 use Rattle.std.proofs.Common.{◌≡◌, ℕ, zero, suc, ◌+◌, ◌*◌, ◌<◌, ◌≤◌, ◌==◌, ◌&&◌, ◌⊎◌, not, nat_lt, Bool, true, false, List, [], ◌∷◌, ◌++◌, length, refl, ap, sym, ◌∙◌, subst, arith, inl, inr, Option, Some, None, slice_get, if◌then◌else◌}
-use Rattle.std.proofs.lemmas.Bool.{cases_lt}
-use Rattle.std.proofs.lemmas.Bool.Decides.{nat_tests}
+use Rattle.std.proofs.lemmas.Bool.{and_parts, cases_lt, eqb-true}
 use Rattle.rb_base.specs.Nodes.{Side, has}
 use Rattle.rb_base.specs.Nodes.Side.{Biu, Rmu}
 use Rattle.rb_base.specs.Sizes.{IsShape, sync_slot_of}
 use Rattle.rb_base.specs.declared.values.Place.{Place}
+use Rattle.rb_base.proofs.Plain.{true-false}
 use Rattle.rb_base.proofs.Sets.{has-set_of, has_none}
 use Rattle.rb_rules.specs.Book.{Book, Each, Milestone, Record, after_stage, of_kind}
 use Rattle.rb_rules.specs.Book.Milestone.{Begin, Stage, End}
@@ -17,24 +17,19 @@ use Rattle.rb_rules.specs.Rounds.{moment, windows_in}
 use Rattle.rb_rules.specs.Slots.{count_of}
 use Rattle.rb_rules.specs.WorldStep.{Site, World, book_with, comes_so, frame_in, is_complete, needs_no_event, nobody_good, record_since, settle, settle_next}
 use Rattle.rb_rules.specs.WorldStep.Way.{ByItself}
+use Rattle.rb_laws_agreement.proofs.Goodnesses.{good_before, good_counts, good_earlier}
+use Rattle.rb_laws_agreement.proofs.Agreement.{ended-end}
 use Rattle.rb_laws_events.proofs.Completing.{next_world}
 use Rattle.rb_laws_events.proofs.SettledOnce.{FrameGiven, Settled, frame-given, frame-record, none-turn, ended-still, settle-still, stage-silent, still-settled}
 use Rattle.rb_laws_events.proofs.HandedMoments.{place-of}
 use Rattle.rb_laws_events.proofs.Invariant.{is_good_at}
-use Rattle.rb_laws_events.proofs.MomentBooks.{end-ended, stage-book-next}
-use Rattle.rb_laws_events.proofs.RoundNodes.{good-counts, good-earlier, good-same, slot_numbered}
-use Rattle.rb_laws_events.proofs.Settling.{and-true}
+use Rattle.rb_laws_events.proofs.MomentBooks.{stage-book-next}
+use Rattle.rb_laws_events.proofs.RoundNodes.{slot_numbered}
 use Rattle.rb_laws_events.proofs.ToldInOrder.{AllTold}
 use Rattle.rb_laws_events.proofs.Waiting.{AfterRecord, Waits, is_due, no-good}
 use Rattle.rb_laws_events.proofs.WorldBooks.{last-one, settle_rest}
 
 -- Nobody is good.
-
-same-number : (a b : ℕ) → (a == b) ≡ true → a ≡ b
-same-number a b h = grind (arith, nat_tests)
-
-true-false : {P : Type 0} → true ≡ false → P
-true-false e = absurd (cc)
 
 pub nobody-each : (sc : Scenario) (frame slot : ℕ) → IsShape sc.sizes → nobody_good sc frame slot ≡ true → (me : Side) (i : ℕ) → is_good sc me i frame slot ≡ false
 nobody-each sc frame slot shape h me i = by me (is_good sc me i frame slot) refl
@@ -45,13 +40,13 @@ nobody-each sc frame slot shape h me i = by me (is_good sc me i frame slot) refl
     by : (me : Side) (b : Bool) → is_good sc me i frame slot ≡ b → is_good sc me i frame slot ≡ false
     by me false e = e
     by Biu true e =
-        let counted : i < count_of Biu sc.sizes = good-counts sc Biu i frame slot e in
+        let counted : i < count_of Biu sc.sizes = good_counts sc Biu i frame slot e in
         let most : sc.sizes.bius ≤ 16 = shape.most_bius in
-        none Biu (omega arith) (same-number (good_at sc Biu frame slot) 0 (and-true (good_at sc Biu frame slot == 0) (good_at sc Rmu frame slot == 0) h).0)
+        none Biu (omega arith) (eqb-true (good_at sc Biu frame slot) 0 (and_parts (good_at sc Biu frame slot == 0) (good_at sc Rmu frame slot == 0) h).0)
     by Rmu true e =
-        let counted : i < count_of Rmu sc.sizes = good-counts sc Rmu i frame slot e in
+        let counted : i < count_of Rmu sc.sizes = good_counts sc Rmu i frame slot e in
         let most : sc.sizes.rmus ≤ 16 = shape.most_rmus in
-        none Rmu (omega arith) (same-number (good_at sc Rmu frame slot) 0 (and-true (good_at sc Biu frame slot == 0) (good_at sc Rmu frame slot == 0) h).1)
+        none Rmu (omega arith) (eqb-true (good_at sc Rmu frame slot) 0 (and_parts (good_at sc Biu frame slot == 0) (good_at sc Rmu frame slot == 0) h).1)
 
 nobody-of : (sc : Scenario) (frame slot : ℕ) → ((me : Side) (i : ℕ) → is_good sc me i frame slot ≡ false) → nobody_good sc frame slot ≡ true
 nobody-of sc frame slot none =
@@ -63,9 +58,9 @@ nobody-later sc f s f2 s2 shape h later = nobody-of sc f2 s2 (λ me i. by me i (
   where
     by : (me : Side) (i : ℕ) (b : Bool) → is_good sc me i f2 s2 ≡ b → (f < f2) ⊎ ((f ≡ f2) × (s ≤ s2)) → is_good sc me i f2 s2 ≡ false
     by me i false e later = e
-    by me i true e (inl lt) = true-false (sym (good-earlier sc me i f f2 s s2 lt e) ∙ nobody-each sc f s shape h me i)
+    by me i true e (inl lt) = true-false (sym (good_before sc me i f f2 s s2 lt e) ∙ nobody-each sc f s shape h me i)
     by me i true e (inr same) =
-        true-false (sym (good-same sc me i f s s2 same.1 (ap (λ f. is_good sc me i f s2) same.0 ∙ e)) ∙ nobody-each sc f s shape h me i)
+        true-false (sym (good_earlier sc me i f s s2 same.1 (ap (λ f. is_good sc me i f s2) same.0 ∙ e)) ∙ nobody-each sc f s shape h me i)
 
 -- Settling.
 
@@ -107,7 +102,7 @@ settled-alone sc sites b (Stage place) shape going h = by (book_with sc sites b 
     by : (t : Bool) → (book_with sc sites b (Stage place)).ended ≡ t → IsAlone sc (book_with sc sites b (Stage place))
     by true e = inl e
     by false e = inr (ap (needs_no_event sc) (stage-book-next sc place _ b e) ∙ after-alone sc place shape h)
-settled-alone sc sites b End shape going h = inl (end-ended b)
+settled-alone sc sites b End shape going h = inl (ended-end b)
 
 -- no node is beyond the begin of a frame at which nobody is good
 near-alone : (sc : Scenario) (hands : List HandIn) (at : Side → ℕ → ℕ) (sites : Each Site) (frame : ℕ) → IsShape sc.sizes → nobody_good sc frame 0 ≡ true → AllTold sc hands at sites

@@ -1,11 +1,12 @@
 -- For the law that events are rounds: while the book waits for a milestone, some node that runs has not passed it, so none closes what comes
 -- after it.
 use Rattle.std.proofs.Common.{◌≡◌, ℕ, suc, ◌+◌, ◌*◌, ◌-◌, ◌%◌, ◌<◌, ◌≤◌, ◌==◌, ◌⊎◌, Bool, true, false, List, refl, ap, sym, ◌∙◌, subst, arith, inl, inr, Option, Some, None, is_some, slice_get, if◌then◌else◌}
-use Rattle.std.proofs.lemmas.Bool.{cases_lt, le-ltb, lt-ltb}
-use Rattle.std.proofs.lemmas.Bool.Decides.{nat_tests}
+use Rattle.std.proofs.lemmas.Bool.{cases_lt, eq-eqb, le-ltb, lt-ltb, true≢false}
 use Rattle.std.proofs.lemmas.Nat.{mul-le}
+use Rattle.std.proofs.lemmas.Option.{same_Some}
 use Rattle.rb_base.specs.Nodes.{Side}
 use Rattle.rb_base.specs.declared.values.Place.{Place}
+use Rattle.rb_base.proofs.Plain.{times-more}
 use Rattle.rb_rules.specs.Book.{Begun, Book, Each, Milestone, Row, after_stage, of_kind}
 use Rattle.rb_rules.specs.Book.Milestone.{Begin, Stage, End}
 use Rattle.rb_rules.specs.Clock.{time_of}
@@ -21,8 +22,8 @@ use Rattle.rb_rules.proofs.Drift.{times_rise_to}
 use Rattle.rb_laws_synchrony.proofs.PlanNumbers.{drift_of}
 use Rattle.rb_laws_synchrony.proofs.StageCalls.{clock_now}
 use Rattle.rb_laws_synchrony.proofs.Times.{Steady, lawful_fits, plan_fits}
+use Rattle.rb_laws_agreement.proofs.ExactAgrees.{has_ticks}
 use Rattle.rb_laws_events.specs.Closing.{stages_in}
-use Rattle.rb_laws_events.proofs.CloseOrder.{has-ticks}
 use Rattle.rb_laws_events.proofs.FrameTimes.{BegunWell, good-node}
 use Rattle.rb_laws_events.proofs.Invariant.{InTime, is_good_at, last_tick, next_stage}
 use Rattle.rb_laws_events.proofs.MomentBooks.{next_of, number-of, place_at, settles-next, stage-next, SettlesNext}
@@ -31,7 +32,6 @@ use Rattle.rb_laws_events.proofs.NodeEvents.{tick-after}
 use Rattle.rb_laws_events.proofs.Pace.{IsWithin, Paced, number_of}
 use Rattle.rb_laws_events.proofs.RoundNodes.{slot_numbered}
 use Rattle.rb_laws_events.proofs.SameHeard.{Every}
-use Rattle.rb_laws_events.proofs.Settling.{some-same}
 use Rattle.rb_laws_events.proofs.SettlingFrames.{IsOfMoment}
 use Rattle.rb_laws_events.proofs.StageOrder.{last_of, last-same}
 use Rattle.rb_laws_events.proofs.TimelyMoments.{good-in}
@@ -57,12 +57,6 @@ pub record WaitsAt (sc : Scenario) (hands : List HandIn) (at : Side → ℕ → 
   pub behind : IsBehind sc hands at sites n
   pub from : (n ≡ 0) ⊎ ((g : ℕ) × (IsRunning (moment sc hands g) × ((n ≡ next_stage sc.sizes (moment sc hands g) g) × (b ≡ (moment sc hands g).book))))
 
-true-false : true ≡ false → ⊥
-true-false e = cc
-
-same-is : (a b : ℕ) → a ≡ b → (a == b) ≡ true
-same-is a b h = grind (arith, nat_tests)
-
 -- a node that is good where it stands runs
 pub runs-there : (sc : Scenario) (hands : List HandIn) (now : ℕ) (at : Side → ℕ → ℕ) (sites : Each Site) → SitesStand sc hands now at sites → (me : Side) (i : ℕ) (s : Site)
     → slice_get (of_kind me sites) i ≡ Some s → is_good_at sc (moment sc hands (at me i)) me i ≡ true → s.runs ≡ true
@@ -70,7 +64,7 @@ runs-there sc hands now at sites h me i s there good = by s.runs refl
   where
     by : (b : Bool) → s.runs ≡ b → b ≡ true
     by true e = refl
-    by false e = let down : IsDown sc hands me i (at me i) s = h.down me i s there e in absurd (true-false (sym good ∙ down.not_good))
+    by false e = let down : IsDown sc hands me i (at me i) s = h.down me i s there e in absurd (true≢false (sym good ∙ down.not_good))
 
 -- Begins.
 
@@ -97,8 +91,8 @@ begin-waits sc hands now at sites frame n stand told in_frame first bound open_s
             | inl b ↦
                 let frame_is : b.0.frame ≡ frame = b.1.1 ∙ ap (λ p. (moment sc hands p).frame) same ∙ in_frame in
                 let some : is_some (begun_for frame s.begun) ≡ true =
-                ap (λ o. is_some (begun_for frame o)) b.1.0 ∙ ap (λ t. is_some (elim t as (λ _. Option Begun) [ true ↦ Some b.0 | false ↦ None ])) (same-is b.0.frame frame frame_is) in
-                absurd (true-false (sym some ∙ found.untold))
+                ap (λ o. is_some (begun_for frame o)) b.1.0 ∙ ap (λ t. is_some (elim t as (λ _. Option Begun) [ true ↦ Some b.0 | false ↦ None ])) (eq-eqb b.0.frame frame frame_is) in
+                absurd (true≢false (sym some ∙ found.untold))
             | inr pends ↦ record { me = me; i = i; s = s; there = found.there; runs = runs; place = inr (same, first, pends) }
           ]
     ]
@@ -132,7 +126,7 @@ begins-at sc hands n frame e =
 -- Stages.
 
 pub place-same : (p : Place) → same_place p p ≡ true
-place-same p = rw (same-is p.frame p.frame refl, same-is p.slot p.slot refl, same-is p.stage p.stage refl) refl
+place-same p = rw (eq-eqb p.frame p.frame refl, eq-eqb p.slot p.slot refl, eq-eqb p.stage p.stage refl) refl
 
 stage-waits : (sc : Scenario) (hands : List HandIn) (now : ℕ) (at : Side → ℕ → ℕ) (sites : Each Site) (g : ℕ) → SitesStand sc hands now at sites → AllHaveTold sc hands at sites
     → (moment sc hands g).window < stages_in sc.sizes
@@ -155,13 +149,10 @@ stage-waits sc hands now at sites g stand told stage bound open_still =
           ap (λ o. is_some (row_for place o)) row.1.0
           ∙ ap (λ p. is_some (elim (same_place p place) as (λ _. Option Row) [ true ↦ Some row.0 | false ↦ None ])) row.1.1
           ∙ ap (λ t. is_some (elim t as (λ _. Option Row) [ true ↦ Some row.0 | false ↦ None ])) (place-same place) in
-          absurd (true-false (sym some ∙ found.untold))
+          absurd (true≢false (sym some ∙ found.untold))
     ] in
     let runs : s.runs ≡ true = runs-there sc hands now at sites stand me i s found.there (good-back sc hands (at me i) g me i le found.good) in
     record { me = me; i = i; s = s; there = found.there; runs = runs; place = inl (omega arith) }
-
-one-more : (a n : ℕ) → (a + 1) * n ≡ a * n + n
-one-more a n = omega arith
 
 -- what comes after a moment's stage has the number of the next stage
 after-number : (sc : Scenario) (hands : List HandIn) (g : ℕ) → (moment sc hands g).window < stages_in sc.sizes → ((moment sc hands g).frame == sc.frames) ≡ false
@@ -183,7 +174,7 @@ after-number sc hands g stage not_last =
           let outer : next_of sc m.frame (m.window + 1) ≡ Begin (m.frame + 1) =
           ap (λ b. if b then (if m.frame == sc.frames then End else Stage (record { frame = m.frame; slot = slot_numbered sc.sizes (m.window + 1); stage = (m.window + 1) % 3 + 1 })) else Begin (m.frame + 1)) (le-ltb (m.window + 1) (stages_in sc.sizes) ge) in
           let is_next : next_stage sc.sizes m g ≡ g + (windows_in sc.sizes + 1 - m.window) = next-outer sc.sizes m g ge in
-          let more : (m.frame + 1) * (windows_in sc.sizes + 1) ≡ m.frame * (windows_in sc.sizes + 1) + (windows_in sc.sizes + 1) = one-more m.frame (windows_in sc.sizes + 1) in
+          let more : (m.frame + 1) * (windows_in sc.sizes + 1) ≡ m.frame * (windows_in sc.sizes + 1) + (windows_in sc.sizes + 1) = times-more m.frame (windows_in sc.sizes + 1) in
           ap (number_of sc.sizes) outer ∙ omega (arith, is_next, number.0, number.1, more)
     ]
 
@@ -211,7 +202,7 @@ of-moment sc hands now at sites b g stand told paced going needs is =
           λ t. elim t as (λ t. (m.frame == sc.frames) ≡ t → (n : ℕ) × WaitsAt sc hands at sites b n) [
             | true ↦ λ e.
                 let end : b.upcoming ≡ End = is_in ∙ ap (λ t. if t then End else Stage (place_at sc.sizes m)) e in
-                absurd (true-false (ap (needs_no_event sc) (sym end) ∙ needs))
+                absurd (true≢false (ap (needs_no_event sc) (sym end) ∙ needs))
             | false ↦ λ e.
                 let at_stage : b.upcoming ≡ Stage (place_at sc.sizes m) = is_in ∙ ap (λ t. if t then End else Stage (place_at sc.sizes m)) e in
                 let bound : (me : Side) (i : ℕ) (s : Site) → slice_get (of_kind me sites) i ≡ Some s → at me i ≤ n =
@@ -223,7 +214,7 @@ of-moment sc hands now at sites b g stand told paced going needs is =
           by (m.frame == sc.frames) refl
       | inr over ↦
           let is_next : n ≡ g + (windows_in sc.sizes + 1 - m.window) = next-outer sc.sizes m g (omega arith) in
-          let more : (m.frame + 1) * (windows_in sc.sizes + 1) ≡ m.frame * (windows_in sc.sizes + 1) + (windows_in sc.sizes + 1) = one-more m.frame (windows_in sc.sizes + 1) in
+          let more : (m.frame + 1) * (windows_in sc.sizes + 1) ≡ m.frame * (windows_in sc.sizes + 1) + (windows_in sc.sizes + 1) = times-more m.frame (windows_in sc.sizes + 1) in
           let n_is : n ≡ (m.frame + 1) * (windows_in sc.sizes + 1) = omega (arith, is_next, number.0, number.1, more) in
           let begin : b.upcoming ≡ Begin (m.frame + 1) =
           up ∙ ap (λ b. if b then (if m.frame == sc.frames then End else Stage (place_at sc.sizes m)) else Begin (m.frame + 1)) (le-ltb m.window (stages_in sc.sizes) over) in
@@ -277,7 +268,7 @@ first-ends sc hands lawful n well first me you i j mine yours there good other_t
     begins-first sc.plan.p (f0_of sc.sizes sc.plan) sc.plan.h (sc.plan.l - 1) (shortest_of sc.plan) (drift_of sc.plan) sc.plan.dmax (time_of (clock_of sc me i) mine.epoch)
     (time_of (clock_of sc you j) yours.epoch) (time_of (clock_of sc you j) (last_tick sc m you yours)) room delay near on
 
-pend-of : (t : ℕ) (sites : Each Site) → AllPend t sites → (me : Side) (i : ℕ) (s : Site) → slice_get (of_kind me sites) i ≡ Some s → Every (λ u. t ≤ u) (times_of s)
+pub pend-of : (t : ℕ) (sites : Each Site) → AllPend t sites → (me : Side) (i : ℕ) (s : Site) → slice_get (of_kind me sites) i ≡ Some s → Every (λ u. t ≤ u) (times_of s)
 unfolding AllPend
 pend-of t sites all = all
 
@@ -315,7 +306,7 @@ closes-before sc hands now t at sites n lawful le stand passed pend stage behind
                   | inl lt_y ↦ let tail = next.between n lt lt_y in absurd (omega (arith, tail.0, stage))
                 ] in
                 let good_y : is_good_at sc (moment sc hands y) me i ≡ true = good-back sc hands y p me i y_le close.good in
-                let state = good-state sc hands y me i (has-ticks sc lawful) good_y in
+                let state = good-state sc hands y me i (has_ticks sc lawful) good_y in
                 let order : time_of (clock_of sc k j) (last_tick sc (moment sc hands q) k up.st) < time_of (clock_of sc me i) (last_tick sc (moment sc hands y) me state.0) =
                 here.order k me j i up.st state.0 up.stands.state up.stands.good state.1 good_y in
                 let ends : time_of (clock_of sc me i) (last_tick sc (moment sc hands y) me state.0) ≤ t = elim (cases_lt y p) [
@@ -324,7 +315,7 @@ closes-before sc hands now t at sites n lawful le stand passed pend stage behind
                       omega arith
                   | inr not_earlier ↦
                       let y_is : y ≡ p = omega arith in
-                      let st_is : state.0 ≡ close.st = some-same state.0 close.st (sym state.1 ∙ ap (λ y. slice_get (of_kind me (moment sc hands y).nodes) i) y_is ∙ close.state) in
+                      let st_is : state.0 ≡ close.st = same_Some state.0 close.st (sym state.1 ∙ ap (λ y. slice_get (of_kind me (moment sc hands y).nodes) i) y_is ∙ close.state) in
                       let e : time_of (clock_of sc me i) (last_tick sc (moment sc hands y) me state.0) ≡ t =
                       ap (λ y. time_of (clock_of sc me i) (last_tick sc (moment sc hands y) me state.0)) y_is
                       ∙ ap (λ z. time_of (clock_of sc me i) (last_tick sc (moment sc hands p) me z)) st_is ∙ sym close.time in
@@ -334,8 +325,8 @@ closes-before sc hands now t at sites n lawful le stand passed pend stage behind
                 times_rise_to (clock_of sc k j) up.a.tick (last_tick sc (moment sc hands q) k up.st) up.stands.receives.in_window in
                 absurd (omega (arith, order, ends, rise, after, at_time))
             | inr first ↦
-                let a_is : up.a ≡ first.2.a = some-same up.a first.2.a (sym up.stands.receives.pends ∙ first.2.ahead) in
-                let st_is : up.st ≡ first.2.st = some-same up.st first.2.st (sym up.stands.state ∙ first.2.state) in
+                let a_is : up.a ≡ first.2.a = same_Some up.a first.2.a (sym up.stands.receives.pends ∙ first.2.ahead) in
+                let st_is : up.st ≡ first.2.st = same_Some up.st first.2.st (sym up.stands.state ∙ first.2.state) in
                 let tick : up.a.tick ≡ up.st.epoch = ap (λ (a : Timed). a.tick) a_is ∙ first.2.first ∙ sym (ap (λ (z : NodeState). z.epoch) st_is) in
                 let ends : time_of (clock_of sc k j) up.st.epoch < time_of (clock_of sc me i) (last_tick sc (moment sc hands n) me close.st) =
                 first-ends sc hands lawful n well first.1 k me j i up.st close.st (ap (λ q. slice_get (of_kind k (moment sc hands q).nodes) j) (sym first.0) ∙ up.stands.state)

@@ -4,6 +4,7 @@ use Rattle.std.proofs.Common.{◌≡◌, ℕ, zero, suc, ◌+◌, ◌*◌, ◌<�
 use Rattle.std.proofs.lemmas.Bool.{cases_lt}
 use Rattle.std.proofs.lemmas.Bool.Decides.{nat_tests}
 use Rattle.std.proofs.lemmas.List.Elements.{All-head}
+use Rattle.std.proofs.lemmas.Option.{same_Some}
 use Rattle.std.specs.Prelude.{All}
 use Rattle.rb_base.specs.Counting.{numbers}
 use Rattle.rb_base.specs.Nodes.{Side, other}
@@ -36,14 +37,15 @@ use Rattle.rb_laws_synchrony.proofs.KeptMiddles.{Keeps, keeps}
 use Rattle.rb_laws_synchrony.proofs.StageCalls.{clock_now}
 use Rattle.rb_laws_synchrony.proofs.SyncLaws.{all_timely}
 use Rattle.rb_laws_synchrony.proofs.TakenCalls.{IsTaken, taken_from, took}
+use Rattle.rb_laws_agreement.proofs.FrameTimes.{good-clock}
+use Rattle.rb_laws_agreement.proofs.ExactAgrees.{has_ticks}
 use Rattle.rb_laws_events.specs.Closing.{HaveBegunAFrame, stages_in}
 use Rattle.rb_laws_events.proofs.BreachTimes.{KnewThen, knew-then}
-use Rattle.rb_laws_events.proofs.CloseOrder.{good-clock, has-ticks}
 use Rattle.rb_laws_events.proofs.FrameTimes.{node-in}
 use Rattle.rb_laws_events.proofs.Invariant.{entry_of, is_good_at}
 use Rattle.rb_laws_events.proofs.MomentSteps.{good-state}
 use Rattle.rb_laws_events.proofs.NodeCloses.{heard-all}
-use Rattle.rb_laws_events.proofs.RoundNodes.{Stands, moments-stand, some-same}
+use Rattle.rb_laws_events.proofs.RoundNodes.{Stands, moments-stand}
 use Rattle.rb_laws_events.proofs.SameHeard.{Every}
 use Rattle.rb_laws_events.proofs.SayLists.{ComesIn, said-all}
 use Rattle.rb_laws_events.proofs.TimelyMoments.{good-in}
@@ -106,13 +108,13 @@ pub heard-from : (sc : Scenario) (hands : List HandIn) → IsLawful sc → (p : 
 heard-from sc hands lawful p running inside me i j st c h heard =
     let m : Moment = moment sc hands p in
     let w : Window = window_in sc m me st in
-    let stood : Stands sc m me st = (moments-stand sc hands p (has-ticks sc lawful)).stands me i st h.there h.good in
+    let stood : Stands sc m me st = (moments-stand sc hands p (has_ticks sc lawful)).stands me i st h.there h.good in
     let moves : Moves (clock_of sc me i) = (clock_now sc lawful m me i st h).moves in
     let lengths : HasLengths (shortest_of sc.plan) (longest_of sc.plan) (clock_of sc me i) = good-clock sc lawful me i m.frame _ h.good in
     let by : (b : Bool) → is_good_at sc m (other me) j ≡ b → st.epoch + w.first ≤ stamp_of (clock_of sc me i) c.time =
     λ b. elim b as (λ b. is_good_at sc m (other me) j ≡ b → st.epoch + w.first ≤ stamp_of (clock_of sc me i) c.time) [
       | true ↦ λ e.
-          let source = good-state sc hands p (other me) j (has-ticks sc lawful) e in
+          let source = good-state sc hands p (other me) j (has_ticks sc lawful) e in
           let all = (all_timely sc hands lawful p running inside).heard me i j st source.0 (good-in sc m me i st h.there h.good) (good-in sc m (other me) j source.0 source.1 e) in
           let tick : IsTickOf (span_of st w) (stamp_of (clock_of sc me i) c.time) =
           All-head (λ (c : Coming). IsTickOf (span_of st w) (stamp_of (clock_of sc me i) c.time)) c [] (subst (All (λ (c : Coming). IsTickOf (span_of st w) (stamp_of (clock_of sc me i) c.time))) heard all) in
@@ -171,7 +173,7 @@ begins-after sc hands lawful p running last me i before now good then_good =
     let m : Moment = moment sc hands p in
     let at : m.window ≡ 3 * sync_slot_of sc.sizes + 2 = omega arith in
     let knew : KnewThen sc m me i now.epoch = knew-then sc hands lawful p last me i now (node-in sc (moment sc hands (suc (suc (suc p)))) me i now then_good) in
-    let st_is : knew.st ≡ before = some-same knew.st before (sym knew.node.there ∙ good.0) in
+    let st_is : knew.st ≡ before = same_Some knew.st before (sym knew.node.there ∙ good.0) in
     let epoch : knew.st.epoch ≡ before.epoch = ap (λ s. s.epoch) st_is in
     let least : knew.st.epoch + tail_start_of sc.sizes sc.plan ≤ now.epoch = by me at knew.st now.epoch knew.node knew.known in
     omega (arith, epoch, least)
@@ -196,5 +198,5 @@ begins-after sc hands lawful p running last me i before now good then_good =
         omega (arith, b.0, k.1.1)
     by Rmu at st x h known =
         let k = rmu-middle sc hands lawful p running at i st h in
-        let e : k.0 + sc.plan.z ≡ x = some-same (k.0 + sc.plan.z) x (ap (option_map (λ k3. k3 + sc.plan.z)) (sym k.1.0) ∙ known) in
+        let e : k.0 + sc.plan.z ≡ x = same_Some (k.0 + sc.plan.z) x (ap (option_map (λ k3. k3 + sc.plan.z)) (sym k.1.0) ∙ known) in
         omega (arith, e, k.1.1)

@@ -1,6 +1,7 @@
 -- For the law that events are rounds where the premise on faults is broken in a sync slot: whatever the verdict on a stage
 -- of the sync slot, each good node's next frame, as far as it knows when, begins after all stages of this one.
 use Rattle.std.proofs.Common.{◌≡◌, ℕ, zero, suc, ◌+◌, ◌*◌, ◌<◌, ◌≤◌, true, List, ◌∷◌, [], ap, sym, ◌∙◌, arith, Option, Some, option_map, unwrap_or, lit<}
+use Rattle.std.proofs.lemmas.Option.{same_Some}
 use Rattle.rb_base.specs.Nodes.{Side}
 use Rattle.rb_base.specs.Nodes.Side.{Biu, Rmu}
 use Rattle.rb_base.specs.Sizes.{sync_slot_of}
@@ -26,7 +27,6 @@ use Rattle.rb_laws_agreement.proofs.Settings.{after}
 use Rattle.rb_laws_synchrony.proofs.KeptMiddles.{Keeps, keeps}
 use Rattle.rb_laws_synchrony.proofs.TakenCalls.{IsTaken, taken_from, took}
 use Rattle.rb_laws_events.proofs.BreachEpochs.{heard-from, middle-least, rmu-middle}
-use Rattle.rb_laws_events.proofs.RoundNodes.{some-same}
 use Rattle.rb_laws_events.proofs.StageTimes.{keeps-running}
 
 same-first : (sc : Scenario) (m : Moment) (at : m.window ≡ 3 * sync_slot_of sc.sizes + 1) (me : Side) (st : NodeState)
@@ -94,7 +94,7 @@ next-after sc hands lawful p q running small at me i st h x known = by me q smal
     by Biu zero small at h known = stays Biu h (ap of-biu (kept 0 (lit< tt) at Biu h).1.k2) known
     by Biu (suc zero) small at h known =
         let k = biu-middle sc hands lawful p running at i st h in
-        let e : k.0 + sc.plan.v + sc.plan.z + sc.plan.c ≡ x = some-same (k.0 + sc.plan.v + sc.plan.z + sc.plan.c) x (ap of-biu (sym k.1.0) ∙ known) in
+        let e : k.0 + sc.plan.v + sc.plan.z + sc.plan.c ≡ x = same_Some (k.0 + sc.plan.v + sc.plan.z + sc.plan.c) x (ap of-biu (sym k.1.0) ∙ known) in
         omega (arith, e, k.1.1)
     by Biu (suc (suc zero)) small at h known = stays Biu h (ap of-biu (kept 2 (lit< tt) at Biu h).1.k2) known
     by Biu (suc (suc (suc q))) small at h known = absurd (omega arith)
@@ -102,6 +102,6 @@ next-after sc hands lawful p q running small at me i st h x known = by me q smal
     by Rmu (suc zero) small at h known = stays Rmu h (ap of-rmu (kept 1 (lit< tt) at Rmu h).1.k3) known
     by Rmu (suc (suc zero)) small at h known =
         let k = rmu-middle sc hands lawful p running at i st h in
-        let e : k.0 + sc.plan.z ≡ x = some-same (k.0 + sc.plan.z) x (ap of-rmu (sym k.1.0) ∙ known) in
+        let e : k.0 + sc.plan.z ≡ x = same_Some (k.0 + sc.plan.z) x (ap of-rmu (sym k.1.0) ∙ known) in
         omega (arith, e, k.1.1)
     by Rmu (suc (suc (suc q))) small at h known = absurd (omega arith)

@@ -1,10 +1,9 @@
 -- For the law that events are rounds where the premise on faults is broken in a sync slot: in the window
 -- in which the run breaks off a node that is good in the next frame knows when that begins, whatever the verdict.
-use Rattle.std.proofs.Common.{◌≡◌, ℕ, suc, ◌+◌, ◌<◌, ◌≤◌, true, List, refl, ap, sym, ◌∙◌, subst, arith, Option, Some, None, is_some, slice_get, option_map}
+use Rattle.std.proofs.Common.{◌≡◌, ℕ, suc, ◌+◌, ◌<◌, ◌≤◌, true, List, refl, ap, sym, ◌∙◌, subst, arith, Option, Some, None, is_some, slice_get}
+use Rattle.std.proofs.lemmas.Option.{same_Some}
 use Rattle.rb_base.specs.Nodes.{Side}
-use Rattle.rb_base.specs.Nodes.Side.{Biu, Rmu}
 use Rattle.rb_base.specs.Sizes.{sync_slot_of}
-use Rattle.rb_rules.specs.declared.plan.Plan.{Plan}
 use Rattle.rb_rules.specs.Book.{of_kind}
 use Rattle.rb_rules.specs.Goodness.{Scenario, is_good}
 use Rattle.rb_rules.specs.SyncStage.{new_epoch_of}
@@ -19,13 +18,15 @@ use Rattle.rb_laws_agreement.proofs.Invariant.{IsGoodNode}
 use Rattle.rb_laws_agreement.proofs.NodeWindows.{tail_windows}
 use Rattle.rb_laws_agreement.proofs.Settings.{after}
 use Rattle.rb_laws_synchrony.proofs.KeptMiddles.{Leaves, tail_leaves}
+use Rattle.rb_laws_agreement.proofs.ExactAgrees.{has_ticks}
+use Rattle.rb_laws_agreement.proofs.FrameAgrees.{epoch-known}
+use Rattle.rb_laws_agreement.proofs.FrameTimes.{turned-epoch}
 use Rattle.rb_laws_events.specs.Closing.{stages_in}
-use Rattle.rb_laws_events.proofs.CloseOrder.{IsFrameLater, IsWindowLater, frame-later, has-ticks, window-later}
-use Rattle.rb_laws_events.proofs.FrameTimes.{good-node}
+use Rattle.rb_laws_events.proofs.CloseOrder.{IsFrameLater, IsWindowLater, frame-later, window-later}
+use Rattle.rb_laws_events.proofs.FrameTimes.{good-node, same-next}
 use Rattle.rb_laws_events.proofs.Invariant.{is_good_at}
 use Rattle.rb_laws_events.proofs.MomentSteps.{good-back, good-state}
-use Rattle.rb_laws_events.proofs.RoundNodes.{Stands, epoch-known, moments-stand, some-same}
-use Rattle.rb_laws_synchrony.proofs.Synchrony.{turned_epoch}
+use Rattle.rb_laws_events.proofs.RoundNodes.{Stands, moments-stand}
 
 -- States over the turn, whatever the verdict.
 
@@ -41,11 +42,11 @@ came sc hands lawful p inside me i now h =
     let m : Moment = moment sc hands p in
     let next : IsWindowLater sc m (moment sc hands (suc p)) = window-later sc hands m inside in
     let good : is_good_at sc m me i ≡ true = good-back sc hands p (suc p) me i (omega arith) h.good in
-    let old = good-state sc hands p me i (has-ticks sc lawful) good in
+    let old = good-state sc hands p me i (has_ticks sc lawful) good in
     record {
       st = old.0;
       node = good-node sc m me i old.0 old.1 good;
-      is = some-same (after sc m me i old.0) now (sym (state-after sc m me i old.0 old.1) ∙ ap (λ nodes. slice_get (of_kind me nodes) i) (sym next.nodes) ∙ h.there);
+      is = same_Some (after sc m me i old.0) now (sym (state-after sc m me i old.0 old.1) ∙ ap (λ nodes. slice_get (of_kind me nodes) i) (sym next.nodes) ∙ h.there);
     }
 
 pub record Turned (sc : Scenario) (m : Moment) (me : Side) (i : ℕ) (now : NodeState) : Type 0 where
@@ -59,17 +60,13 @@ turned sc hands lawful p over me i now h =
     let m : Moment = moment sc hands p in
     let next : IsFrameLater sc hands m (moment sc hands (suc p)) = frame-later sc hands m over in
     let good : is_good_at sc m me i ≡ true = good-back sc hands p (suc p) me i (omega arith) h.good in
-    let old = good-state sc hands p me i (has-ticks sc lawful) good in
+    let old = good-state sc hands p me i (has_ticks sc lawful) good in
     record {
       st = old.0;
       node = good-node sc m me i old.0 old.1 good;
-      is = some-same (turn_if_known sc.sizes sc.plan me old.0) now
+      is = same_Some (turn_if_known sc.sizes sc.plan me old.0) now
           (sym (state-turned sc hands m me i old.0 old.1) ∙ ap (λ nodes. slice_get (of_kind me nodes) i) (sym next.nodes) ∙ h.there);
     }
-
-same-next : (plan : Plan) (me : Side) (st now : NodeState) → Leaves st now → new_epoch_of plan me st ≡ new_epoch_of plan me now
-same-next plan Biu st now left = ap (option_map (λ k2. k2 + plan.v + plan.z + plan.c)) (sym left.k2)
-same-next plan Rmu st now left = ap (option_map (λ k3. k3 + plan.z)) (sym left.k3)
 
 -- a node that is good in the first window of a frame knew its epoch after the last stage of the frame before
 pub record KnewThen (sc : Scenario) (m : Moment) (me : Side) (i epoch : ℕ) : Type 0 where
@@ -92,10 +89,10 @@ knew-then sc hands lawful p last me i now h =
     let a : Came sc m me i b.st = came sc hands lawful p (omega arith) me i b.st b.node in
     let good : is_good sc me i m1.frame (sync_slot_of sc.sizes) ≡ true = ap (is_good sc me i m1.frame) (sym (slot_last sc.sizes m1.window 3 (omega arith))) ∙ b.node.good in
     let left : Leaves b.st (after sc m1 me i b.st) = tail_leaves sc m1 (tail_windows sc m1 (omega arith)) me i b.st good in
-    let stood : Stands sc m2 me t.st = (moments-stand sc hands (suc (suc p)) (has-ticks sc lawful)).stands me i t.st t.node.there t.node.good in
+    let stood : Stands sc m2 me t.st = (moments-stand sc hands (suc (suc p)) (has_ticks sc lawful)).stands me i t.st t.node.there t.node.good in
     let known : Knows sc.sizes me (windows_in sc.sizes) t.st = subst (λ n. Knows sc.sizes me n t.st) (omega arith) stood.knows in
     let x = the-epoch (new_epoch_of sc.plan me t.st) (epoch-known sc.sizes sc.plan me t.st known) in
-    let e : x.0 ≡ now.epoch = sym (turned_epoch sc.sizes sc.plan me t.st x.0 x.1) ∙ ap (λ z. z.epoch) t.is in
+    let e : x.0 ≡ now.epoch = sym (turned-epoch sc.sizes sc.plan me t.st x.0 x.1) ∙ ap (λ z. z.epoch) t.is in
     record {
       st = a.st;
       node = a.node;

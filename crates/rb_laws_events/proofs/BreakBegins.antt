@@ -13,7 +13,8 @@ use Rattle.rb_rules.specs.Moments.{IsRunning}
 use Rattle.rb_rules.specs.NodeState.{NodeState}
 use Rattle.rb_rules.specs.Ports.{HandIn}
 use Rattle.rb_rules.specs.Rounds.{Moment, moment}
-use Rattle.rb_rules.specs.WorldStep.{Site, times_of}
+use Rattle.rb_rules.specs.WorldStep.{Site}
+use Rattle.rb_laws_events.proofs.Behind.{pend-of}
 use Rattle.rb_laws_events.proofs.BreakEnters.{sent-then, waits-then}
 use Rattle.rb_laws_events.proofs.BreakMessages.{SiteBreaks}
 use Rattle.rb_laws_events.proofs.BreakSites.{HasClosed, WaitsDeaf, WaitsHearing}
@@ -21,7 +22,6 @@ use Rattle.rb_laws_events.proofs.BreakWorld.{SitesBreak}
 use Rattle.rb_laws_events.proofs.Invariant.{entry_of, has_sent, is_good_at, last_tick, sending_of}
 use Rattle.rb_laws_events.proofs.NodeActs.{HasRoom}
 use Rattle.rb_laws_events.proofs.NodeEvents.{tick-after}
-use Rattle.rb_laws_events.proofs.SameHeard.{Every}
 use Rattle.rb_laws_events.proofs.WorldStands.{AllPend, IsDown, IsUp, SitesStand, ahead_in, sent_by}
 
 -- the first close of the stage at moment p: all that run stand there, one of them at its last tick, and nothing pends before
@@ -35,10 +35,6 @@ pub record FirstCloses (sc : Scenario) (hands : List HandIn) (now : ℕ) (at : S
   pub good : is_good_at sc (moment sc hands p) me i ≡ true
   pub time : t ≡ time_of (clock_of sc me i) (last_tick sc (moment sc hands p) me st)
   pub pend : AllPend t sites
-
-pend-of : (t : ℕ) (sites : Each Site) → AllPend t sites → (me : Side) (i : ℕ) (s : Site) → slice_get (of_kind me sites) i ≡ Some s → Every (λ u. t ≤ u) (times_of s)
-unfolding AllPend
-pend-of t sites all = all
 
 -- a node that runs there
 up-there : (sc : Scenario) (hands : List HandIn) (now : ℕ) (at : Side → ℕ → ℕ) (sites : Each Site) (p t : ℕ) → FirstCloses sc hands now at sites p t → (side : Side) (j : ℕ) (z : Site)

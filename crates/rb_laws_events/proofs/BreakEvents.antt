@@ -2,9 +2,11 @@
 -- the run breaks off with the first or the second stage of the sync slot. After it the node has told its row, and it says nothing to those that listen.
 use Rattle.std.proofs.Common.{◌≡◌, ℕ, zero, suc, ◌+◌, ◌*◌, ◌<◌, ◌≤◌, ◌==◌, ◌⊎◌, Bool, true, false, List, [], refl, ap, sym, ◌∙◌, subst, arith, inl, inr, Option, Some, None, slice_get}
 use Rattle.std.proofs.lemmas.Bool.Decides.{nat_tests}
+use Rattle.std.proofs.lemmas.Option.{same_Some}
 use Rattle.rb_base.specs.Nodes.{Side, other}
 use Rattle.rb_base.specs.Nodes.Side.{Biu, Rmu}
 use Rattle.rb_base.specs.Sizes.{sync_slot_of}
+use Rattle.rb_base.proofs.Plain.{none_and_some}
 use Rattle.rb_rules.specs.declared.message.Message.{Message}
 use Rattle.rb_rules.specs.declared.plan.Window.{Window}
 use Rattle.rb_rules.specs.declared.role.Role.TheVariants.{Sync}
@@ -20,6 +22,7 @@ use Rattle.rb_rules.specs.Ports.{HandIn, PortState}
 use Rattle.rb_rules.specs.Rounds.{Moment, moment, window_in}
 use Rattle.rb_rules.specs.Slots.{listens, same_side}
 use Rattle.rb_rules.specs.WorldStep.{Site, Timed, after_act, pass_and_tick}
+use Rattle.rb_rules.proofs.Slots.{same_side-is}
 use Rattle.rb_laws_agreement.proofs.NodeWindows.{sync_windows_are}
 use Rattle.rb_laws_events.proofs.BreakEnters.{hearing-closes, sent-then}
 use Rattle.rb_laws_events.proofs.BreakMessages.{SiteBreaks, closed-silent}
@@ -33,7 +36,6 @@ use Rattle.rb_laws_events.proofs.NodeSends.{sending_at}
 use Rattle.rb_laws_events.proofs.SameHeard.{Every}
 use Rattle.rb_laws_events.proofs.SentChanges.{sending-of-is}
 use Rattle.rb_laws_events.proofs.StageOrder.{last_of}
-use Rattle.rb_laws_events.proofs.WorldStands.{same-kind}
 
 -- what is known of such a tick: it is due, and a good node has its last tick of the stage no earlier
 pub record TickBreaks (sc : Scenario) (hands : List HandIn) (sent : Side → ℕ → ℕ → Bool) (ports : List PortState) (p : ℕ) (me : Side) (i : ℕ) (s : Site) (a : Timed) : Type 0 where
@@ -49,25 +51,18 @@ pub record TickBreaks (sc : Scenario) (hands : List HandIn) (sent : Side → ℕ
   pub words : (st : NodeState) → slice_get (of_kind me (moment sc hands p).nodes) i ≡ Some st → HasWord sc ports me i st (moment sc hands p).window (word_at sc (moment sc hands p) me i st)
   pub all_sent : (n : ℕ) → is_good_at sc (moment sc hands p) (other me) n ≡ true → (sent (other me) n p ≡ true) ⊎ (entry_of sc (moment sc hands p) me i n ≡ [])
 
-same-timed : (a b : Timed) → Some a ≡ Some b → a ≡ b
-same-timed a b e = cc
-
-none-pends : {P : Type 0} (a : Timed) (o : Option Timed) → o ≡ None → o ≡ Some a → P
-none-pends a None e f = cc
-none-pends a (Some b) e f = cc
-
 -- after it the node has told its row
 pub site-ticks : (sc : Scenario) (hands : List HandIn) → IsLawful sc → HasRoom sc.plan → (sent : Side → ℕ → ℕ → Bool) (now : ℕ) (ports : List PortState) (p q : ℕ) → IsRunning (moment sc hands p) → q < 2
     → (moment sc hands p).window ≡ 3 * sync_slot_of sc.sizes + q → (me : Side) (i : ℕ) (s : Site) (a : Timed) → TickBreaks sc hands sent ports p me i s a → SiteBreaks sc hands sent now p me i s
     → HasClosed sc hands me i p (after_act sc ports me i (pass_and_tick sc ports me i a.tick s.core) s)
-site-ticks sc hands lawful room sent now ports p q running small at me i s a t (inl stopped) = none-pends a s.ahead stopped.ahead t.pend
+site-ticks sc hands lawful room sent now ports p q running small at me i s a t (inl stopped) = none_and_some a s.ahead stopped.ahead t.pend
 site-ticks sc hands lawful room sent now ports p q running small at me i s a t (inr (inl h)) =
-    let same : h.a ≡ a = same-timed h.a a (sym h.stands.receives.pends ∙ t.pend) in
+    let same : h.a ≡ a = same_Some h.a a (sym h.stands.receives.pends ∙ t.pend) in
     subst (λ (b : Timed). HasClosed sc hands me i p (after_act sc ports me i (pass_and_tick sc ports me i b.tick s.core) s)) same
     (hearing-closes sc hands lawful room sent now ports p q running (omega arith) at me i s h (t.frame h.st h.stands.state h.stands.good) t.all_sent (t.words h.st h.stands.state)
     (subst (λ (b : Timed). Every (λ c. b.time < c.time) s.coming) (sym same) t.later))
 site-ticks sc hands lawful room sent now ports p q running small at me i s a t (inr (inr (inl h))) =
-    let same : h.a ≡ a = same-timed h.a a (sym h.pends ∙ t.pend) in
+    let same : h.a ≡ a = same_Some h.a a (sym h.pends ∙ t.pend) in
     subst (λ (b : Timed). HasClosed sc hands me i p (after_act sc ports me i (pass_and_tick sc ports me i b.tick s.core) s)) same
     (deaf-closes sc hands room ports p q (omega arith) at me i s h (t.words h.st h.state))
 site-ticks sc hands lawful room sent now ports p q running small at me i s a t (inr (inr (inr h))) =
@@ -103,7 +98,7 @@ ticks-quiet sc hands lawful room sent now then ports p q running small at me i s
 
     listens-there : listens (other me) Sync (q + 1) ≡ true
     listens-there =
-        ap (λ k. listens k Sync (q + 1)) (sym (same-kind side (other me) kind)) ∙ ap (listens side Sync) (sym (stage-is sc m q (omega arith) at side waits.st)) ∙ waits.hears
+        ap (λ k. listens k Sync (q + 1)) (sym (same_side-is side (other me) kind)) ∙ ap (listens side Sync) (sym (stage-is sc m q (omega arith) at side waits.st)) ∙ waits.hears
 
     not-both : {P : Type 0} (st : NodeState) → listens me Sync (window_in sc m me st).stage ≡ true → P
     not-both st e = absurd (only-one q small me (ap (listens me Sync) (sym (stage-is sc m q (omega arith) at me st)) ∙ e) listens-there)
@@ -128,10 +123,10 @@ ticks-quiet sc hands lawful room sent now then ports p q running small at me i s
         (unheard-next q small me (ap (listens me Sync) (sym (stage-is sc m q (omega arith) at me h.st)) ∙ e)) is.0 (omega (arith, before, window))
 
     by : SiteBreaks sc hands sent now p me i s → (pass_and_tick sc ports me i a.tick s.core).message ≡ None
-    by (inl stopped) = none-pends a s.ahead stopped.ahead t.pend
+    by (inl stopped) = none_and_some a s.ahead stopped.ahead t.pend
     by (inr (inl h)) = not-both h.st h.hears
     by (inr (inr (inl h))) =
-        let same : h.a ≡ a = same-timed h.a a (sym h.pends ∙ t.pend) in
+        let same : h.a ≡ a = same_Some h.a a (sym h.pends ∙ t.pend) in
         let shows = shows-deaf sc m ports me i s h.st h.a.tick room h.good h.stands h.had h.small (t.words h.st h.state) h.last h.slot h.deaf in
         let end : time_of (clock_of sc me i) h.a.tick ≡ time_of (clock_of sc me i) (last_tick sc m me h.st) = ap (time_of (clock_of sc me i)) h.last in
         let none : if_at h.a.tick (sending_at sc.sizes sc.plan me i h.st m.window (word_at sc m me i h.st)) ≡ None =

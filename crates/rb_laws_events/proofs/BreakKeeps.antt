@@ -1,8 +1,10 @@
 -- For the law that events are rounds: the nodes of a world in which the run breaks off with the first or the second stage of the sync slot keep what is
 -- asked of them.
-use Rattle.std.proofs.Common.{◌≡◌, ℕ, ◌+◌, ◌*◌, ◌<◌, ◌≤◌, ◌⊎◌, Bool, true, false, List, ap, sym, ◌∙◌, subst, arith, inl, inr, Option, Some, None}
+use Rattle.std.proofs.Common.{◌≡◌, ℕ, ◌+◌, ◌*◌, ◌<◌, ◌≤◌, ◌⊎◌, Bool, true, false, List, ap, sym, ◌∙◌, subst, arith, inl, inr, Some}
+use Rattle.std.proofs.lemmas.Option.{same_Some}
 use Rattle.rb_base.specs.Nodes.{Side}
 use Rattle.rb_base.specs.Sizes.{sync_slot_of}
+use Rattle.rb_base.proofs.Plain.{none_and_some}
 use Rattle.rb_rules.specs.Clock.{time_of}
 use Rattle.rb_rules.specs.Goodness.{Scenario, clock_of}
 use Rattle.rb_rules.specs.Lawful.{IsLawful}
@@ -58,22 +60,15 @@ site-goes sc hands sent now p me i s (inr (inl h)) = inr h.stands.good
 site-goes sc hands sent now p me i s (inr (inr (inl h))) = inr h.good
 site-goes sc hands sent now p me i s (inr (inr (inr h))) = inr h.good
 
-same-timed : (a b : Timed) → Some a ≡ Some b → a ≡ b
-same-timed a b e = cc
-
-none-pends : {P : Type 0} (a : Timed) (o : Option Timed) → o ≡ None → o ≡ Some a → P
-none-pends a None e f = cc
-none-pends a (Some b) e f = cc
-
 abbrev IsAhead : Scenario → Side → ℕ → Site → Timed → Type 0
 IsAhead sc me i s a = (s.core.had ≤ a.tick) × (a.time ≡ time_of (clock_of sc me i) a.tick)
 
 site-ahead : (sc : Scenario) (hands : List HandIn) (sent : Side → ℕ → ℕ → Bool) (now p : ℕ) (me : Side) (i : ℕ) (s : Site) → SiteBreaks sc hands sent now p me i s
     → (a : Timed) → s.ahead ≡ Some a → IsAhead sc me i s a
-site-ahead sc hands sent now p me i s (inl stopped) a e = none-pends a s.ahead stopped.ahead e
+site-ahead sc hands sent now p me i s (inl stopped) a e = none_and_some a s.ahead stopped.ahead e
 site-ahead sc hands sent now p me i s (inr (inl h)) a e =
-    subst (IsAhead sc me i s) (same-timed h.a a (sym h.stands.receives.pends ∙ e)) (h.stands.receives.is_next.later, h.stands.receives.at_time)
-site-ahead sc hands sent now p me i s (inr (inr (inl h))) a e = subst (IsAhead sc me i s) (same-timed h.a a (sym h.pends ∙ e)) (h.had, h.at_time)
+    subst (IsAhead sc me i s) (same_Some h.a a (sym h.stands.receives.pends ∙ e)) (h.stands.receives.is_next.later, h.stands.receives.at_time)
+site-ahead sc hands sent now p me i s (inr (inr (inl h))) a e = subst (IsAhead sc me i s) (same_Some h.a a (sym h.pends ∙ e)) (h.had, h.at_time)
 site-ahead sc hands sent now p me i s (inr (inr (inr h))) a e = h.ahead a e
 
 pub early-keeps : (sc : Scenario) → IsLawful sc → HasRoom sc.plan → (q : ℕ) → q < 2 → KeepsNodes sc q (NodesBreak sc)

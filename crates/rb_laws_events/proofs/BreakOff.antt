@@ -1,10 +1,11 @@
 -- For the law that events are rounds: worlds in which the run breaks off in a sync slot. The book stays until all that are good have told of the
 -- stage, and then it is the rounds', and has ended.
-use Rattle.std.proofs.Common.{◌≡◌, ℕ, suc, ◌+◌, ◌^◌, ◌<◌, ◌≤◌, ◌==◌, ◌&&◌, ◌⊎◌, not, Bool, true, false, List, length, refl, ap, sym, ◌∙◌, subst, arith, inl, inr, Option, Some, None, slice_get, if◌then◌else◌}
-use Rattle.std.proofs.lemmas.Bool.{cases_lt, lt-ltb}
+use Rattle.std.proofs.Common.{◌≡◌, ℕ, suc, ◌+◌, ◌^◌, ◌<◌, ◌≤◌, ◌==◌, ◌&&◌, ◌⊎◌, Bool, true, false, List, length, refl, ap, sym, ◌∙◌, subst, arith, inl, inr, Option, Some, None, slice_get, if◌then◌else◌}
+use Rattle.std.proofs.lemmas.Bool.{and_from, and_right, cases_lt, lt-ltb, not_from_false}
 use Rattle.rb_base.specs.Nodes.{Side, other}
 use Rattle.rb_base.specs.Nodes.Side.{Biu}
 use Rattle.rb_base.specs.declared.values.Place.{Place}
+use Rattle.rb_base.proofs.Plain.{true-false}
 use Rattle.rb_rules.specs.Book.{Book, Each, of_kind}
 use Rattle.rb_rules.specs.Book.Milestone.{Begin, End, Stage}
 use Rattle.rb_rules.specs.Clock.{time_of}
@@ -23,6 +24,7 @@ use Rattle.rb_laws_events.proofs.Behind.{closes-before, runs-there, settled-next
 use Rattle.rb_laws_events.proofs.BreakBegins.{FirstCloses, all-have-sent}
 use Rattle.rb_laws_events.proofs.BreakNodes.{BreaksAt, FirstOf, KeepsNodes}
 use Rattle.rb_rules.proofs.Drift.{times_rise_to}
+use Rattle.rb_laws_agreement.proofs.Goodnesses.{good_counts}
 use Rattle.rb_laws_events.proofs.BreakPorts.{PortsBreak, PortsOff, ports-break, ports-off}
 use Rattle.rb_laws_events.proofs.BreakRooms.{HasLater, has-later}
 use Rattle.rb_laws_events.proofs.BreakRuns.{AllSent, NodesOff, WaitsYet, first-of, pending-off, waits-yet}
@@ -32,7 +34,7 @@ use Rattle.rb_laws_events.proofs.MomentBooks.{place_at}
 use Rattle.rb_laws_events.proofs.MomentSteps.{good-back}
 use Rattle.rb_laws_events.proofs.NodeActs.{HasRoom}
 use Rattle.rb_laws_events.proofs.OneEvent.{WorldInRounds, all-pend, happens-is}
-use Rattle.rb_laws_events.proofs.RoundNodes.{good-counts, item-at, slot_numbered}
+use Rattle.rb_laws_events.proofs.RoundNodes.{item-at, slot_numbered}
 use Rattle.rb_laws_events.proofs.SettledOnce.{ended-still, rest-still, settle-still, stage-silent, waits-still}
 use Rattle.rb_laws_events.proofs.Settling.{stage-settled}
 use Rattle.rb_laws_events.proofs.SettlingFrames.{IsOfMoment}
@@ -72,9 +74,6 @@ pub record IsOver (sc : Scenario) (N : ℕ → List HandIn → ℕ → (Side →
   pub nodes : N q w.hands b sent w.sites
   pub ports : PortsBreak sc w
 
-true-false : {P : Type 0} → true ≡ false → P
-true-false e = absurd (cc)
-
 -- What the book waits for.
 
 record WaitsForStage (sc : Scenario) (hands : List HandIn) (b : ℕ) (book : Book) : Type 0 where
@@ -103,16 +102,6 @@ waits-for sc hands b q book off is needs = by (m.frame == sc.frames) refl
 
 -- What is settled.
 
-and-false : (a b : Bool) → b ≡ false → (a && b) ≡ false
-and-false true b e = e
-and-false false b e = refl
-
-and-both : (a b : Bool) → a ≡ true → b ≡ true → (a && b) ≡ true
-and-both a b e f = rw (e, f) refl
-
-not-is : (a : Bool) → a ≡ false → not a ≡ true
-not-is a e = rw e refl
-
 -- a node that runs was good, and has ticks left
 pub runs-small : (sc : Scenario) (N : ℕ → List HandIn → ℕ → (Side → ℕ → ℕ → Bool) → Each Site → Type 0) (hands : List HandIn) (b q : ℕ) (sent : Side → ℕ → ℕ → Bool) (sites : Each Site) → KeepsNodes sc q (N q)
     → BreaksAt sc hands b q → NodesOff sc N hands b q sent sites → (me : Side) (i : ℕ) (s : Site) → slice_get (of_kind me sites) i ≡ Some s → s.runs ≡ true → s.core.had < 2 ^ 31
@@ -140,12 +129,12 @@ settles-off sc N hands b q sent x room hands_are keeps off all_sent nodes is nee
     next = record x { book = book_with sc x.sites x.book x.book.upcoming }
 
     comes : comes_so sc ByAnEvent x.book.upcoming ≡ true
-    comes = not-is (needs_no_event sc x.book.upcoming) needs
+    comes = not_from_false (needs_no_event sc x.book.upcoming) needs
 
     by : (t : Bool) → is_complete sc x.sites (Stage place) ≡ t → BreaksOff sc N y ⊎ IsOver sc N y
     by false e =
         let open_still : is_complete sc x.sites x.book.upcoming ≡ false = ap (is_complete sc x.sites) it.upcoming ∙ e in
-        let still : settle_next sc ByAnEvent x ≡ x = waits-still sc x (λ going. and-false (comes_so sc ByAnEvent x.book.upcoming) (is_complete sc x.sites x.book.upcoming) open_still) in
+        let still : settle_next sc ByAnEvent x ≡ x = waits-still sc x (λ going. and_right (comes_so sc ByAnEvent x.book.upcoming) (is_complete sc x.sites x.book.upcoming) open_still) in
         let y_is : y ≡ record x { turn = None } = settle-still sc ByAnEvent 2 x still in
         let stands : BreakStands sc N hands x.sites x.book = record {
           b = b;
@@ -162,7 +151,7 @@ settles-off sc N hands b q sent x room hands_are keeps off all_sent nodes is nee
     by true e =
         let complete : is_complete sc x.sites x.book.upcoming ≡ true = ap (is_complete sc x.sites) it.upcoming ∙ e in
         let test : (comes_so sc ByAnEvent x.book.upcoming && is_complete sc x.sites x.book.upcoming) ≡ true =
-        and-both (comes_so sc ByAnEvent x.book.upcoming) (is_complete sc x.sites x.book.upcoming) comes complete in
+        and_from (comes_so sc ByAnEvent x.book.upcoming) (is_complete sc x.sites x.book.upcoming) comes complete in
         let next_is : settle_next sc ByAnEvent x ≡ next = ap (λ b. elim b as (λ _. World) [ true ↦ next | false ↦ x ]) test in
         let stage : (moment sc hands b).window < stages_in sc.sizes = let small = off.small in let window = off.window in omega (arith, small, window) in
         let book : next.book ≡ (moment sc hands (suc b)).book =
@@ -260,7 +249,7 @@ begins-off sc N now at w b q d k st lawful room keeps off h bound is needs due t
           omega (arith, had, below);
     } in
     let all_sent : AllSent sc hands b sent = λ me n good i.
-    let counted : n < count_of (other me) sc.sizes = good-counts sc (other me) n m.frame (slot_numbered sc.sizes m.window) good in
+    let counted : n < count_of (other me) sc.sizes = good_counts sc (other me) n m.frame (slot_numbered sc.sizes m.window) good in
     let long : length (of_kind (other me) w.sites) ≡ count_of (other me) sc.sizes = h.sites.counts (other me) in
     let z = item-at (of_kind (other me) w.sites) n (omega (arith, counted, long)) in
     all-have-sent sc hands lawful now at w.sites b q due.t off.running off.small off.window first me i n z.0 z.1 (runs (other me) n z.0 z.1 good) in

@@ -3,6 +3,7 @@
 use Rattle.std.proofs.Common.{◌≡◌, ℕ, ◌+◌, ◌<◌, ◌≤◌, ◌==◌, ◌⊎◌, Bool, true, false, refl, ap, sym, ◌∙◌, subst, arith, inl, inr, List, [], Option, Some, None, slice_get, option_and_then}
 use Rattle.std.proofs.lemmas.Bool.{cases_lt}
 use Rattle.std.proofs.lemmas.Bool.Decides.{nat_tests}
+use Rattle.std.proofs.lemmas.Option.{same_Some}
 use Rattle.rb_base.specs.Nodes.{Side}
 use Rattle.rb_base.specs.Nodes.Side.{Biu, Rmu}
 use Rattle.rb_base.specs.Sizes.{sync_slot_of}
@@ -24,11 +25,11 @@ use Rattle.rb_rules.specs.WorldStep.Pending.{Arrival, Tick}
 use Rattle.rb_rules.proofs.Drift.{times_rise_strictly}
 use Rattle.rb_rules.proofs.QuietTicks.{arrive-same}
 use Rattle.rb_rules.proofs.Stamps.{Moves}
+use Rattle.rb_laws_agreement.proofs.FrameTimes.{good-clock}
 use Rattle.rb_laws_events.specs.Closing.{stages_in}
 use Rattle.rb_laws_events.proofs.BreakNodes.{BreaksAt, FirstOf, KeepsNodes, TellsStage, WaitsLast}
 use Rattle.rb_laws_events.proofs.BreakRooms.{acted-had, has-later}
 use Rattle.rb_laws_events.proofs.BreakRuns.{NodesOff, reached-core}
-use Rattle.rb_laws_events.proofs.CloseOrder.{good-clock}
 use Rattle.rb_laws_events.proofs.DueEvents.{IsReady}
 use Rattle.rb_laws_events.proofs.Invariant.{is_good_at, last_tick}
 use Rattle.rb_laws_events.proofs.OneEvent.{moves-of}
@@ -39,7 +40,7 @@ use Rattle.rb_laws_events.proofs.Telling.{reached-tells}
 use Rattle.rb_laws_events.proofs.ToldInOrder.{number_at, number-is, one-changes}
 use Rattle.rb_laws_events.proofs.ToldSoFar.{arrival-keeps}
 use Rattle.rb_laws_events.proofs.UpToThere.{breaks-later}
-use Rattle.rb_laws_events.proofs.WorldStands.{is_node, some-same}
+use Rattle.rb_laws_events.proofs.WorldStands.{is_node}
 use Rattle.rb_laws_events.proofs.WorldTicks.{reached}
 
 -- What is kept of a port.
@@ -199,8 +200,8 @@ last-or-later sc N hands b q sent ports sites i s a lawful keeps off h there pen
 
     of-waits : PortWaits sc hands b ports i s → WaitsLast sc hands b Biu i s → last_tick sc m Biu st ≤ a.tick
     of-waits waits last =
-        let timed : last.a ≡ a = some-same last.a a (sym last.pends ∙ pend) in
-        let node : last.st ≡ st = some-same last.st st (sym last.state ∙ state) in
+        let timed : last.a ≡ a = same_Some last.a a (sym last.pends ∙ pend) in
+        let node : last.st ≡ st = same_Some last.st st (sym last.state ∙ state) in
         let time : a.time ≡ time_of clock (last_tick sc m Biu st) =
         ap (λ (a : Timed). a.time) (sym timed) ∙ last.time ∙ ap (λ (st : NodeState). time_of clock (last_tick sc m Biu st)) node in
         elim (cases_lt a.tick (last_tick sc m Biu st)) [
@@ -242,7 +243,7 @@ own-last sc N hands b q sent ports sites Biu i s a lawful keeps off h there pend
 
 -- Events.
 
-arrival-had : (sc : Scenario) (me : Side) (i n : ℕ) (c : Coming) (s : Site) → s.core.had ≤ (after_arrival sc me i n c s).core.had
+pub arrival-had : (sc : Scenario) (me : Side) (i n : ℕ) (c : Coming) (s : Site) → s.core.had ≤ (after_arrival sc me i n c s).core.had
 unfolding after_arrival
 arrival-had sc me i n c s =
     let same = arrive-same sc.sizes me (pass_to (stamp_of (clock_of sc me i) c.time) s.core) c.from c.bytes in

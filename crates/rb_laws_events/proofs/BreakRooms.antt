@@ -20,10 +20,12 @@ use Rattle.rb_rules.proofs.Stamps.{Moves}
 use Rattle.rb_rules.proofs.WindowNumbers.{sync-numbered}
 use Rattle.rb_laws_synchrony.proofs.EpochTicks.{frame_ticks}
 use Rattle.rb_laws_synchrony.proofs.Times.{stamp_to}
+use Rattle.rb_laws_agreement.proofs.FrameTimes.{good-clock}
+use Rattle.rb_laws_agreement.proofs.ExactAgrees.{has_ticks}
 use Rattle.rb_laws_events.specs.Closing.{stages_in}
 use Rattle.rb_laws_events.proofs.BreakNodes.{BreaksAt, FirstOf}
 use Rattle.rb_laws_events.proofs.BreakSites.{acted}
-use Rattle.rb_laws_events.proofs.CloseOrder.{good-clock, has-ticks, shortest-some, times-apart}
+use Rattle.rb_laws_events.proofs.CloseOrder.{shortest-some, times-apart}
 use Rattle.rb_laws_events.proofs.FrameTimes.{BegunWell, begun-well, good-node}
 use Rattle.rb_laws_events.proofs.Invariant.{is_good_at, last_tick}
 use Rattle.rb_laws_events.proofs.MomentSteps.{good-state}
@@ -47,7 +49,7 @@ has-later sc hands lawful b q t off first me i good =
     let you : Side = first.you in
     let j : ℕ = first.j in
     let yours : NodeState = first.yours in
-    let state = good-state sc hands b me i (has-ticks sc lawful) good in
+    let state = good-state sc hands b me i (has_ticks sc lawful) good in
     let st : NodeState = state.0 in
     let well : BegunWell sc m = begun-well sc hands lawful b off.running in
     let small = off.small in
@@ -62,7 +64,7 @@ has-later sc hands lawful b q t off first me i good =
     (well.together you me j i yours st (first.there, ap (is_good sc you j m.frame) (slot-is sc.sizes sc.plan you yours m.window) ∙ first.good)
     (state.1, ap (is_good sc me i m.frame) (slot-is sc.sizes sc.plan me st m.window) ∙ good)) rooms in
     let before : last_of sc.sizes sc.plan you yours m.window < first_of sc.sizes sc.plan you yours (stages_in sc.sizes) =
-    ends-before-later sc.sizes sc.plan you yours m.window (stages_in sc.sizes) (has-ticks sc lawful) (omega (arith, small, window)) (omega arith) in
+    ends-before-later sc.sizes sc.plan you yours m.window (stages_in sc.sizes) (has_ticks sc lawful) (omega (arith, small, window)) (omega arith) in
     let tail : first_of sc.sizes sc.plan you yours (stages_in sc.sizes) ≡ tail_start_of sc.sizes sc.plan = ap (λ w. w.first) (sync-numbered sc.sizes sc.plan you yours 3) in
     let last : a ≡ _ = last-third-call sc.sizes sc.plan you yours in
     let up : time_of (clock_of sc you j) (last_tick sc m you yours) ≤ time_of (clock_of sc you j) (yours.epoch + a) =

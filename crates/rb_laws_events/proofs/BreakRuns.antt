@@ -1,8 +1,10 @@
 -- For the law that events are rounds: an event in a world in which the run breaks off in a sync slot. Until all that are good have told of the stage
 -- the book stays; then it is that of the rounds, and has ended.
 use Rattle.std.proofs.Common.{◌≡◌, ℕ, ◌^◌, ◌<◌, ◌≤◌, ◌&&◌, ◌⊎◌, Bool, true, false, List, [], ◌∷◌, ◌++◌, length, refl, ap, sym, ◌∙◌, subst, arith, inl, inr, Option, Some, None, is_some, slice_get}
+use Rattle.std.proofs.lemmas.Option.{same_Some}
 use Rattle.rb_base.specs.Nodes.{Side, other}
 use Rattle.rb_base.specs.declared.values.Place.{Place}
+use Rattle.rb_base.proofs.Plain.{true-false}
 use Rattle.rb_rules.specs.declared.message.Message.{Message}
 use Rattle.rb_rules.specs.Book.{Each, Row, of_kind}
 use Rattle.rb_rules.specs.Book.Milestone.{Stage}
@@ -16,23 +18,23 @@ use Rattle.rb_rules.specs.Rounds.{Moment, moment}
 use Rattle.rb_rules.specs.Slots.{count_of, same_side}
 use Rattle.rb_rules.specs.WorldStep.{Pending, Site, Timed, World, after_act, after_arrival, at_node, is_complete, pass_and_tick, row_for, same_place, times_of, with_act, with_message, with_pending}
 use Rattle.rb_rules.specs.WorldStep.Pending.{Tick, Arrival}
-use Rattle.rb_laws_events.proofs.Behind.{place-same}
+use Rattle.rb_laws_agreement.proofs.FrameTimes.{good-clock}
+use Rattle.rb_laws_events.proofs.Behind.{pend-of, place-same}
 use Rattle.rb_laws_events.proofs.BreakEvents.{TickBreaks}
 use Rattle.rb_laws_events.proofs.BreakMessages.{HasStopped}
 use Rattle.rb_laws_events.proofs.BreakRooms.{acted-small, arrived-small, has-later}
 use Rattle.rb_laws_events.proofs.PendingLists.{StandsAt}
 use Rattle.rb_laws_events.proofs.BreakNodes.{BreaksAt, FirstOf, KeepsNodes, TellsStage, WaitsLast}
-use Rattle.rb_laws_events.proofs.CloseOrder.{good-clock}
 use Rattle.rb_laws_events.proofs.DueEvents.{IsReady}
 use Rattle.rb_laws_events.proofs.Invariant.{entry_of, is_good_at}
 use Rattle.rb_laws_events.proofs.MomentBooks.{place_at}
 use Rattle.rb_laws_events.proofs.NodeActs.{HasRoom}
 use Rattle.rb_laws_events.proofs.NodeEvents.{all-after, tick-after}
-use Rattle.rb_laws_events.proofs.OneEvent.{moves-of, pend-of}
+use Rattle.rb_laws_events.proofs.OneEvent.{moves-of}
 use Rattle.rb_laws_events.proofs.PortsKept.{sync-word}
 use Rattle.rb_laws_events.proofs.RoundNodes.{moments-stand, slot_numbered}
 use Rattle.rb_laws_events.proofs.SameHeard.{Every}
-use Rattle.rb_laws_events.proofs.Settling.{RowOfRounds, RowsOfRounds, some-same}
+use Rattle.rb_laws_events.proofs.Settling.{RowOfRounds, RowsOfRounds}
 use Rattle.rb_laws_events.proofs.Telling.{reached-tells}
 use Rattle.rb_laws_events.proofs.ToldInOrder.{one-changes}
 use Rattle.rb_laws_events.proofs.ToldSoFar.{arrival-keeps}
@@ -61,9 +63,6 @@ reached-core sc me i frame k (Some m) side j s = by (same_side side (other me) &
     ]).core ≡ s.core
     by true = refl
     by false = refl
-
-true-false : {P : Type 0} → true ≡ false → P
-true-false e = absurd (cc)
 
 tells-still : (sc : Scenario) (hands : List HandIn) (b : ℕ) (me : Side) (i : ℕ) (s z : Site) → z.row ≡ s.row → TellsStage sc hands b me i s → TellsStage sc hands b me i z
 tells-still sc hands b me i s z same h = record { row = h.row; is = same ∙ h.is; place = h.place; rounds = h.rounds }
@@ -178,7 +177,7 @@ pending-off sc N b q sent w me i t s (Tick k) lawful room keeps off all_sent h t
     let after : NodesOff sc N w.hands b q sent (with_act sc w me i a.tick x).sites =
     changes-off sc N w.hands b q sent w.sites me i x.core.state.frame a.tick x.message (after_act sc w.ports me i x) s there
     (keeps.tick w.hands b off sent w.ports w.sites h.nodes me i x.core.state.frame s a t_is there)
-    (λ row e. subst (RowOfRounds sc w.hands me i) (some-same told.row row (sym told.is ∙ e)) told.rounds) (λ good. inr told)
+    (λ row e. subst (RowOfRounds sc w.hands me i) (same_Some told.row row (sym told.is ∙ e)) told.rounds) (λ good. inr told)
     (acted-small sc w.ports me i a.tick s (has-later sc w.hands lawful b q (time_of (clock_of sc me i) a.tick) off (record { you = first.you; j = first.j; yours = first.yours; there = first.there; good = first.good; first = let le = first.first in omega (arith, time, le, ahead.1) }) me i (goes-good ready.1.0)) ahead.0) h in
     (subst (λ k. NodesOff sc N w.hands b q sent (with_act sc w me i k (pass_and_tick sc w.ports me i k s.core)).sites) ready.1.1.0 after, refl)
   where

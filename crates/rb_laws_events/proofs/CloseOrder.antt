@@ -1,12 +1,12 @@
 -- For the law on the order of closes: the times of two closes, and a node's state some moments before.
 use Rattle.std.proofs.Common.{◌≡◌, ℕ, suc, ◌+◌, ◌*◌, ◌<◌, ◌≤◌, ◌==◌, nat_lt, Bool, true, false, List, [], length, refl, ap, sym, ◌∙◌, subst, arith, Some, slice_get}
 use Rattle.std.proofs.lemmas.Bool.{lt-ltb, le-ltb}
+use Rattle.std.proofs.lemmas.Option.{same_Some}
 use Rattle.rb_base.specs.Nodes.{Side}
-use Rattle.rb_base.specs.Nodes.Side.{Biu, Rmu}
-use Rattle.rb_base.specs.Sizes.{Sizes, sync_slot_of}
+use Rattle.rb_base.specs.Sizes.{sync_slot_of}
 use Rattle.rb_rules.specs.Book.{of_kind}
 use Rattle.rb_rules.specs.Clock.{Timeline, time_of}
-use Rattle.rb_rules.specs.Goodness.{Scenario, is_good, clock_of, clock_place}
+use Rattle.rb_rules.specs.Goodness.{Scenario, is_good, clock_of}
 use Rattle.rb_rules.specs.Lawful.{IsLawful}
 use Rattle.rb_rules.specs.NodeState.{NodeState}
 use Rattle.rb_rules.specs.Plan.{longest_of, shortest_of, tail_start_of}
@@ -14,29 +14,17 @@ use Rattle.rb_rules.specs.Ports.{HandIn}
 use Rattle.rb_rules.specs.Rounds.{Moment, IsGoodIn, window_in, windows_in, results_of, after_window, begin_frame, next_frame, sent_in, go_through, step, moment}
 use Rattle.rb_rules.specs.Slots.{count_of}
 use Rattle.rb_rules.proofs.Books.{stepped}
-use Rattle.rb_rules.proofs.Drift.{HasLengths, drift, has_lengths, times_rise_to}
-use Rattle.rb_rules.proofs.RoundStates.{state-after, through-stays, HasTicks}
+use Rattle.rb_rules.proofs.Drift.{HasLengths, drift, times_rise_to}
+use Rattle.rb_rules.proofs.RoundStates.{state-after, through-stays}
+use Rattle.rb_laws_agreement.proofs.Goodnesses.{good_before, good_counts, good_earlier}
+use Rattle.rb_laws_agreement.proofs.ExactAgrees.{has_ticks}
+use Rattle.rb_laws_agreement.proofs.FrameTimes.{good-clock}
 use Rattle.rb_laws_events.specs.Closing.{stages_in, HaveBegunTogether, HaveBegunAFrame, CloseInOrder}
 use Rattle.rb_laws_events.proofs.PlanNumbers.{fits, closes-first}
-use Rattle.rb_laws_events.proofs.RoundNodes.{AllStand, moments-stand, item-at, some-same, slot-is, slot_numbered, good-same, good-earlier, good-counts}
+use Rattle.rb_laws_events.proofs.RoundNodes.{AllStand, moments-stand, item-at, slot-is, slot_numbered}
 use Rattle.rb_laws_events.proofs.StageOrder.{Apart, last_of, apart-next, apart-turn}
 
 -- Clocks.
-
--- there is a clock for each node
-place-within : (sizes : Sizes) (side : Side) (i n : ℕ) → n ≡ sizes.bius + sizes.rmus → i < count_of side sizes → clock_place sizes side i < n
-place-within sizes Biu i n e h = omega arith
-place-within sizes Rmu i n e h = omega arith
-
-pub good-clock : (sc : Scenario) → IsLawful sc → (me : Side) (i frame slot : ℕ) → is_good sc me i frame slot ≡ true
-    → HasLengths (shortest_of sc.plan) (longest_of sc.plan) (clock_of sc me i)
-good-clock sc lawful me i frame slot good =
-    has_lengths (shortest_of sc.plan) (longest_of sc.plan) (clock_of sc me i)
-    (lawful.clocks (clock_place sc.sizes me i) (record { start = 0; segments = [] })
-    (place-within sc.sizes me i (length sc.clocks) lawful.one_clock_each (good-counts sc me i frame slot good)))
-
-pub has-ticks : (sc : Scenario) → IsLawful sc → HasTicks sc.plan
-has-ticks sc lawful = record { l = lawful.plan.l.0; v = lawful.plan.v.0; z = lawful.plan.z.0 }
 
 -- a node that closes at offset o is before one that closes at offset m, if the two began at most p apart
 pub times-apart : (sc : Scenario) → IsLawful sc → (a b : Timeline) (mine yours o m : ℕ) → HasLengths (shortest_of sc.plan) (longest_of sc.plan) a
@@ -104,14 +92,14 @@ was-good sc hands m me i st inside stand good =
     let same_window : is_good sc me i m.frame (slot_numbered sc.sizes (m.window + 1)) ≡ true =
     ap (λ w. is_good sc me i m.frame (slot_numbered sc.sizes w)) (sym next.window) ∙ same_frame in
     let before : is_good sc me i m.frame (slot_numbered sc.sizes m.window) ≡ true =
-    good-same sc me i m.frame (slot_numbered sc.sizes m.window) (slot_numbered sc.sizes (m.window + 1)) (omega arith) same_window in
+    good_earlier sc me i m.frame (slot_numbered sc.sizes m.window) (slot_numbered sc.sizes (m.window + 1)) (omega arith) same_window in
     let long : length (of_kind me m.nodes) ≡ count_of me sc.sizes = stand.counts me in
-    let counted : i < count_of me sc.sizes = good-counts sc me i m.frame (slot_numbered sc.sizes m.window) before in
+    let counted : i < count_of me sc.sizes = good_counts sc me i m.frame (slot_numbered sc.sizes m.window) before in
     let old = item-at (of_kind me m.nodes) i (omega arith) in
     let now : NodeState = (go_through sc m (sent_in sc m) me i old.0 (window_in sc m me old.0)).state in
     let there : slice_get (of_kind me (after_window sc m (results_of sc m)).nodes) i ≡ Some st =
     ap (λ nodes. slice_get (of_kind me nodes) i) (sym next.nodes) ∙ good.0 in
-    let same : now ≡ st = some-same now st (sym (state-after sc m me i old.0 old.1) ∙ there) in
+    let same : now ≡ st = same_Some now st (sym (state-after sc m me i old.0 old.1) ∙ there) in
     record {
       st = old.0;
       good = (old.1, ap (is_good sc me i m.frame) (slot-is sc.sizes sc.plan me old.0 m.window) ∙ before);
@@ -128,7 +116,7 @@ pub next-in-order : (sc : Scenario) (hands : List HandIn) → IsLawful sc → (n
 next-in-order sc hands lawful n together below me you i j mine yours good other =
     let m : Moment = moment sc hands n in
     let inside : m.window < windows_in sc.sizes = omega arith in
-    let was : WasGood sc m you j yours.epoch = was-good sc hands m you j yours inside (moments-stand sc hands n (has-ticks sc lawful)) other in
+    let was : WasGood sc m you j yours.epoch = was-good sc hands m you j yours inside (moments-stand sc hands n (has_ticks sc lawful)) other in
     let rooms : Apart sc.plan (last_of sc.sizes sc.plan me mine m.window) (last_of sc.sizes sc.plan you yours (m.window + 1)) =
     apart-next sc.sizes sc.plan me you mine yours m.window (fits sc.sizes sc.plan lawful.plan lawful.feasible) lawful.plan.l.0
     (shortest-some sc lawful) below in
@@ -171,10 +159,10 @@ turn-in-order sc hands lawful n together at_last frame me you i j mine yours goo
     let now : is_good sc you j (m.frame + 1) (window_in sc later you yours).slot ≡ true =
     ap (λ f. is_good sc you j f (window_in sc later you yours).slot) (sym frames) ∙ other.1 in
     let before : is_good sc you j m.frame (slot_numbered sc.sizes m.window) ≡ true =
-    good-earlier sc you j m.frame (m.frame + 1) (slot_numbered sc.sizes m.window) (window_in sc later you yours).slot (omega arith) now in
-    let stand : AllStand sc m = moments-stand sc hands n (has-ticks sc lawful) in
+    good_before sc you j m.frame (m.frame + 1) (slot_numbered sc.sizes m.window) (window_in sc later you yours).slot (omega arith) now in
+    let stand : AllStand sc m = moments-stand sc hands n (has_ticks sc lawful) in
     let long : length (of_kind you m.nodes) ≡ count_of you sc.sizes = stand.counts you in
-    let counted : j < count_of you sc.sizes = good-counts sc you j m.frame (slot_numbered sc.sizes m.window) before in
+    let counted : j < count_of you sc.sizes = good_counts sc you j m.frame (slot_numbered sc.sizes m.window) before in
     let old = item-at (of_kind you m.nodes) j (omega arith) in
     let was : IsGoodIn sc m you j old.0 = (old.1, ap (is_good sc you j m.frame) (slot-is sc.sizes sc.plan you old.0 m.window) ∙ before) in
     let begun : old.0.epoch + tail_start_of sc.sizes sc.plan ≤ yours.epoch = frame you j old.0 yours was other in

@@ -1,10 +1,11 @@
 -- For the law that events are rounds: what an event completes is settled, and what comes next by an event waits again.
 -- While the record of a frame's begin is the turn, all nodes that are good there have begun the frame, and none is beyond its second window.
 use Rattle.std.proofs.Common.{◌≡◌, ℕ, suc, ◌+◌, ◌-◌, ◌*◌, ◌%◌, ◌<◌, ◌≤◌, ◌==◌, ◌&&◌, ◌⊎◌, nat_lt, Bool, true, false, List, length, refl, ap, sym, ◌∙◌, subst, arith, inl, inr, Option, Some, None, is_some, slice_get, if◌then◌else◌}
-use Rattle.std.proofs.lemmas.Bool.{cases_lt, lt-ltb, le-ltb}
+use Rattle.std.proofs.lemmas.Bool.{and_parts, cases_lt, le-ltb, lt-ltb}
 use Rattle.std.proofs.lemmas.Bool.Decides.{nat_tests}
 use Rattle.rb_base.specs.Nodes.{Side}
 use Rattle.rb_base.specs.declared.values.Place.{Place}
+use Rattle.rb_base.proofs.Plain.{true-false}
 use Rattle.rb_rules.specs.declared.message.Message.{Message}
 use Rattle.rb_rules.specs.Book.{Begun, Book, Each, Milestone, Row, after_stage, of_kind}
 use Rattle.rb_rules.specs.Book.Milestone.{Begin, Stage, End}
@@ -19,7 +20,6 @@ use Rattle.rb_laws_events.proofs.HandedMoments.{place-of}
 use Rattle.rb_laws_events.proofs.Invariant.{next_stage}
 use Rattle.rb_laws_events.proofs.MomentBooks.{next_of, number-of, place_at, settles-next, stage-book-next, stage-next, SettlesNext}
 use Rattle.rb_laws_events.proofs.RoundNodes.{slot_numbered}
-use Rattle.rb_laws_events.proofs.Settling.{and-true}
 use Rattle.rb_laws_events.proofs.SettledOnce.{FrameGiven, Settled, after-frame, frame-given, none-turn, rest-still, settle-still, stage-silent, still-settled, sync-silent, waits-still}
 use Rattle.rb_laws_events.proofs.SettlingFrames.{IsOfMoment}
 use Rattle.rb_laws_events.proofs.Telling.{reached-tells}
@@ -47,11 +47,8 @@ pub record EventAt (sc : Scenario) (hands : List HandIn) (at now_at : Side → �
   pub told : AllTold sc hands now_at now_sites
   pub counts : (side : Side) → length (of_kind side now_sites) ≡ count_of side sc.sizes
 
-true-false : {P : Type 0} → true ≡ false → P
-true-false e = absurd (cc)
-
 complete-of : (sc : Scenario) (sites : Each Site) (m : Milestone) → is_due sc sites m ≡ true → is_complete sc sites m ≡ true
-complete-of sc sites m h = (and-true (comes_so sc ByAnEvent m) (is_complete sc sites m) h).1
+complete-of sc sites m h = (and_parts (comes_so sc ByAnEvent m) (is_complete sc sites m) h).1
 
 not-complete : (a b c : Bool) → (a && b) ≡ false → (a && c) ≡ true → b ≡ false
 not-complete true b c h k = h

@@ -1,10 +1,10 @@
 -- For the law that cores are those of the rounds: a node that stands in a moment of the rounds finds that moment by its own frame and window, and
 -- holds its state.
-use Rattle.std.proofs.Common.{◌≡◌, ℕ, ◌+◌, ◌*◌, ◌-◌, ◌%◌, ◌<◌, ◌≤◌, ◌==◌, Bool, true, false, refl, ap, sym, ◌∙◌, subst, arith, inl, inr, List, Option, Some, None, slice_get}
+use Rattle.std.proofs.Common.{◌≡◌, ℕ, ◌+◌, ◌*◌, ◌-◌, ◌%◌, ◌≤◌, ◌==◌, Bool, true, false, refl, ap, sym, ◌∙◌, subst, arith, inl, inr, List, Option, Some, None, slice_get}
 use Rattle.std.proofs.lemmas.Bool.{cases_lt}
-use Rattle.std.proofs.lemmas.Bool.Decides.{nat_tests}
 use Rattle.rb_base.specs.Nodes.{Side}
 use Rattle.rb_base.specs.Sizes.{Sizes, sync_slot_of}
+use Rattle.rb_base.proofs.Plain.{less-differs}
 use Rattle.rb_rules.specs.declared.plan.Plan.{Plan}
 use Rattle.rb_rules.specs.declared.plan.Window.{Window}
 use Rattle.rb_rules.specs.Book.{of_kind}
@@ -15,7 +15,7 @@ use Rattle.rb_rules.specs.Hearing.{window_numbered}
 use Rattle.rb_rules.specs.NodeState.{NodeState}
 use Rattle.rb_rules.specs.Ports.{HandIn}
 use Rattle.rb_rules.specs.Rounds.{Moment, moment, window_in, windows_in}
-use Rattle.rb_rules.specs.SyncStage.{new_epoch_of}
+use Rattle.rb_rules.proofs.QuietTicks.{state-same}
 use Rattle.rb_rules.proofs.RoundStates.{HasTicks}
 use Rattle.rb_rules.proofs.WindowNumbers.{sync-numbered}
 use Rattle.rb_laws_events.specs.Closing.{stages_in}
@@ -36,28 +36,6 @@ abbrev turning : Sizes → Plan → Side → NodeState → ℕ → Option ℕ �
 turning sizes plan me st k next =
     elim (is_tick next k) [ true ↦ elim next [ None ↦ st | Some epoch ↦ turn sizes plan.probation me epoch st ] | false ↦ st ]
 
--- where the frame did not begin with the tick, the node did not turn at it
-turning-same : (sizes : Sizes) (plan : Plan) (me : Side) (st : NodeState) (k : ℕ) (next : Option ℕ)
-    → ((turning sizes plan me st k next).epoch == k) ≡ false → turning sizes plan me st k next ≡ st
-unfolding turn
-turning-same sizes plan me st k None h = refl
-turning-same sizes plan me st k (Some epoch) h = at-once (epoch == k) refl h
-  where
-    after : Bool → NodeState
-    after b = elim b [ true ↦ turn sizes plan.probation me epoch st | false ↦ st ]
-
-    at-once : (b : Bool) → (epoch == k) ≡ b → ((after b).epoch == k) ≡ false → after b ≡ st
-    at-once true e h = cc
-    at-once false e h = refl
-
-state-same : (sizes : Sizes) (plan : Plan) (me : Side) (st : NodeState) (k : ℕ)
-    → ((state_at sizes plan me st k).epoch == k) ≡ false → state_at sizes plan me st k ≡ st
-unfolding state_at
-state-same sizes plan me st k = turning-same sizes plan me st k (new_epoch_of plan me st)
-
-differs : (a k : ℕ) → a < k → (a == k) ≡ false
-differs a k h = grind (arith, nat_tests)
-
 -- the core is ready for its next tick in the state in which it takes a later tick of the window
 ready-early : (sizes : Sizes) (plan : Plan) (me : Side) (i : ℕ) (st c y : NodeState) (n had k : ℕ) → HasTicks plan → KeepsTime sizes plan me st → n ≤ stages_in sizes
     → Like sizes plan me i st y → IsTickIn sizes plan me st n had → had ≤ k → state_at sizes plan me c k ≡ y → state_at sizes plan me c had ≡ y
@@ -66,7 +44,7 @@ ready-early sizes plan me i st c y n had k ticks keeps le like at later now =
       | inl lt ↦
           let epoch : y.epoch ≡ st.epoch = like.epoch in
           let from = at.from in
-          let other : ((state_at sizes plan me c k).epoch == k) ≡ false = ap (λ (y : NodeState). y.epoch == k) now ∙ differs y.epoch k (omega (arith, epoch, from, lt)) in
+          let other : ((state_at sizes plan me c k).epoch == k) ≡ false = ap (λ (y : NodeState). y.epoch == k) now ∙ less-differs y.epoch k (omega (arith, epoch, from, lt)) in
           let same : c ≡ y = sym (state-same sizes plan me c k other) ∙ now in
           ap (λ c. state_at sizes plan me c had) same
           ∙ no-turn sizes plan me y n had ticks (like-keeps sizes plan me i st y like keeps) le (like-tick sizes plan me i st y n had like at)

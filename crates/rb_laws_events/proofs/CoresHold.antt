@@ -1,10 +1,11 @@
 -- For the law that cores are those of the rounds: it holds in every world before the breaking stage.
 use Rattle.std.proofs.Common.{◌≡◌, ℕ, suc, ◌+◌, ◌*◌, ◌-◌, ◌%◌, ◌<◌, ◌==◌, nat_lt, Bool, true, false, refl, ap, sym, ◌∙◌, subst, arith, inl, inr, List, [], ◌∷◌, ◌++◌, Option, Some, None, slice_get, is_some, if◌then◌else◌}
-use Rattle.std.proofs.lemmas.Bool.{cases_lt, lt-ltb}
+use Rattle.std.proofs.lemmas.Bool.{cases_lt, eqb-true, lt-ltb}
 use Rattle.rb_base.specs.Nodes.{Side}
 use Rattle.rb_base.specs.Nodes.Side.{Biu}
 use Rattle.rb_base.specs.Sizes.{sync_slot_of}
 use Rattle.rb_base.specs.declared.values.Place.{Place}
+use Rattle.rb_base.proofs.Plain.{true-false}
 use Rattle.rb_rules.specs.declared.cause.Cause.{Cause}
 use Rattle.rb_rules.specs.declared.plan.Window.{Window}
 use Rattle.rb_rules.specs.Book.{Begun, Book, Each, Row, after_verdict, frame_records, judged_of, with_end, with_frame, with_stage}
@@ -20,18 +21,17 @@ use Rattle.rb_rules.specs.Windows.{windows_of_frame}
 use Rattle.rb_rules.specs.WorldStep.{Site, World, world_after}
 use Rattle.rb_rules.proofs.Books.{moments-on, stepped}
 use Rattle.rb_laws_agreement.proofs.Places.{running_earlier}
+use Rattle.rb_laws_agreement.proofs.ExactAgrees.{has_ticks}
 use Rattle.rb_laws_events.specs.Closing.{stages_in}
 use Rattle.rb_laws_events.specs.OwnMoments.{CoresAreThoseOfTheRounds, HoldsTheRounds, HoldsTheState, IsBeforeTheBreak, RunningNode}
 use Rattle.rb_laws_events.proofs.Behind.{settled-next}
 use Rattle.rb_laws_events.proofs.BreakNodes.{BreaksAt}
-use Rattle.rb_laws_events.proofs.CloseOrder.{has-ticks}
 use Rattle.rb_laws_events.proofs.CoreStates.{IsThere, StandsIn, is-there}
 use Rattle.rb_laws_events.proofs.EventsHold.{any, nodes_at}
 use Rattle.rb_laws_events.proofs.EveryWorld.{AnyWorld, InRun}
 use Rattle.rb_laws_events.proofs.MomentBooks.{number-of, place_at}
 use Rattle.rb_laws_events.proofs.OneTake.{StandsInRounds}
 use Rattle.rb_laws_events.proofs.RoundNodes.{slot_numbered}
-use Rattle.rb_laws_events.proofs.Settling.{same-number}
 use Rattle.rb_laws_events.proofs.SettlingFrames.{IsOfMoment, RunsIn, runs-in}
 use Rattle.rb_laws_events.proofs.WorldStands.{IsDown, IsUp, sent_by}
 
@@ -51,7 +51,7 @@ up-in sc w lawful h me node =
       from = up.stands.from;
       later = up.stands.receives.is_next.later;
     } in
-    is-there sc w.hands me i (h.at me i) s.core up.st up.a.tick (has-ticks sc lawful) stands
+    is-there sc w.hands me i (h.at me i) s.core up.st up.a.tick (has_ticks sc lawful) stands
 
 pub run-holds : (sc : Scenario) (w : World) → IsLawful sc → StandsInRounds sc w → HoldsTheRounds sc w
 run-holds sc w lawful h = record {
@@ -70,9 +70,6 @@ run-holds sc w lawful h = record {
 }
 
 -- Worlds before the breaking stage.
-
-true-false : {P : Type 0} → true ≡ false → P
-true-false e = absurd (cc)
 
 -- a stage with which the run ends stays the first that is not settled
 
@@ -142,7 +139,7 @@ breaks-there sc hands lawful b q off =
     settled-next sc hands b off.running
     ∙ ap (λ t. if t then (if m.frame == sc.frames then End else Stage (place_at sc.sizes m)) else Begin (m.frame + 1)) (lt-ltb m.window (stages_in sc.sizes) stage)
     ∙ ap (λ t. if t then End else Stage (place_at sc.sizes m))
-    (differs (m.frame == sc.frames) (λ e. let first : m.window ≡ 0 = runs.at_first (same-number m.frame sc.frames e) in sync-late first window))
+    (differs (m.frame == sc.frames) (λ e. let first : m.window ≡ 0 = runs.at_first (eqb-true m.frame sc.frames e) in sync-late first window))
   where
     m : Moment
     m = moment sc hands b

@@ -6,6 +6,7 @@ use Rattle.std.proofs.lemmas.Nat.{mul-le}
 use Rattle.rb_base.specs.Nodes.{Side}
 use Rattle.rb_base.specs.Nodes.Side.{Biu}
 use Rattle.rb_base.specs.Sizes.{Sizes, sync_slot_of}
+use Rattle.rb_base.proofs.Plain.{true-false}
 use Rattle.rb_rules.specs.declared.plan.Plan.{Plan}
 use Rattle.rb_rules.specs.declared.plan.Window.{Window}
 use Rattle.rb_rules.specs.Book.{of_kind}
@@ -21,13 +22,13 @@ use Rattle.rb_rules.specs.Rounds.{Moment, moment, windows_in}
 use Rattle.rb_rules.specs.SyncStage.{new_epoch_of}
 use Rattle.rb_rules.specs.WorldStep.{Site, Timed, World, world_after}
 use Rattle.rb_rules.proofs.RoundStates.{HasTicks}
+use Rattle.rb_laws_agreement.proofs.ExactAgrees.{has_ticks}
 use Rattle.rb_laws_events.specs.Closing.{stages_in}
 use Rattle.rb_laws_events.specs.OwnMoments.{CoresFollowTheRounds, FollowsTheRounds, HoldsTheRounds, HoldsTheState, RunningNode, moment_of, open_window, own_moment, ready_state}
 use Rattle.rb_laws_events.proofs.BreakMessages.{SiteBreaks}
 use Rattle.rb_laws_events.proofs.BreakNodes.{BreaksAt}
 use Rattle.rb_laws_events.proofs.BreakPorts.{PortsBreak}
 use Rattle.rb_laws_events.proofs.BreakSites.{HasClosed, WaitsDeaf, WaitsHearing}
-use Rattle.rb_laws_events.proofs.CloseOrder.{has-ticks}
 use Rattle.rb_laws_events.proofs.CoreStates.{IsThere, StandsIn, is-there, window-place}
 use Rattle.rb_laws_events.proofs.CoresHold.{run-holds}
 use Rattle.rb_laws_events.proofs.EventsHold.{any, keeps, nodes_at}
@@ -40,9 +41,6 @@ use Rattle.rb_laws_events.proofs.RoundNodes.{moments-stand}
 use Rattle.rb_laws_events.proofs.StageOrder.{last_of}
 use Rattle.rb_laws_events.proofs.TickWindows.{Tiles, first_of, here-is, tail-here, tiles}
 use Rattle.rb_laws_events.proofs.UpToThere.{breaks-later}
-
-true-false : {P : Type 0} → true ≡ false → P
-true-false e = absurd (cc)
 
 -- The window of a late tick.
 
@@ -228,12 +226,12 @@ any-node : (sc : Scenario) → IsLawful sc → (q : ℕ) (w : World) (b : ℕ) (
     → nodes_at sc q w.hands b sent w.sites → (me : Side) (node : RunningNode w me) → IsRunning (moment_of sc node) → IsStill sc w.hands me node.index b node.site.core
 any-node sc lawful zero w b sent small off h me node running =
     let site = h me node.index node.site node.there in
-    early-node sc w.hands sent site.0 b 0 me node.index node.site (has-ticks sc lawful) off node.runs site.1 running
+    early-node sc w.hands sent site.0 b 0 me node.index node.site (has_ticks sc lawful) off node.runs site.1 running
 any-node sc lawful (suc zero) w b sent small off h me node running =
     let site = h me node.index node.site node.there in
-    early-node sc w.hands sent site.0 b 1 me node.index node.site (has-ticks sc lawful) off node.runs site.1 running
+    early-node sc w.hands sent site.0 b 1 me node.index node.site (has_ticks sc lawful) off node.runs site.1 running
 any-node sc lawful (suc (suc zero)) w b sent small off h me node running =
-    last-node sc w.hands sent b me node.index node.site node.ahead (has-ticks sc lawful) off node.runs node.pends (h me node.index node.site node.there) running
+    last-node sc w.hands sent b me node.index node.site node.ahead (has_ticks sc lawful) off node.runs node.pends (h me node.index node.site node.there) running
 any-node sc lawful (suc (suc (suc q))) w b sent small off h me node running = absurd (omega (arith, small))
 
 -- a node that runs was good there

@@ -3,11 +3,14 @@
 use Rattle.std.proofs.Common.{◌≡◌, ℕ, zero, suc, ◌+◌, ◌<◌, ◌≤◌, ◌==◌, ◌&&◌, ◌||◌, min, Bool, true, false, List, [], ◌∷◌, ◌++◌, map, filter, cond, refl, sym, ◌∙◌, ap, subst, arith, Option, Some, None, slice_get, option_map}
 use Rattle.std.specs.Prelude.{flat_map, option_to_list}
 use Rattle.std.specs.List.{enumerate_from, range_with_len}
+use Rattle.std.proofs.lemmas.Bool.{eqb-true}
 use Rattle.std.proofs.lemmas.Bool.Decides.{nat_tests}
+use Rattle.std.proofs.lemmas.Option.{same_Some}
 use Rattle.rb_base.specs.Counting.{numbers}
 use Rattle.rb_base.specs.Nodes.{Side, other}
 use Rattle.rb_base.specs.Nodes.Side.{Biu, Rmu}
 use Rattle.rb_base.specs.Sizes.{Sizes}
+use Rattle.rb_base.proofs.Plain.{and_second, append-none}
 use Rattle.rb_rules.specs.Book.{of_kind, in_order, map_from, map_each}
 use Rattle.rb_rules.specs.Goodness.{Scenario}
 use Rattle.rb_rules.specs.Hearing.{Coming}
@@ -19,7 +22,7 @@ use Rattle.rb_laws_events.proofs.PendingLists.{StandsAt}
 
 -- Lists.
 
-every-append : {X : Type 0} (P : X → Type 0) (xs ys : List X) → Every P xs → Every P ys → Every P (xs ++ ys)
+pub every-append : {X : Type 0} (P : X → Type 0) (xs ys : List X) → Every P xs → Every P ys → Every P (xs ++ ys)
 every-append P [] ys a b = b
 every-append P (x ∷ xs) ys a b = (a.0, every-append P xs ys a.1 b)
 
@@ -31,7 +34,7 @@ pub every-back : {X : Type 0} (P : X → Type 0) (xs ys : List X) → Every P (x
 every-back P [] ys a = a
 every-back P (x ∷ xs) ys a = every-back P xs ys a.1
 
-every-map : {X Y : Type 0} (P : X → Type 0) (Q : Y → Type 0) (f : X → Y) → ((x : X) → P x → Q (f x)) → (xs : List X) → Every P xs → Every Q (map f xs)
+pub every-map : {X Y : Type 0} (P : X → Type 0) (Q : Y → Type 0) (f : X → Y) → ((x : X) → P x → Q (f x)) → (xs : List X) → Every P xs → Every Q (map f xs)
 every-map P Q f go [] a = tt
 every-map P Q f go (x ∷ xs) a = (go x a.0, every-map P Q f go xs a.1)
 
@@ -67,16 +70,13 @@ every-at P (y ∷ ys) (suc n) x e a = every-at P ys n x e a.1
 
 -- The least time.
 
-every-weaker : {X : Type 0} (P Q : X → Type 0) → ((x : X) → P x → Q x) → (xs : List X) → Every P xs → Every Q xs
+pub every-weaker : {X : Type 0} (P Q : X → Type 0) → ((x : X) → P x → Q x) → (xs : List X) → Every P xs → Every Q xs
 every-weaker P Q go [] a = tt
 every-weaker P Q go (x ∷ xs) a = (go x a.0, every-weaker P Q go xs a.1)
 
 pub least-none : (P : ℕ → Type 0) (xs : List ℕ) → least xs ≡ None → Every P xs
 least-none P [] e = tt
 least-none P (x ∷ xs) e = cc
-
-some-same : {X : Type 0} (a b : X) → Some a ≡ Some b → a ≡ b
-some-same a b e = cc
 
 -- the least of times is not after any of them
 pub least-of : (xs : List ℕ) (t : ℕ) → least xs ≡ Some t → Every (λ u. t ≤ u) xs
@@ -85,9 +85,9 @@ least-of (x ∷ xs) t e = by (least-of xs) (least xs) refl e
   where
     by : ((u : ℕ) → least xs ≡ Some u → Every (λ v. u ≤ v) xs) → (o : Option ℕ) → least xs ≡ o
         → ◌≡◌ {A = Option ℕ} (Some (elim o as (λ _. ℕ) [ None ↦ x | Some u ↦ min x u ])) (Some t) → Every (λ u. t ≤ u) (x ∷ xs)
-    by rest None none s = let same : x ≡ t = some-same x t s in (omega arith, least-none (λ u. t ≤ u) xs none)
+    by rest None none s = let same : x ≡ t = same_Some x t s in (omega arith, least-none (λ u. t ≤ u) xs none)
     by rest (Some u) some s =
-        let same : min x u ≡ t = some-same (min x u) t s in
+        let same : min x u ≡ t = same_Some (min x u) t s in
         let below : t ≤ u = omega arith in
         (omega arith, every-weaker (λ v. u ≤ v) (λ v. t ≤ v) (λ v le. omega arith) xs (rest u some))
 
@@ -113,20 +113,13 @@ places n all (c ∷ cs) at =
       places (n + 1) all cs (λ m x s. let e : n + suc m ≡ n + 1 + m = omega arith in subst (λ k. StandsAt k x all) e (at (suc m) x s)),
     )
 
-and-second : (a b : Bool) → (a && b) ≡ true → b ≡ true
-and-second true b h = h
-and-second false b h = cc
-
-time-same : (a b : ℕ) → (a == b) ≡ true → a ≡ b
-time-same a b h = grind (arith, nat_tests)
-
 arrivals-ready : (me : Side) (i t : ℕ) (s : Site) (j : ℕ) → Every (IsOf t me i s) (arrivals_at me i t s j)
 arrivals-ready me i t s j =
     let q : ℕ × Coming → Bool = λ p. (p.1.from == j) && (p.1.time == t) in
     let z : (m : ℕ) (c : Coming) → StandsAt m c s.coming → StandsAt (0 + m) c s.coming =
     λ m c h. let e : 0 + m ≡ m = omega arith in subst (λ k. StandsAt k c s.coming) (sym e) h in
     every-map (λ p. StandsAt p.0 p.1 s.coming × (q p ≡ true)) (IsOf t me i s) (λ p. record { side = me; node = i; pending = Arrival p.0 p.1 })
-    (λ p h. record { side = refl; node = refl; ready = (h.0, time-same p.1.time t (and-second (p.1.from == j) (p.1.time == t) h.1)) })
+    (λ p h. record { side = refl; node = refl; ready = (h.0, eqb-true p.1.time t (and_second (p.1.from == j) (p.1.time == t) h.1)) })
     (filter q (enumerate_from 0 s.coming)) (every-filter (λ p. StandsAt p.0 p.1 s.coming) q (enumerate_from 0 s.coming) (places 0 s.coming s.coming z))
 
 -- where nothing is found, nothing passes
@@ -141,10 +134,6 @@ filter-none q (x ∷ xs) e = by (filter-none q xs) (q x) refl e
 map-none : {X Y : Type 0} (f : X → Y) (xs : List X) → map f xs ≡ [] → xs ≡ []
 map-none f [] e = refl
 map-none f (x ∷ xs) e = cc
-
-append-none : {X : Type 0} (xs ys : List X) → xs ++ ys ≡ [] → (xs ≡ []) × (ys ≡ [])
-append-none [] ys e = (refl, e)
-append-none (x ∷ xs) ys e = cc
 
 flat-none : {Y : Type 0} (f : ℕ → List Y) (a n : ℕ) → flat_map f (range_with_len a n) ≡ [] → (k : ℕ) → k < n → f (a + k) ≡ []
 flat-none f a zero e k h = absurd (omega arith)
@@ -198,7 +187,7 @@ tick-ready me i t s later (Some a) e = by (a.time == t) refl
   where
     by : (b : Bool) → (a.time == t) ≡ b
         → Every (IsOf t me i s) (elim b as (λ _. List Due) [ true ↦ record { side = me; node = i; pending = Tick a.tick } ∷ [] | false ↦ [] ])
-    by true h = (record { side = refl; node = refl; ready = (a, (e, (refl, (time-same a.time t h, later)))) }, tt)
+    by true h = (record { side = refl; node = refl; ready = (a, (e, (refl, (eqb-true a.time t h, later)))) }, tt)
     by false h = tt
 
 either : (P : Due → Type 0) (xs ys : List Due) → Every P xs → (xs ≡ [] → Every P ys) → Every P (unless_any xs ys)
@@ -283,9 +272,9 @@ least-above t u (x ∷ xs) a e = by (λ v h. least-above t v xs a.1 h) (least xs
   where
     by : ((v : ℕ) → least xs ≡ Some v → t < v) → (o : Option ℕ) → least xs ≡ o
         → ◌≡◌ {A = Option ℕ} (Some (elim o as (λ _. ℕ) [ None ↦ x | Some v ↦ min x v ])) (Some u) → t < u
-    by rest None none s = let same : x ≡ u = some-same x u s in let above : t < x = a.0 in omega arith
+    by rest None none s = let same : x ≡ u = same_Some x u s in let above : t < x = a.0 in omega arith
     by rest (Some v) some s =
-        let same : min x v ≡ u = some-same (min x v) u s in
+        let same : min x v ≡ u = same_Some (min x v) u s in
         let above : t < x = a.0 in
         let others : t < v = rest v some in
         omega arith

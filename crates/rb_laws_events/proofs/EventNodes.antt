@@ -3,6 +3,7 @@ use Rattle.std.proofs.Common.{◌≡◌, ℕ, ◌+◌, ◌-◌, ◌*◌, ◌<◌
 use Rattle.std.proofs.Math.Path.{fun_ext}
 use Rattle.rb_base.specs.Nodes.{Side}
 use Rattle.rb_base.specs.Nodes.Side.{Biu}
+use Rattle.rb_base.proofs.Plain.{option_map-back}
 use Rattle.rb_rules.specs.declared.message.Message.{Message}
 use Rattle.rb_rules.specs.Book.{Begun, Each, Row, of_kind}
 use Rattle.rb_rules.specs.Core.{Act}
@@ -14,18 +15,20 @@ use Rattle.rb_rules.specs.Rounds.{Moment, moment, windows_in}
 use Rattle.rb_rules.specs.WorldStep.{Site, Timed, after_act, after_arrival, at_node, with_message}
 use Rattle.rb_rules.proofs.WindowNumbers.{length-each}
 use Rattle.rb_laws_events.proofs.Completing.{EventAt}
+use Rattle.rb_laws_events.proofs.DueEvents.{every-weaker}
 use Rattle.rb_laws_events.proofs.Invariant.{next_stage}
 use Rattle.rb_laws_events.proofs.MomentBooks.{number-of}
 use Rattle.rb_laws_events.proofs.MomentSteps.{NextIsStage, next-is-stage}
 use Rattle.rb_laws_events.proofs.NodeActs.{HasRoom}
-use Rattle.rb_laws_events.proofs.PortsInRounds.{AllHanded, PortsStand, begun-is, every-all}
+use Rattle.rb_laws_events.proofs.PortsInRounds.{AllHanded, PortsStand, begun-is}
 use Rattle.rb_laws_events.proofs.StageOrder.{last-same, last_of}
 use Rattle.rb_laws_events.proofs.Telling.{first-window}
 use Rattle.rb_laws_events.proofs.Timing.{AreInTime, HavePassed}
 use Rattle.rb_laws_events.proofs.ToldInOrder.{AllTold, NodeTold, all-told, near, number_at, one-changes, row-of-window, told-after}
+use Rattle.rb_laws_events.proofs.ToldSoFar.{arrival-keeps}
 use Rattle.rb_laws_events.proofs.Waiting.{HasBegun}
 use Rattle.rb_laws_events.proofs.WorldEvents.{AfterTick}
-use Rattle.rb_laws_events.proofs.WorldStands.{SitesStand, back-from, get-at, is_node, node-is, node-itself}
+use Rattle.rb_laws_events.proofs.WorldStands.{SitesStand, get-at, is_node, node-is, node-itself}
 use Rattle.rb_laws_events.proofs.WorldTicks.{after_tick, get-after, kind-other, moved, reached, reached-not}
 
 -- the node of an event afterwards
@@ -114,14 +117,9 @@ moved-same me i at = fun_ext (λ side. fun_ext (λ j. by side j (is_node me i si
     by side j true e = let is = node-is me side i j e in sym (ap (λ y. at y j) is.0 ∙ ap (at me) is.1)
     by side j false e = refl
 
-arrival-tells : (sc : Scenario) (me : Side) (i n : ℕ) (c : Coming) (s : Site)
-    → ((after_arrival sc me i n c s).row ≡ s.row) × (((after_arrival sc me i n c s).begun ≡ s.begun) × (((after_arrival sc me i n c s).ahead ≡ s.ahead) × ((after_arrival sc me i n c s).runs ≡ s.runs)))
-unfolding after_arrival
-arrival-tells sc me i n c s = (refl, (refl, (refl, refl)))
-
 told-arrival : (sc : Scenario) (hands : List HandIn) (me : Side) (i p n : ℕ) (c : Coming) (s : Site) → NodeTold sc hands me i p s → NodeTold sc hands me i p (after_arrival sc me i n c s)
 told-arrival sc hands me i p n c s h =
-    let same = arrival-tells sc me i n c s in
+    let same = arrival-keeps sc me i n c s in
     record {
       row = λ row e. h.row row (sym same.0 ∙ e);
       begun = λ b e. h.begun b (sym same.1.0 ∙ e);
@@ -139,7 +137,7 @@ arrival-at sc hands now at sites me i n c s room times passed stand told there r
     let P : Side → ℕ → ℕ → Site → Type 0 = λ side j q z. q ≤ next_stage sc.sizes m p in
     let all : (side : Side) (j : ℕ) (z : Site) → slice_get (of_kind side sites) j ≡ Some z → at side j ≤ next_stage sc.sizes m p =
     λ side j z e. near sc hands now at sites room.ticks times passed stand me i s there runs side j z (told side j z e) in
-    let same = arrival-tells sc me i n c s in
+    let same = arrival-keeps sc me i n c s in
     record {
       me = me;
       i = i;
@@ -166,12 +164,12 @@ pub arrival-site : (sc : Scenario) (sites : Each Site) (me : Side) (i n : ℕ) (
     → (old : Site) × ((slice_get (of_kind side sites) j ≡ Some old) × ((z.runs ≡ old.runs) × (z.begun ≡ old.begun)))
 arrival-site sc sites me i n c side j z e =
     let change : Site → Site = after_arrival sc me i n c in
-    let was = back-from (λ s. elim (is_node me i side j) as (λ _. Site) [ true ↦ change s | false ↦ s ]) (slice_get (of_kind side sites) j) z (sym (get-at me side i j change sites) ∙ e) in
+    let was = option_map-back (λ s. elim (is_node me i side j) as (λ _. Site) [ true ↦ change s | false ↦ s ]) (slice_get (of_kind side sites) j) z (sym (get-at me side i j change sites) ∙ e) in
     (was.0, (was.1.0, by was.0 z (is_node me i side j) was.1.1))
   where
     by : (old z : Site) (b : Bool) → (elim b as (λ _. Site) [ true ↦ after_arrival sc me i n c old | false ↦ old ]) ≡ z → (z.runs ≡ old.runs) × (z.begun ≡ old.begun)
     by old z true e =
-        let same = arrival-tells sc me i n c old in
+        let same = arrival-keeps sc me i n c old in
         (ap (λ (s : Site). s.runs) (sym e) ∙ same.1.1.1, ap (λ (s : Site). s.begun) (sym e) ∙ same.1.0)
     by old z false e = (ap (λ (s : Site). s.runs) (sym e), ap (λ (s : Site). s.begun) (sym e))
 
@@ -185,7 +183,7 @@ ports-arrival sc hands at sites ports me i n c stand j z e runs =
 pub handed-arrival : (sc : Scenario) (sites : Each Site) (me : Side) (i n : ℕ) (c : Coming) (all : List HandIn)
     → AllHanded sc sites all → AllHanded sc (at_node me i (after_arrival sc me i n c) sites) all
 handed-arrival sc sites me i n c all h =
-    every-all (λ h. HasBegun sc sites h.frame) (λ h. HasBegun sc (at_node me i (after_arrival sc me i n c) sites) h.frame)
+    every-weaker (λ h. HasBegun sc sites h.frame) (λ h. HasBegun sc (at_node me i (after_arrival sc me i n c) sites) h.frame)
     (λ h begun side j z e good.
     let old = arrival-site sc sites me i n c side j z e in
     let b = begun side j old.0 old.1.0 good in

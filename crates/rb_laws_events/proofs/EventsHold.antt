@@ -1,6 +1,7 @@
 -- What holds of runs event by event in every lawful scenario.
 use Rattle.std.proofs.Common.{◌≡◌, ℕ, zero, suc, ◌^◌, ◌<◌, Bool, true, false, List, sym, ◌∙◌, arith, inl, inr, Some, slice_get}
 use Rattle.rb_base.specs.Nodes.{Side}
+use Rattle.rb_base.proofs.Plain.{true-false}
 use Rattle.rb_rules.specs.Book.{Each, of_kind}
 use Rattle.rb_rules.specs.Goodness.{Scenario}
 use Rattle.rb_rules.specs.Lawful.{IsLawful}
@@ -21,9 +22,6 @@ use Rattle.rb_laws_events.proofs.RunsEnd.{HasTicksLeft, every-run-ends, in-round
 use Rattle.rb_laws_events.proofs.TickRooms.{has-room}
 use Rattle.rb_laws_events.proofs.Turns.{turns-are-next}
 use Rattle.rb_laws_events.proofs.WorldStands.{IsUp, sent_by}
-
-true-false : {P : Type 0} → true ≡ false → P
-true-false e = absurd (cc)
 
 -- what the nodes keep where the run breaks off with stage q of a sync slot
 abbrev pub nodes_at : Scenario → ℕ → List HandIn → ℕ → (Side → ℕ → ℕ → Bool) → Each Site → Type 0

@@ -2,8 +2,10 @@
 use Rattle.std.proofs.Common.{◌≡◌, ℕ, ◌+◌, ◌<◌, ◌≤◌, ◌⊎◌, ◌&&◌, ◌||◌, Bool, true, false, List, [], ◌∷◌, ◌++◌, fold, flat_map, append_assoc, refl, ap, sym, ◌∙◌, subst, arith, inl, inr, Option, Some, None, slice_get}
 use Rattle.std.proofs.lemmas.Bool.{cases_lt}
 use Rattle.std.proofs.lemmas.List.{append-nil}
+use Rattle.std.proofs.lemmas.Option.{same_Some}
 use Rattle.rb_base.specs.Nodes.{Side}
 use Rattle.rb_base.specs.Nodes.Side.{Biu}
+use Rattle.rb_base.proofs.Plain.{true-false}
 use Rattle.rb_rules.specs.Book.{Book, Each, Milestone, in_order, of_kind}
 use Rattle.rb_rules.specs.Clock.{time_of}
 use Rattle.rb_rules.specs.Goodness.{Scenario, clock_of, is_good}
@@ -36,7 +38,7 @@ use Rattle.rb_laws_events.proofs.OneHandIn.{HandsIn, hand-keeps}
 use Rattle.rb_laws_events.proofs.OneEvent.{ClosesEarlier, MayHappen, WorldInRounds, up-there}
 use Rattle.rb_laws_events.proofs.OneTake.{StandsInRounds, StandsUpTo, closes-earlier, is-paced, settle-hands, settle-ports, settled-stands, take-keeps, world-waits}
 use Rattle.rb_laws_events.proofs.SettlingFrames.{IsOfMoment, all-settled}
-use Rattle.rb_laws_events.proofs.WorldStands.{IsUp, sent_by, some-same}
+use Rattle.rb_laws_events.proofs.WorldStands.{IsUp, sent_by}
 use Rattle.rb_laws_events.proofs.WorldNodes.{events-due, settle-sites}
 
 -- Choices.
@@ -162,12 +164,12 @@ take-run sc N w d lawful room keeps run going needs due = from-where waits.1.fro
               | inr ge ↦
                   let same : p ≡ b = omega (arith, le, ge) in
                   let up : IsUp sc hands (sent_by sc hands h.at w.sites) h.now me i p s = up-there sc h.now h.at w me i s a h.stands.sites due.there ready.1.0 in
-                  let a_is : up.a ≡ a = some-same up.a a (sym up.stands.receives.pends ∙ ready.1.0) in
+                  let a_is : up.a ≡ a = same_Some up.a a (sym up.stands.receives.pends ∙ ready.1.0) in
                   let tick : up.a.tick ≡ k = ap (λ (a : Timed). a.tick) a_is ∙ ready.1.1.0 in
                   let within : up.a.tick ≤ last_tick sc (moment sc hands p) me up.st = up.stands.receives.in_window in
                   elim (cases_lt k (last_tick sc (moment sc hands p) me up.st)) [
                     | inl lt ↦ still (subst (ClosesEarlier sc hands h.at b me i) (sym e) (λ st f last.
-                        let st_is : up.st ≡ st = some-same up.st st (sym up.stands.state ∙ f) in
+                        let st_is : up.st ≡ st = same_Some up.st st (sym up.stands.state ∙ f) in
                         let its : last_tick sc (moment sc hands p) me up.st ≡ last_tick sc (moment sc hands p) me st = ap (last_tick sc (moment sc hands p) me) st_is in
                         absurd (omega (arith, lt, its, last))))
                     | inr not_lt ↦
@@ -228,9 +230,6 @@ hand-run sc w biu state lawful room run =
 
 -- Choices where the run has broken off.
 
-true-false : {P : Type 0} → true ≡ false → P
-true-false e = absurd (cc)
-
 go-on-still : (sc : Scenario) (N : ℕ → List HandIn → ℕ → (Side → ℕ → ℕ → Bool) → Each Site → Type 0) (w : World) → BreaksOff sc N w → BreaksOff sc N (go_on sc w)
 unfolding go_on
 go-on-still sc N w h =
@@ -246,7 +245,7 @@ unfolding go_on
 go-on-over sc N w h = subst (λ b. IsOver sc N (elim b as (λ _. World) [ true ↦ w | false ↦ settle sc ByItself 2 w ])) (sym h.ended) h
 
 -- while no frame's record is the turn nothing is handed in
-hand-none : (sc : Scenario) (w : World) (biu state : ℕ) → frame_in w.turn ≡ None → hand sc w biu state ≡ w
+pub hand-none : (sc : Scenario) (w : World) (biu state : ℕ) → frame_in w.turn ≡ None → hand sc w biu state ≡ w
 unfolding hand
 hand-none sc w biu state silent = ap (λ o. elim o as (λ _. World) [
   | None ↦ w

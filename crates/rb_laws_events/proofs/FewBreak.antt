@@ -4,6 +4,7 @@ use Rattle.std.proofs.Common.{◌≡◌, ℕ, zero, suc, ◌+◌, ◌-◌, ◌*�
 use Rattle.std.proofs.lemmas.Bool.Decides.{nat_tests}
 use Rattle.rb_base.specs.Nodes.{Side}
 use Rattle.rb_base.specs.Sizes.{Sizes, sync_slot_of}
+use Rattle.rb_base.proofs.Plain.{none_and_some}
 use Rattle.rb_rules.specs.declared.message.Message.{Message}
 use Rattle.rb_rules.specs.declared.plan.Plan.{Plan}
 use Rattle.rb_rules.specs.declared.plan.Window.{Window}
@@ -199,17 +200,13 @@ closed-few sc hands lawful room sent ports p q running small at me i s a r e t f
           }
         ]
 
-none-pends : {P : Type 0} (a : Timed) (o : Option Timed) → o ≡ None → o ≡ Some a → P
-none-pends a None e f = cc
-none-pends a (Some b) e f = cc
-
 -- a due tick
 pub breaks-few : (sc : Scenario) (hands : List HandIn) → IsLawful sc → HasRoom sc.plan → (sent : Side → ℕ → ℕ → Bool) (now : ℕ) (ports : List PortState) (p q : ℕ) → IsRunning (moment sc hands p) → q < 2
     → (moment sc hands p).window ≡ 3 * sync_slot_of sc.sizes + q → (me : Side) (i : ℕ) (s : Site) (a : Timed) (r e : ℕ) → TickBreaks sc hands sent ports p me i s a → a.tick < 2 ^ 31
     → SiteBreaks sc hands sent now p me i s → MayBreak sc hands p me i r e s
     → StepsOn sc (MayBreak sc hands p me i) (pass_and_tick sc ports me i a.tick s.core).message s (after_act sc ports me i (pass_and_tick sc ports me i a.tick s.core) s) r e
 breaks-few sc hands lawful room sent now ports p q running small at me i s a r e t few h (inr told) = closed-few sc hands lawful room sent ports p q running small at me i s a r e t few told.0 told.1
-breaks-few sc hands lawful room sent now ports p q running small at me i s a r e t few (inl stopped) (inl more) = none-pends a s.ahead stopped.ahead t.pend
+breaks-few sc hands lawful room sent now ports p q running small at me i s a r e t few (inl stopped) (inl more) = none_and_some a s.ahead stopped.ahead t.pend
 breaks-few sc hands lawful room sent now ports p q running small at me i s a r e t few (inr (inl h)) (inl more) =
     tells-few sc hands ports p me i a.tick s r e (site-ticks sc hands lawful room sent now ports p q running small at me i s a t (inr (inl h)))
     (hearing-quiet sc hands lawful room sent now ports p q running (omega arith) at me i s a t h) more.0 more.1

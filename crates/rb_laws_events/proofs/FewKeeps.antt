@@ -1,7 +1,9 @@
 -- For the law that pending events are few: where the run breaks off in a sync slot the nodes keep room for what comes to them until it has ended.
 use Rattle.std.proofs.Common.{◌≡◌, ℕ, zero, suc, ◌+◌, ◌*◌, ◌^◌, ◌<◌, ◌≤◌, ◌&&◌, Bool, true, false, List, [], ◌∷◌, ◌++◌, length, refl, ap, sym, ◌∙◌, subst, arith, inl, inr, Option, Some, None, slice_get}
 use Rattle.std.proofs.lemmas.Bool.{cases_lt}
+use Rattle.std.proofs.lemmas.Option.{same_Some, slice_get_within}
 use Rattle.rb_base.specs.Nodes.{Side, other}
+use Rattle.rb_base.proofs.Plain.{none_and_some, option_map-back}
 use Rattle.rb_rules.specs.declared.message.Message.{Message}
 use Rattle.rb_rules.specs.Book.{Each, of_kind}
 use Rattle.rb_rules.specs.Clock.{stamp_of, time_of}
@@ -33,11 +35,10 @@ use Rattle.rb_laws_events.proofs.FewThere.{few-where-it-stands}
 use Rattle.rb_laws_events.proofs.Invariant.{is_good_at}
 use Rattle.rb_laws_events.proofs.LastSites.{told-arrives, told-more}
 use Rattle.rb_laws_events.proofs.PendingLists.{StandsAt}
-use Rattle.rb_laws_events.proofs.Settling.{get-within}
 use Rattle.rb_laws_events.proofs.SourceSums.{sum_to}
 use Rattle.rb_laws_events.proofs.Takes.{length-without}
 use Rattle.rb_laws_events.proofs.TickRooms.{has-room}
-use Rattle.rb_laws_events.proofs.WorldStands.{IsDown, IsUp, back-from, is_node, node-is, sent_by, some-same}
+use Rattle.rb_laws_events.proofs.WorldStands.{IsDown, IsUp, is_node, node-is, sent_by}
 use Rattle.rb_laws_events.proofs.WorldTicks.{after_tick, get-after, length-after, moved, reached}
 
 -- what a node may do yet
@@ -63,7 +64,7 @@ rooms-few sc q hands b sent sites h me i s there = let room = h.1.rooms.room me 
 
 -- It begins.
 
-sum-same : (k n : ℕ) → sum_to (λ _. k) n ≡ n * k
+pub sum-same : (k n : ℕ) → sum_to (λ _. k) n ≡ n * k
 sum-same k zero = omega arith
 sum-same k (suc n) = let rest = sum-same k n in omega (arith, rest)
 
@@ -97,7 +98,7 @@ begins-few sc q hands b now at sites t h = record {
 
 -- Messages and arrivals.
 
-may-more : (sc : Scenario) (q : ℕ) (hands : List HandIn) (b : ℕ) (me : Side) (i r e : ℕ) (s : Site) (more : List Coming) → may_at sc q hands b me i r e s → may_at sc q hands b me i r e (record s { coming = more })
+pub may-more : (sc : Scenario) (q : ℕ) (hands : List HandIn) (b : ℕ) (me : Side) (i r e : ℕ) (s : Site) (more : List Coming) → may_at sc q hands b me i r e s → may_at sc q hands b me i r e (record s { coming = more })
 unfolding told-more
 may-more sc q hands b me i r e s more h = by q h
   where
@@ -114,7 +115,7 @@ may-more sc q hands b me i r e s more h = by q h
     by (suc zero) h = early h
     by (suc (suc q)) h = late h
 
-may-reached : (sc : Scenario) (q : ℕ) (hands : List HandIn) (b : ℕ) (me : Side) (i frame k : ℕ) (m : Option Message) (side : Side) (j r e : ℕ) (z : Site)
+pub may-reached : (sc : Scenario) (q : ℕ) (hands : List HandIn) (b : ℕ) (me : Side) (i frame k : ℕ) (m : Option Message) (side : Side) (j r e : ℕ) (z : Site)
     → may_at sc q hands b side j r e z → may_at sc q hands b side j r e (reached sc me i frame k m side j z)
 may-reached sc q hands b me i frame k None side j r e z h = h
 may-reached sc q hands b me i frame k (Some m) side j r e z h = by (same_side side (other me) && z.runs)
@@ -126,7 +127,7 @@ may-reached sc q hands b me i frame k (Some m) side j r e z h = by (same_side si
     by true = may-more sc q hands b side j r e z (z.coming ++ coming_of sc side j i frame (record { tick = k; message = m }) ∷ []) h
     by false = h
 
-may-arrives : (sc : Scenario) (q : ℕ) (hands : List HandIn) (b : ℕ) (me : Side) (i r e n : ℕ) (c : Coming) (s : Site) → (is_good_at sc (moment sc hands b) me i ≡ true → Moves (clock_of sc me i))
+pub may-arrives : (sc : Scenario) (q : ℕ) (hands : List HandIn) (b : ℕ) (me : Side) (i r e n : ℕ) (c : Coming) (s : Site) → (is_good_at sc (moment sc hands b) me i ≡ true → Moves (clock_of sc me i))
     → ((a : Timed) → s.ahead ≡ Some a → c.time ≤ a.time) → may_at sc q hands b me i r e s → may_at sc q hands b me i r e (after_arrival sc me i n c s)
 unfolding after_arrival told-arrives
 may-arrives sc q hands b me i r e n c s moves before h = by q h
@@ -176,10 +177,10 @@ changes-few sc q hands b sites me i frame k m change s r e h there room sent may
   sends = moved me i r h.sends;
   enters = moved me i e h.enters;
   rooms = rooms-change sc (most_coming sc) h.sends h.enters sites me i frame k m change s r e
-      (let within = get-within (of_kind me sites) i s there in let long = h.counts me in omega (arith, within, long)) there room sent h.rooms;
+      (let within = slice_get_within (of_kind me sites) i s there in let long = h.counts me in omega (arith, within, long)) there room sent h.rooms;
   counts = λ side. length-after sc me i frame k m change sites side ∙ h.counts side;
   may = λ side j z f.
-      let was = back-from (after_tick sc me i frame k m change side j) (slice_get (of_kind side sites) j) z (sym (get-after sc me i frame k m change sites side j) ∙ f) in
+      let was = option_map-back (after_tick sc me i frame k m change side j) (slice_get (of_kind side sites) j) z (sym (get-after sc me i frame k m change sites side j) ∙ f) in
       subst (may_at sc q hands b side j (moved me i r h.sends side j) (moved me i e h.enters side j)) was.1.1
       (may-reached sc q hands b me i frame k m side j (moved me i r h.sends side j) (moved me i e h.enters side j) (elim (is_node me i side j) as (λ _. Site) [ true ↦ change was.0 | false ↦ was.0 ])
       (its side j was.0 was.1.0 (is_node me i side j) refl));
@@ -190,13 +191,13 @@ changes-few sc q hands b sites me i frame k m change s r e h there room sent may
     its side j was at true f =
         let is = node-is me side i j f in
         let here : slice_get (of_kind me sites) i ≡ Some was = sym (ap (λ y. slice_get (of_kind y sites) j) is.0 ∙ ap (slice_get (of_kind me sites)) is.1) ∙ at in
-        subst (λ was. may_at sc q hands b side j r e (change was)) (some-same s was (sym there ∙ here))
+        subst (λ was. may_at sc q hands b side j r e (change was)) (same_Some s was (sym there ∙ here))
         (subst (λ y. may_at sc q hands b y j r e (change s)) (sym is.0) (subst (λ n. may_at sc q hands b me n r e (change s)) (sym is.1) may))
     its side j was at false f = h.may side j was at
 
 -- Ticks.
 
-steps-at : (sc : Scenario) → IsLawful sc → (q : ℕ) (hands : List HandIn) (b : ℕ) → BreaksAt sc hands b q → (sent : Side → ℕ → ℕ → Bool) (ports : List PortState) (sites : Each Site) → nodes_at sc q hands b sent sites
+pub steps-at : (sc : Scenario) → IsLawful sc → (q : ℕ) (hands : List HandIn) (b : ℕ) → BreaksAt sc hands b q → (sent : Side → ℕ → ℕ → Bool) (ports : List PortState) (sites : Each Site) → nodes_at sc q hands b sent sites
     → (me : Side) (i : ℕ) (s : Site) (a : Timed) (r e : ℕ) → TickBreaks sc hands sent ports b me i s a → a.tick < 2 ^ 31 → slice_get (of_kind me sites) i ≡ Some s → may_at sc q hands b me i r e s
     → StepsOn sc (may_at sc q hands b me i) (pass_and_tick sc ports me i a.tick s.core).message s (after_act sc ports me i (pass_and_tick sc ports me i a.tick s.core) s) r e
 steps-at sc lawful zero hands b off sent ports sites h me i s a r e t small there may =
@@ -207,16 +208,12 @@ steps-at sc lawful (suc (suc zero)) hands b off sent ports sites h me i s a r e 
     last-few sc hands lawful (has-room sc lawful) sent ports b off.running off.window me i s a r e t (h me i s there) may
 steps-at sc lawful (suc (suc (suc q))) hands b off sent ports sites h me i s a r e t small there may = absurd (let few = off.small in omega (arith, few))
 
-none-pends : {P : Type 0} (a : Timed) (o : Option Timed) → o ≡ None → o ≡ Some a → P
-none-pends a None e f = cc
-none-pends a (Some b) e f = cc
-
 -- a tick that is due is one of those that the node may have
-tick-small : (sc : Scenario) → IsLawful sc → (q : ℕ) → KeepsNodes sc q (nodes_at sc q) → (hands : List HandIn) (b : ℕ) → BreaksAt sc hands b q → (sent : Side → ℕ → ℕ → Bool) (ports : List PortState) (sites : Each Site)
+pub tick-small : (sc : Scenario) → IsLawful sc → (q : ℕ) → KeepsNodes sc q (nodes_at sc q) → (hands : List HandIn) (b : ℕ) → BreaksAt sc hands b q → (sent : Side → ℕ → ℕ → Bool) (ports : List PortState) (sites : Each Site)
     → nodes_at sc q hands b sent sites → (me : Side) (i : ℕ) (s : Site) (a : Timed) → TickBreaks sc hands sent ports b me i s a → slice_get (of_kind me sites) i ≡ Some s → a.tick < 2 ^ 31
 tick-small sc lawful q its hands b off sent ports sites h me i s a t there =
     let ahead = its.ahead hands b off sent sites h me i s there a t.pend in
-    let good : is_good_at sc (moment sc hands b) me i ≡ true = elim (its.goes hands b off sent sites h me i s there) [ inl stopped ↦ none-pends a s.ahead stopped.ahead t.pend | inr good ↦ good ] in
+    let good : is_good_at sc (moment sc hands b) me i ≡ true = elim (its.goes hands b off sent sites h me i s there) [ inl stopped ↦ none_and_some a s.ahead stopped.ahead t.pend | inr good ↦ good ] in
     let later : HasLater sc a.time me i = has-later sc hands lawful b q a.time off (record { you = t.you; j = t.j; yours = t.yours; there = t.there; good = t.good; first = t.first }) me i good in
     let small = later.small in
     let after = later.later in

@@ -4,6 +4,7 @@ use Rattle.std.proofs.Common.{◌≡◌, ℕ, zero, suc, ◌+◌, ◌-◌, ◌*�
 use Rattle.std.proofs.lemmas.Bool.{cases_lt}
 use Rattle.rb_base.specs.Nodes.{Side}
 use Rattle.rb_base.specs.Sizes.{Sizes, sync_slot_of}
+use Rattle.rb_base.proofs.Plain.{none_and_some}
 use Rattle.rb_rules.specs.declared.message.Message.{Message}
 use Rattle.rb_rules.specs.declared.plan.Plan.{Plan}
 use Rattle.rb_rules.specs.declared.plan.Window.{Window}
@@ -283,17 +284,13 @@ told-few sc hands lawful room sent ports p running at me i s a r e t g = by next
         let begun = y.begun in
         beyond (omega (arith, begun, had)) (elim (g.turned y.in_frame) [ inl one ↦ inl one | inr over ↦ inr (omega (arith, over, had)) ]) x.message refl
 
-none-pends : {P : Type 0} (a : Timed) (o : Option Timed) → o ≡ None → o ≡ Some a → P
-none-pends a None e f = cc
-none-pends a (Some b) e f = cc
-
 -- a due tick
 pub last-few : (sc : Scenario) (hands : List HandIn) → IsLawful sc → HasRoom sc.plan → (sent : Side → ℕ → ℕ → Bool) (ports : List PortState) (p : ℕ) → IsRunning (moment sc hands p)
     → (moment sc hands p).window ≡ 3 * sync_slot_of sc.sizes + 2 → (me : Side) (i : ℕ) (s : Site) (a : Timed) (r e : ℕ) → TickBreaks sc hands sent ports p me i s a
     → SiteLast sc hands sent p me i s → MayLast sc hands p me i r e s
     → StepsOn sc (MayLast sc hands p me i) (pass_and_tick sc ports me i a.tick s.core).message s (after_act sc ports me i (pass_and_tick sc ports me i a.tick s.core) s) r e
 last-few sc hands lawful room sent ports p running at me i s a r e t h (inr told) = told-few sc hands lawful room sent ports p running at me i s a r e t told
-last-few sc hands lawful room sent ports p running at me i s a r e t (inl stopped) (inl more) = none-pends a s.ahead stopped.ahead t.pend
+last-few sc hands lawful room sent ports p running at me i s a r e t (inl stopped) (inl more) = none_and_some a s.ahead stopped.ahead t.pend
 last-few sc hands lawful room sent ports p running at me i s a r e t (inr (inl h)) (inl more) =
     tells-few sc hands ports p me i a.tick s r e (last-ticks sc hands lawful room sent ports p running at me i s a t (inr (inl h))) (ahead-quiet sc hands lawful room sent ports p running at me i s a t h) more.0 more.1
 last-few sc hands lawful room sent ports p running at me i s a r e t (inr (inr (inl h))) (inl more) =

@@ -1,8 +1,10 @@
 -- For the law that pending events are few where the run breaks off in a sync slot: room at each node for what comes to it, for the messages that may
 -- be sent to it yet, and for what may be said to it in windows that it enters yet.
 use Rattle.std.proofs.Common.{◌≡◌, ℕ, ◌+◌, ◌*◌, ◌<◌, ◌≤◌, ◌&&◌, Bool, true, false, [], ◌∷◌, ◌++◌, length, length-append, refl, ap, sym, ◌∙◌, subst, arith, Option, Some, None, slice_get}
+use Rattle.std.proofs.lemmas.Option.{same_Some}
 use Rattle.rb_base.specs.Nodes.{Side, other}
 use Rattle.rb_base.specs.Nodes.Side.{Biu, Rmu}
+use Rattle.rb_base.proofs.Plain.{option_map-back}
 use Rattle.rb_rules.specs.declared.message.Message.{Message}
 use Rattle.rb_rules.specs.Book.{Each, of_kind}
 use Rattle.rb_rules.specs.Goodness.{Scenario}
@@ -10,7 +12,7 @@ use Rattle.rb_rules.specs.Hearing.{coming_of}
 use Rattle.rb_rules.specs.Slots.{count_of, same_side}
 use Rattle.rb_rules.specs.WorldStep.{Site, at_node, with_message}
 use Rattle.rb_laws_events.proofs.SourceSums.{sum-larger, sum-le, sum_to}
-use Rattle.rb_laws_events.proofs.WorldStands.{back-from, is_node, node-is, node-itself, some-same}
+use Rattle.rb_laws_events.proofs.WorldStands.{is_node, node-is, node-itself}
 use Rattle.rb_laws_events.proofs.WorldTicks.{after_tick, get-after, moved, reached}
 
 -- node i of kind me may send so many messages yet, and enter so many windows
@@ -93,7 +95,7 @@ pub rooms-change : (sc : Scenario) (most : Side → ℕ) (sends enters : Side �
     → HaveRooms sc most (moved me i r sends) (moved me i e enters) (with_message sc me i frame k m (at_node me i change sites))
 rooms-change sc most sends enters sites me i frame k m change s r e below there own le h = record {
   room = λ side j z f.
-      let was = back-from (after_tick sc me i frame k m change side j) (slice_get (of_kind side sites) j) z (sym (get-after sc me i frame k m change sites side j) ∙ f) in
+      let was = option_map-back (after_tick sc me i frame k m change side j) (slice_get (of_kind side sites) j) z (sym (get-after sc me i frame k m change sites side j) ∙ f) in
       let y : Site = changed side j was.0 in
       let z_is : length (reached sc me i frame k m side j y).coming ≡ length z.coming = ap (λ (z : Site). length z.coming) was.1.1 in
       let reach = reached-added sc me i frame k m side j y in
@@ -112,7 +114,7 @@ rooms-change sc most sends enters sites me i frame k m change s r e below there 
     its side j was at true f =
         let is = node-is me side i j f in
         let here : slice_get (of_kind me sites) i ≡ Some was = sym (ap (λ y. slice_get (of_kind y sites) j) is.0 ∙ ap (slice_get (of_kind me sites)) is.1) ∙ at in
-        subst (λ was. length (change was).coming + e * length sc.says ≤ length was.coming + enters side j * length sc.says) (some-same s was (sym there ∙ here))
+        subst (λ was. length (change was).coming + e * length sc.says ≤ length was.coming + enters side j * length sc.says) (same_Some s was (sym there ∙ here))
         (subst (λ n. length (change s).coming + e * length sc.says ≤ length s.coming + n * length sc.says) (sym (ap (λ y. enters y j) is.0 ∙ ap (enters me) is.1)) own)
     its side j was at false f = omega arith
 

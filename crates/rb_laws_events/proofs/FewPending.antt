@@ -11,6 +11,7 @@ use Rattle.rb_rules.specs.WorldStep.{Choice, Due, Site, Timed, World, after_act,
 use Rattle.rb_rules.specs.WorldStep.Pending.{Tick}
 use Rattle.rb_rules.specs.WorldStep.Choice.{Take}
 use Rattle.rb_rules.specs.WorldStep.Way.{ByAnEvent}
+use Rattle.rb_rules.proofs.Slots.{same_side_self}
 use Rattle.rb_laws_events.specs.PendingEvents.{PendingEventsAreFewInLawful, TakesTick, most_coming, most_pending}
 use Rattle.rb_laws_events.proofs.FewKeeps.{few-keeps, few_at, rooms-few}
 use Rattle.rb_laws_events.proofs.EveryWorld.{AnyWorld, after-more, any-after}
@@ -18,10 +19,10 @@ use Rattle.rb_laws_events.proofs.OneTake.{StandsInRounds}
 use Rattle.rb_laws_events.proofs.TickRooms.{has-room}
 use Rattle.rb_laws_events.proofs.FewThere.{few-where-it-stands, length-mapped}
 use Rattle.rb_laws_events.proofs.WorldNodes.{settle-sites}
-use Rattle.rb_laws_events.proofs.WorldStands.{IsDown, IsUp, kind-itself, node-itself, not-other, sent_by}
+use Rattle.rb_laws_events.proofs.WorldStands.{IsDown, IsUp, node-itself, not-other, sent_by}
 use Rattle.rb_laws_events.proofs.WorldTicks.{after_tick, get-after, kind-other, reached, reached-not}
 
-times-many : (s : Site) → length (times_of s) ≤ length s.coming + 1
+pub times-many : (s : Site) → length (times_of s) ≤ length s.coming + 1
 times-many s = by s.ahead
   where
     by : (o : Option Timed) → length (option_to_list (option_map (λ a. a.time) o) ++ map (λ c. c.time) s.coming) ≤ length s.coming + 1
@@ -50,10 +51,10 @@ world-few sc w h me i s there = by s.runs refl
 -- A tick.
 
 -- a message that comes to a node
-received : (sc : Scenario) (me : Side) (i frame : ℕ) (x : Sending) (j : ℕ) (z : Site) → z.runs ≡ true
+pub received : (sc : Scenario) (me : Side) (i frame : ℕ) (x : Sending) (j : ℕ) (z : Site) → z.runs ≡ true
     → length (times_of (sent_to sc me i frame x (other me) j z)) ≡ length (times_of z) + 1
 received sc me i frame x j z runs =
-    ap (λ b. length (times_of (elim b as (λ _. Site) [ true ↦ more | false ↦ z ]))) (ap (λ b. b && z.runs) (kind-itself (other me)) ∙ runs)
+    ap (λ b. length (times_of (elim b as (λ _. Site) [ true ↦ more | false ↦ z ]))) (ap (λ b. b && z.runs) (same_side_self (other me)) ∙ runs)
     ∙ by z.ahead
   where
     more : Site

@@ -1,8 +1,9 @@
 -- For the law that pending events are few where the run breaks off in a sync slot: at its last tick of the stage a node sends nothing.
-use Rattle.std.proofs.Common.{◌≡◌, ℕ, ◌+◌, ◌*◌, ◌<◌, ◌==◌, Bool, true, false, List, [], ◌∷◌, ◌++◌, refl, ap, sym, ◌∙◌, subst, arith, Option, Some, None, slice_get, lit<}
-use Rattle.std.proofs.lemmas.Bool.Decides.{nat_tests}
+use Rattle.std.proofs.Common.{◌≡◌, ℕ, ◌+◌, ◌*◌, ◌<◌, Bool, true, false, List, [], ◌∷◌, ◌++◌, refl, ap, sym, ◌∙◌, subst, arith, Option, Some, None, slice_get, lit<}
+use Rattle.std.proofs.lemmas.Option.{same_Some}
 use Rattle.rb_base.specs.Nodes.{Side}
 use Rattle.rb_base.specs.Sizes.{sync_slot_of}
+use Rattle.rb_base.proofs.Plain.{less-differs}
 use Rattle.rb_rules.specs.declared.message.Message.{Message}
 use Rattle.rb_rules.specs.Book.{of_kind}
 use Rattle.rb_rules.specs.Clock.{time_of}
@@ -26,15 +27,9 @@ use Rattle.rb_laws_events.proofs.NodeSends.{sending_at}
 use Rattle.rb_laws_events.proofs.SameHeard.{Every}
 use Rattle.rb_laws_events.proofs.SentChanges.{sending-of-is}
 
-differs : (a b : ℕ) → a < b → (a == b) ≡ false
-differs a b h = grind (arith, nat_tests)
-
 gone : (k : ℕ) (o : Option Sending) → ((x : Sending) → o ≡ Some x → x.tick < k) → if_at k o ≡ None
 gone k None h = refl
-gone k (Some x) h = ap (λ b. elim b as (λ _. Option Message) [ true ↦ Some x.message | false ↦ None ]) (differs x.tick k (h x refl))
-
-same-timed : (a b : Timed) → Some a ≡ Some b → a ≡ b
-same-timed a b e = cc
+gone k (Some x) h = ap (λ b. elim b as (λ _. Option Message) [ true ↦ Some x.message | false ↦ None ]) (less-differs x.tick k (h x refl))
 
 -- what it sends in the stage has gone out before
 quiet-then : (sc : Scenario) (hands : List HandIn) → IsLawful sc → (p q : ℕ) → IsRunning (moment sc hands p) → q < 3 → (moment sc hands p).window ≡ 3 * sync_slot_of sc.sizes + q
@@ -52,7 +47,7 @@ pub hearing-quiet : (sc : Scenario) (hands : List HandIn) → IsLawful sc → Ha
     → (moment sc hands p).window ≡ 3 * sync_slot_of sc.sizes + q → (me : Side) (i : ℕ) (s : Site) (a : Timed) → TickBreaks sc hands sent ports p me i s a → WaitsHearing sc hands sent now me i p s
     → (pass_and_tick sc ports me i a.tick s.core).message ≡ None
 hearing-quiet sc hands lawful room sent now ports p q running small at me i s a t h =
-    let same : h.a ≡ a = same-timed h.a a (sym h.stands.receives.pends ∙ t.pend) in
+    let same : h.a ≡ a = same_Some h.a a (sym h.stands.receives.pends ∙ t.pend) in
     let shows = shows-heard sc hands sent now ports me i p s h.st h.a room (t.frame h.st h.stands.state h.stands.good) t.all_sent (t.words h.st h.stands.state)
     (subst (λ (b : Timed). Every (λ c. b.time < c.time) s.coming) (sym same) t.later) h.last h.stands in
     subst (λ (b : Timed). (pass_and_tick sc ports me i b.tick s.core).message ≡ None) same
@@ -62,7 +57,7 @@ pub deaf-quiet : (sc : Scenario) (hands : List HandIn) → IsLawful sc → HasRo
     → (moment sc hands p).window ≡ 3 * sync_slot_of sc.sizes + q → (me : Side) (i : ℕ) (s : Site) (a : Timed) → TickBreaks sc hands sent ports p me i s a → WaitsDeaf sc hands me i p s
     → (pass_and_tick sc ports me i a.tick s.core).message ≡ None
 deaf-quiet sc hands lawful room sent ports p q running small at me i s a t h =
-    let same : h.a ≡ a = same-timed h.a a (sym h.pends ∙ t.pend) in
+    let same : h.a ≡ a = same_Some h.a a (sym h.pends ∙ t.pend) in
     let shows = shows-deaf sc (moment sc hands p) ports me i s h.st h.a.tick room h.good h.stands h.had h.small (t.words h.st h.state) h.last h.slot h.deaf in
     subst (λ (b : Timed). (pass_and_tick sc ports me i b.tick s.core).message ≡ None) same
     (quiet-then sc hands lawful p q running small at me i h.st h.state h.good h.a h.at_time h.last _ _ shows.act)
@@ -71,7 +66,7 @@ pub ahead-quiet : (sc : Scenario) (hands : List HandIn) → IsLawful sc → HasR
     → (moment sc hands p).window ≡ 3 * sync_slot_of sc.sizes + 2 → (me : Side) (i : ℕ) (s : Site) (a : Timed) → TickBreaks sc hands sent ports p me i s a → WaitsAhead sc hands sent me i p s
     → (pass_and_tick sc ports me i a.tick s.core).message ≡ None
 ahead-quiet sc hands lawful room sent ports p running at me i s a t h =
-    let same : h.waits.a ≡ a = same-timed h.waits.a a (sym h.waits.stands.receives.pends ∙ t.pend) in
+    let same : h.waits.a ≡ a = same_Some h.waits.a a (sym h.waits.stands.receives.pends ∙ t.pend) in
     let later : Every (λ c. h.waits.a.time < c.time) s.coming = subst (λ (b : Timed). Every (λ c. b.time < c.time) s.coming) (sym same) t.later in
     let shows = shows-heard sc hands sent h.now ports me i p (record s { coming = h.mine }) h.waits.st h.waits.a room (t.frame h.waits.st h.waits.stands.state h.waits.stands.good) t.all_sent
     (t.words h.waits.st h.waits.stands.state) (every-left (λ c. h.waits.a.time < c.time) h.mine h.more (subst (Every (λ c. h.waits.a.time < c.time)) h.is later)) h.waits.last h.waits.stands in

@@ -1,11 +1,13 @@
 -- For the law that pending events are few where the run breaks off in a sync slot: in the sync slot, after its first stage, a node sends one message at
 -- most, whatever middles it keeps.
-use Rattle.std.proofs.Common.{◌≡◌, ℕ, ◌+◌, ◌-◌, ◌*◌, ◌<◌, ◌≤◌, ◌==◌, ◌||◌, ◌&&◌, ◌⊎◌, Bool, true, false, [], refl, ap, sym, ◌∙◌, subst, arith, inl, inr, Option, Some, None, option_map, if◌then◌else◌}
+use Rattle.std.proofs.Common.{◌≡◌, ℕ, ◌+◌, ◌-◌, ◌*◌, ◌<◌, ◌≤◌, ◌==◌, ◌⊎◌, Bool, true, false, [], refl, ap, sym, ◌∙◌, subst, arith, inl, inr, Option, Some, None, option_map, if◌then◌else◌}
 use Rattle.std.specs.Option.{option_or}
-use Rattle.std.proofs.lemmas.Bool.Decides.{nat_tests}
+use Rattle.std.proofs.lemmas.Bool.{eqb-true, or_cases}
+use Rattle.std.proofs.lemmas.Option.{same_Some}
 use Rattle.rb_base.specs.Nodes.{Side, other}
 use Rattle.rb_base.specs.Nodes.Side.{Biu, Rmu}
 use Rattle.rb_base.specs.Sizes.{Sizes, sync_slot_of}
+use Rattle.rb_base.proofs.Plain.{and_first}
 use Rattle.rb_rules.specs.declared.message.Message.{Message}
 use Rattle.rb_rules.specs.declared.plan.Plan.{Plan}
 use Rattle.rb_rules.specs.declared.role.Role.TheVariants.{Sync}
@@ -50,15 +52,12 @@ pub record IsSentThen (sizes : Sizes) (plan : Plan) (me : Side) (i : ℕ) (st : 
   pub sends : sending sizes plan me i st slot stage word ≡ Some x
   pub tick : x.tick ≡ k
 
-same-of : (a b : ℕ) → (a == b) ≡ true → a ≡ b
-same-of a b h = grind (arith, nat_tests)
-
 if-some : (k : ℕ) (o : Option Sending) (m : Message) → if_at k o ≡ Some m → (x : Sending) × ((o ≡ Some x) × (x.tick ≡ k))
 if-some k None m e = absurd (cc)
 if-some k (Some x) m e = by (x.tick == k) refl e
   where
     by : (b : Bool) → (x.tick == k) ≡ b → (elim b as (λ _. Option Message) [ true ↦ Some x.message | false ↦ None ]) ≡ Some m → (y : Sending) × ((Some x ≡ Some y) × (y.tick ≡ k))
-    by true f e = (x, (refl, same-of x.tick k f))
+    by true f e = (x, (refl, eqb-true x.tick k f))
     by false f e = absurd (cc)
 
 either : (a b : Option Message) (m : Message) → option_or a b ≡ Some m → (a ≡ Some m) ⊎ (b ≡ Some m)
@@ -136,27 +135,16 @@ says-some sizes plan me i c word m = by (is_spent c)
 
 -- One message.
 
-or-of : (a b : Bool) → (a || b) ≡ true → (a ≡ true) ⊎ (b ≡ true)
-or-of true b e = inl refl
-or-of false b e = inr e
-
-and-left : (a b : Bool) → (a && b) ≡ true → a ≡ true
-and-left true b e = refl
-and-left false b e = cc
-
 -- a node calls in one stage after the first
 calls-in : (me : Side) (stage : ℕ) → listens (other me) Sync stage ≡ true → (stage ≡ 1) ⊎ (stage ≡ elim me as (λ _. ℕ) [ Biu ↦ 3 | Rmu ↦ 2 ])
-calls-in Biu stage e = elim (or-of (stage == 1) _ e) [ inl f ↦ inl (same-of stage 1 f) | inr f ↦ inr (same-of stage 3 (and-left (stage == 3) _ f)) ]
-calls-in Rmu stage e = inr (same-of stage 2 e)
-
-same-some : (a b : ℕ) → Some a ≡ Some b → a ≡ b
-same-some a b e = cc
+calls-in Biu stage e = elim (or_cases (stage == 1) _ e) [ inl f ↦ inl (eqb-true stage 1 f) | inr f ↦ inr (eqb-true stage 3 (and_first (stage == 3) _ f)) ]
+calls-in Rmu stage e = inr (eqb-true stage 2 e)
 
 -- the call of the first stage is over
 first-over : (sizes : Sizes) (plan : Plan) (me : Side) (st : NodeState) (n k t : ℕ) → HasRoom plan → 3 * sync_slot_of sizes < n → n ≤ stages_in sizes → IsTickIn sizes plan me st n k
     → call_tick_of sizes plan st 1 ≡ Some t → t < k
 first-over sizes plan me st n k t room lt le at e =
-    let tick : st.epoch + 3 * sync_slot_of sizes * plan.l + plan.h ≡ t = same-some _ _ e in
+    let tick : st.epoch + 3 * sync_slot_of sizes * plan.l + plan.h ≡ t = same_Some _ _ e in
     let last : last_of sizes plan me st (3 * sync_slot_of sizes) ≡ 3 * sync_slot_of sizes * plan.l + plan.l - 1 = last-same sizes plan me st (3 * sync_slot_of sizes) (omega arith) in
     let before : last_of sizes plan me st (3 * sync_slot_of sizes) < first_of sizes plan me st n = ends-before-later sizes plan me st (3 * sync_slot_of sizes) n room.ticks lt le in
     let from : st.epoch + first_of sizes plan me st n ≤ k = at.from in
@@ -178,7 +166,7 @@ speaks-once sizes plan me i st n k word room lt le at h stage t heard e =
             let before = first-over sizes plan me st n k h.x.tick room lt le at (ap (call_tick_of sizes plan st) (sym one) ∙ its.0) in
             absurd (omega (arith, before, tick))
         | inr too ↦
-            let ticks : t ≡ h.x.tick = same-some t h.x.tick (sym e ∙ ap (call_tick_of sizes plan st) (here ∙ sym too) ∙ its.0) in
+            let ticks : t ≡ h.x.tick = same_Some t h.x.tick (sym e ∙ ap (call_tick_of sizes plan st) (here ∙ sym too) ∙ its.0) in
             omega (arith, ticks, tick)
       ]
     ]

@@ -1,10 +1,11 @@
 -- For the law that pending events are few: what comes to a node that stands in the rounds is of the window in which it stands and of the next.
-use Rattle.std.proofs.Common.{◌≡◌, ℕ, suc, ◌+◌, ◌*◌, ◌≤◌, ◌&&◌, Bool, true, false, List, [], ◌∷◌, filter, length, map, refl, ap, arith, Option, Some, None, option_map, option_to_list}
+use Rattle.std.proofs.Common.{◌≡◌, ℕ, suc, ◌+◌, ◌*◌, ◌≤◌, Bool, true, false, List, [], ◌∷◌, filter, length, map, refl, ap, arith, Option, Some, None, option_map, option_to_list}
 use Rattle.std.proofs.lemmas.Bool.Decides.{nat_tests}
 use Rattle.rb_base.specs.Nodes.{Side, other}
 use Rattle.rb_base.specs.Nodes.Side.{Biu, Rmu}
 use Rattle.rb_base.specs.declared.node.NodeName.{NodeName}
 use Rattle.rb_base.specs.declared.node.NodeName.TheVariants as node
+use Rattle.rb_base.proofs.Plain.{and_first}
 use Rattle.rb_rules.specs.declared.say.Say.{Say}
 use Rattle.rb_rules.specs.Clock.{time_of}
 use Rattle.rb_rules.specs.Goodness.{Scenario, clock_of}
@@ -21,10 +22,6 @@ use Rattle.rb_laws_events.proofs.SourceSums.{all-of-sources, coming_of_source, i
 
 -- What is said.
 
-and-left : (a b : Bool) → (a && b) ≡ true → a ≡ true
-and-left true b e = refl
-and-left false b e = cc
-
 same-source : (name : NodeName) (me : Side) (a b : ℕ) → same_node name (name_of me a) ≡ true → same_node name (name_of me b) ≡ true → a ≡ b
 same-source (node.Biu i) Biu a b e f = grind (arith, nat_tests)
 same-source (node.Biu i) Rmu a b e f = cc
@@ -34,7 +31,7 @@ same-source (node.Rmu i) Rmu a b e f = grind (arith, nat_tests)
 -- an entry is said by one node
 pub said-once : (me : Side) (i : ℕ) (span : Span) (s : Say) (a b : ℕ) → is_said me i a span s ≡ true → is_said me i b span s ≡ true → a ≡ b
 said-once me i span s a b e f =
-    same-source s.from (other me) a b (and-left _ _ (and-left _ _ (and-left _ _ e))) (and-left _ _ (and-left _ _ (and-left _ _ f)))
+    same-source s.from (other me) a b (and_first _ _ (and_first _ _ (and_first _ _ e))) (and_first _ _ (and_first _ _ (and_first _ _ f)))
 
 pub length-mapped : {X Y : Type 0} (f : X → Y) (xs : List X) → length (map f xs) ≡ length xs
 length-mapped f [] = refl
@@ -49,14 +46,14 @@ said-many sc me i span j = length-mapped (coming_said sc.plan.version (clock_of 
 
 -- What is sent.
 
-entry-once : (sc : Scenario) (m : Moment) (me : Side) (i j : ℕ) → length (entry_of sc m me i j) ≤ 1
+pub entry-once : (sc : Scenario) (m : Moment) (me : Side) (i j : ℕ) → length (entry_of sc m me i j) ≤ 1
 entry-once sc m me i j = by (sending_of sc m (other me) j)
   where
     by : (o : Option Sending) → length (option_to_list (option_map (coming_of sc me i j m.frame) o)) ≤ 1
     by None = omega arith
     by (Some x) = omega arith
 
-if-sent : (b : Bool) (xs : List Coming) → length xs ≤ 1 → length (elim b as (λ _. List Coming) [ true ↦ xs | false ↦ [] ]) ≤ 1
+pub if-sent : (b : Bool) (xs : List Coming) → length xs ≤ 1 → length (elim b as (λ _. List Coming) [ true ↦ xs | false ↦ [] ]) ≤ 1
 if-sent true xs le = le
 if-sent false xs le = omega arith
 
@@ -71,7 +68,7 @@ heard-few sc m me i span sent j = by (is_good_at sc m (other me) j)
     by true = let one = if-sent (sent j) (entry_of sc m me i j) (entry-once sc m me i j) in omega (arith, one)
     by false = let many = said-many sc me i span j in omega (arith, many)
 
-ahead-few : (sc : Scenario) (m : Moment) (me : Side) (i : ℕ) (sent : ℕ → Bool) (j : ℕ) → length (ahead_so_far sc m me i sent j) ≤ 1
+pub ahead-few : (sc : Scenario) (m : Moment) (me : Side) (i : ℕ) (sent : ℕ → Bool) (j : ℕ) → length (ahead_so_far sc m me i sent j) ≤ 1
 ahead-few sc m me i sent j = by (is_good_at sc m (other me) j)
   where
     by : (b : Bool) → length (elim b as (λ _. List Coming) [

@@ -1,6 +1,7 @@
 -- For the law that events are rounds: the first world stands in the rounds.
-use Rattle.std.proofs.Common.{◌≡◌, ℕ, zero, suc, ◌<◌, Bool, true, false, List, [], ◌∷◌, length, refl, ap, sym, ◌∙◌, arith, inl, Option, Some, None, is_some, slice_get}
+use Rattle.std.proofs.Common.{◌≡◌, ℕ, ◌<◌, Bool, true, false, [], length, refl, ap, sym, ◌∙◌, arith, inl, Option, Some, None, is_some, slice_get}
 use Rattle.std.proofs.lemmas.List.FromFn.{length-map-range_with_len}
+use Rattle.std.proofs.lemmas.Option.{same_Some, slice_get_within}
 use Rattle.rb_base.specs.Nodes.{Side}
 use Rattle.rb_rules.specs.Book.{Each, of_kind, each_of}
 use Rattle.rb_rules.specs.Goodness.{Scenario, is_good}
@@ -21,7 +22,6 @@ use Rattle.rb_laws_events.proofs.Timing.{AreInTime}
 use Rattle.rb_laws_events.proofs.Settling.{RowsOfRounds}
 use Rattle.rb_laws_events.proofs.ToldInOrder.{AllTold}
 use Rattle.rb_laws_events.proofs.Waiting.{none-told}
-use Rattle.rb_laws_events.proofs.WorldStands.{some-same}
 use Rattle.rb_rules.specs.Hearing.{Span, port_at}
 use Rattle.rb_laws_events.proofs.WorldNodes.{first-counts}
 
@@ -44,11 +44,6 @@ fresh-tells sc me i =
 none-some : {X : Type 0} {P : Type 0} (x : X) → None ≡ Some x → P
 none-some x e = absurd (cc)
 
-get-within : {X : Type 0} (xs : List X) (n : ℕ) (x : X) → slice_get xs n ≡ Some x → n < length xs
-get-within [] n x e = cc
-get-within (y ∷ ys) zero x e = omega arith
-get-within (y ∷ ys) (suc n) x e = let more : n < length ys = get-within ys n x e in omega arith
-
 first-tells : (sc : Scenario) → TellRounds sc [] (first_world sc).sites
 unfolding first_world RowsOfRounds BegunOfRounds
 first-tells sc =
@@ -57,9 +52,9 @@ first-tells sc =
     let counts : (me : Side) → length (of_kind me sites) ≡ count_of me sc.sizes = first-counts sc.sizes make in
     let is : (me : Side) (i : ℕ) (s : Site) → slice_get (of_kind me sites) i ≡ Some s → make me i ≡ s =
     λ me i s e.
-    let within : i < length (of_kind me sites) = get-within (of_kind me sites) i s e in
+    let within : i < length (of_kind me sites) = slice_get_within (of_kind me sites) i s e in
     let long : length (of_kind me sites) ≡ count_of me sc.sizes = counts me in
-    some-same (make me i) s (sym (get-made sc.sizes make me i (omega arith)) ∙ e) in
+    same_Some (make me i) s (sym (get-made sc.sizes make me i (omega arith)) ∙ e) in
     record {
       rows = λ me i s row e told. none-some row (sym (fresh-tells sc me i).0 ∙ ap (λ (s : Site). s.row) (is me i s e) ∙ told);
       begun = λ me i s b e told. none-some b (sym (fresh-tells sc me i).1 ∙ ap (λ (s : Site). s.begun) (is me i s e) ∙ told);
@@ -71,9 +66,9 @@ unfolding first_world
 first-told sc me i s e =
     let make : Side → ℕ → Site = λ me i. proceed sc me i (fresh_site sc.sizes me) in
     let sites : Each Site = each_of sc.sizes make in
-    let within : i < length (of_kind me sites) = get-within (of_kind me sites) i s e in
+    let within : i < length (of_kind me sites) = slice_get_within (of_kind me sites) i s e in
     let long : length (of_kind me sites) ≡ count_of me sc.sizes = first-counts sc.sizes make me in
-    let is : make me i ≡ s = some-same (make me i) s (sym (get-made sc.sizes make me i (omega arith)) ∙ e) in
+    let is : make me i ≡ s = same_Some (make me i) s (sym (get-made sc.sizes make me i (omega arith)) ∙ e) in
     let tells = fresh-tells sc me i in
     record {
       row = λ row told. none-some row (sym tells.0 ∙ ap (λ (s : Site). s.row) is ∙ told);
@@ -90,9 +85,9 @@ first-settled sc =
     record {
       waits = λ going. none-told sc 0 0 (λ s. begun_for 0 s.begun) sites (first-counts sc.sizes make)
           (λ me i s e good.
-          let within : i < length (of_kind me sites) = get-within (of_kind me sites) i s e in
+          let within : i < length (of_kind me sites) = slice_get_within (of_kind me sites) i s e in
           let long : length (of_kind me sites) ≡ count_of me sc.sizes = first-counts sc.sizes make me in
-          let is : make me i ≡ s = some-same (make me i) s (sym (get-made sc.sizes make me i (omega arith)) ∙ e) in
+          let is : make me i ≡ s = same_Some (make me i) s (sym (get-made sc.sizes make me i (omega arith)) ∙ e) in
           ap (λ o. is_some (begun_for 0 o)) (sym (ap (λ (s : Site). s.begun) is) ∙ (fresh-tells sc me i).1));
       turn = λ frame e. none-some frame e;
     }

@@ -1,6 +1,7 @@
 -- For the law that events are rounds: in the first world all nodes stand in the first moment.
 use Rattle.std.proofs.Common.{◌≡◌, ℕ, zero, suc, ◌+◌, ◌*◌, ◌<◌, ◌≤◌, ◌⊎◌, Bool, true, false, List, [], ◌∷◌, ◌++◌, length, refl, ap, sym, ◌∙◌, subst, arith, inl, inr, Option, Some, None, slice_get, option_and_then}
 use Rattle.std.proofs.lemmas.Bool.{cases_lt}
+use Rattle.std.proofs.lemmas.Option.{same_Some}
 use Rattle.rb_base.specs.Nodes.{Side, other}
 use Rattle.rb_base.specs.Nodes.Side.{Biu, Rmu}
 use Rattle.rb_base.specs.Sizes.{Sizes}
@@ -20,7 +21,8 @@ use Rattle.rb_rules.specs.Slots.{count_of}
 use Rattle.rb_rules.specs.WorldStep.{Site, await, enter, first_world, fresh_site, proceed, says_in, span_from, stop}
 use Rattle.rb_rules.proofs.Drift.{HasLengths}
 use Rattle.rb_rules.proofs.WindowNumbers.{get-made}
-use Rattle.rb_laws_events.proofs.CloseOrder.{good-clock}
+use Rattle.rb_laws_agreement.proofs.FrameTimes.{good-clock}
+use Rattle.rb_laws_agreement.proofs.Goodnesses.{good_counts}
 use Rattle.rb_laws_events.proofs.Invariant.{InTime, ahead_so_far, heard_so_far, is_good_at, last_tick, next_stage, sending_of}
 use Rattle.rb_laws_events.proofs.NodeActs.{HasRoom}
 use Rattle.rb_laws_events.proofs.NodeCloses.{good-span, span-begins}
@@ -28,7 +30,7 @@ use Rattle.rb_laws_events.proofs.NodeGoesOn.{Entered, Enters, enters}
 use Rattle.rb_laws_events.proofs.NodeTicks.{gone}
 use Rattle.rb_laws_events.proofs.PendingLists.{Hears}
 use Rattle.rb_laws_events.proofs.ReceiverHears.{stands-same}
-use Rattle.rb_laws_events.proofs.RoundNodes.{good-counts, slot_numbered}
+use Rattle.rb_laws_events.proofs.RoundNodes.{slot_numbered}
 use Rattle.rb_laws_events.proofs.SameHeard.{Every}
 use Rattle.rb_laws_events.proofs.SayLists.{ComesIn, every-to, said_if, say-more, says-come-in, says-now}
 use Rattle.rb_laws_events.proofs.SentChanges.{past, sending-of-is, sent-here, sent-later}
@@ -36,7 +38,7 @@ use Rattle.rb_laws_events.proofs.TickWindows.{IsTickIn, Tiles, first_of, first-s
 use Rattle.rb_laws_events.proofs.Timing.{AreInTime, HavePassed}
 use Rattle.rb_laws_events.proofs.WorldEvents.{past-gone, past-none}
 use Rattle.rb_laws_events.proofs.WorldNodes.{first-counts}
-use Rattle.rb_laws_events.proofs.WorldStands.{IsDown, IsUp, SitesStand, ahead_in, sent_by, some-same}
+use Rattle.rb_laws_events.proofs.WorldStands.{IsDown, IsUp, SitesStand, ahead_in, sent_by}
 
 -- nobody has sent anything
 abbrev pub none_sent : Side → ℕ → ℕ → Bool
@@ -46,7 +48,7 @@ none_sent side j p = false
 abbrev pub at_begin : Side → ℕ → ℕ
 at_begin side i = 0
 
-not-turned : (sizes : Sizes) (plan : Plan) (me : Side) (k : ℕ) → state_at sizes plan me (first_state sizes me) k ≡ first_state sizes me
+pub not-turned : (sizes : Sizes) (plan : Plan) (me : Side) (k : ℕ) → state_at sizes plan me (first_state sizes me) k ≡ first_state sizes me
 unfolding state_at
 not-turned sizes plan Biu k = refl
 not-turned sizes plan Rmu k = refl
@@ -76,7 +78,7 @@ first-enters sc hands me i lawful room good =
     let clock : Timeline = clock_of sc me i in
     let span : Span = span_of st (window_in sc m me st) in
     let u : ℕ = time_of clock (last_tick sc m me st) in
-    let counted : i < count_of me sc.sizes = good-counts sc me i 0 (slot_numbered sc.sizes 0) good in
+    let counted : i < count_of me sc.sizes = good_counts sc me i 0 (slot_numbered sc.sizes 0) good in
     let lengths : HasLengths (shortest_of sc.plan) (longest_of sc.plan) clock = good-clock sc lawful me i 0 (slot_numbered sc.sizes 0) good in
     let zero_first : first_of sc.sizes sc.plan me st 0 ≡ 0 * sc.plan.l = first-same sc.sizes sc.plan me st 0 (omega arith) in
     let t : Tiles sc.sizes sc.plan me st 0 = tiles sc.sizes sc.plan me st 0 room.ticks (omega arith) in
@@ -187,7 +189,7 @@ first-stands sc hands lawful room times =
     let within : i < length (of_kind me sites) = get-within (of_kind me sites) i s e in
     let long : length (of_kind me sites) ≡ count_of me sc.sizes = counts me in
     let counted : i < count_of me sc.sizes = omega arith in
-    let same : make me i ≡ s = some-same (make me i) s (sym (get-made sc.sizes make me i counted) ∙ e) in
+    let same : make me i ≡ s = same_Some (make me i) s (sym (get-made sc.sizes make me i counted) ∙ e) in
     subst (FirstNode sc hands me i) same (first-node sc hands me i lawful room times counted) in
     let silent : (side : Side) (j : ℕ) (o : Option Site) → slice_get (of_kind side sites) j ≡ o
     → past (sending_of sc (moment sc hands 0) side j) (option_and_then (λ (s : Site). s.ahead) o) ≡ false =

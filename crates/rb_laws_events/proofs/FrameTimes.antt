@@ -15,7 +15,9 @@ use Rattle.rb_rules.specs.Ports.{HandIn}
 use Rattle.rb_rules.specs.Rounds.{IsGoodIn, Moment, moment, windows_in}
 use Rattle.rb_rules.specs.SyncStage.{new_epoch_of}
 use Rattle.rb_laws_agreement.proofs.Agreement.{running_before, step_is}
+use Rattle.rb_laws_agreement.proofs.ExactAgrees.{has_ticks}
 use Rattle.rb_laws_agreement.proofs.FrameAgrees.{TurnedFrom, turned_from}
+use Rattle.rb_laws_agreement.proofs.FrameTimes.{turned-epoch}
 use Rattle.rb_laws_agreement.proofs.Goodnesses.{slot_last}
 use Rattle.rb_laws_agreement.proofs.Invariant.{IsGoodNode}
 use Rattle.rb_laws_agreement.proofs.NextMoments.{CameFrom, came_from}
@@ -25,9 +27,9 @@ use Rattle.rb_laws_synchrony.proofs.CallTicks.{all_know_next}
 use Rattle.rb_laws_synchrony.proofs.EpochTicks.{BeginByThen, begin_by_then, frame_ticks, within_run}
 use Rattle.rb_laws_synchrony.proofs.KeptMiddles.{Leaves, tail_leaves}
 use Rattle.rb_laws_synchrony.proofs.Synchronous.{KnowNext, KnowsEpoch}
-use Rattle.rb_laws_synchrony.proofs.Synchrony.{IsSynchronous, synchrony, turned_epoch}
+use Rattle.rb_laws_synchrony.proofs.Synchrony.{IsSynchronous, synchrony}
 use Rattle.rb_laws_events.specs.Closing.{HaveBegunTogether, stages_in}
-use Rattle.rb_laws_events.proofs.CloseOrder.{IsWindowLater, WasGood, has-ticks, was-good, window-later}
+use Rattle.rb_laws_events.proofs.CloseOrder.{IsWindowLater, WasGood, was-good, window-later}
 use Rattle.rb_laws_events.proofs.Invariant.{is_good_at}
 use Rattle.rb_laws_events.proofs.RoundNodes.{moments-stand, slot-is}
 
@@ -68,7 +70,7 @@ well-on sc hands lawful n inside h =
     let m2 : Moment = moment sc hands (suc n) in
     let later : IsWindowLater sc m m2 = window-later sc hands m inside in
     let was : (me : Side) (i : ℕ) (st : NodeState) → IsGoodIn sc m2 me i st → WasGood sc m me i st.epoch =
-    λ me i st good. was-good sc hands m me i st inside (moments-stand sc hands n (has-ticks sc lawful)) good in
+    λ me i st good. was-good sc hands m me i st inside (moments-stand sc hands n (has_ticks sc lawful)) good in
     record {
       together = λ me you i j mine yours good other.
           let a : WasGood sc m me i mine.epoch = was me i mine good in
@@ -86,7 +88,7 @@ well-on sc hands lawful n inside h =
 
 -- The turn.
 
-same-next : (plan : Plan) (me : Side) (st now : NodeState) → Leaves st now → new_epoch_of plan me st ≡ new_epoch_of plan me now
+pub same-next : (plan : Plan) (me : Side) (st now : NodeState) → Leaves st now → new_epoch_of plan me st ≡ new_epoch_of plan me now
 same-next plan Biu st now left = ap (option_map (λ k2. k2 + plan.v + plan.z + plan.c)) (sym left.k2)
 same-next plan Rmu st now left = ap (option_map (λ k3. k3 + plan.z)) (sym left.k3)
 
@@ -118,7 +120,7 @@ knew-epoch sc hands lawful t at running me i now h =
             let left : Leaves came.st (after sc m me i came.st) = tail_leaves sc m (tail_windows sc m (omega arith)) me i came.st good in
             let next1 : KnowNext sc m1 = all_know_next sc hands lawful (suc t) running1 (omega arith) in
             let k : KnowsEpoch sc me i from.st next1.0 = next1.1 me i from.st from.was in
-            let e : k.takes.epoch ≡ now.epoch = sym (turned_epoch sc.sizes sc.plan me from.st k.takes.epoch k.takes.known) ∙ ap (λ x. x.epoch) from.is in
+            let e : k.takes.epoch ≡ now.epoch = sym (turned-epoch sc.sizes sc.plan me from.st k.takes.epoch k.takes.known) ∙ ap (λ x. x.epoch) from.is in
             let new : new_epoch_of sc.plan me from.st ≡ Some now.epoch = k.takes.known ∙ ap Some e in
             record { st = came.st; node = came.was; known = same-next sc.plan me came.st (after sc m me i came.st) left ∙ ap (new_epoch_of sc.plan me) came.is ∙ new }
       ]

@@ -22,18 +22,18 @@ use Rattle.rb_laws_events.proofs.Waiting.{no-good, told-all}
 use Rattle.rb_laws_events.proofs.WorldBooks.{go-on-turn, last-one, settle_rest}
 
 -- where nobody is good, all that is asked for has been told
-none-asked : {X : Type 0} (sc : Scenario) (frame slot : ℕ) (tells : Site → Option X) (sites : Each Site) → IsShape sc.sizes → nobody_good sc frame slot ≡ true
+pub none-asked : {X : Type 0} (sc : Scenario) (frame slot : ℕ) (tells : Site → Option X) (sites : Each Site) → IsShape sc.sizes → nobody_good sc frame slot ≡ true
     → all_have_told sc frame slot tells sites ≡ true
 none-asked sc frame slot tells sites shape h =
     told-all sc frame slot tells sites (λ me i s there. ap (λ b. not b || is_some (tells s)) (nobody-each sc frame slot shape h me i))
 
-complete-alone : (sc : Scenario) (sites : Each Site) (m : Milestone) → IsShape sc.sizes → needs_no_event sc m ≡ true → is_complete sc sites m ≡ true
+pub complete-alone : (sc : Scenario) (sites : Each Site) (m : Milestone) → IsShape sc.sizes → needs_no_event sc m ≡ true → is_complete sc sites m ≡ true
 complete-alone sc sites (Begin frame) shape h = none-asked sc frame 0 (λ s. begun_for frame s.begun) sites shape h
 complete-alone sc sites (Stage place) shape h = none-asked sc place.frame place.slot (λ s. row_for place s.row) sites shape h
 complete-alone sc sites End shape h = refl
 
 -- so it is settled
-next-alone : (sc : Scenario) (w : World) → IsShape sc.sizes → needs_no_event sc w.book.upcoming ≡ true → settle_next sc ByItself w ≡ next_world sc w w.book.upcoming
+pub next-alone : (sc : Scenario) (w : World) → IsShape sc.sizes → needs_no_event sc w.book.upcoming ≡ true → settle_next sc ByItself w ≡ next_world sc w w.book.upcoming
 next-alone sc w shape h =
     ap (λ b. elim b as (λ _. World) [ true ↦ next_world sc w w.book.upcoming | false ↦ w ])
     (ap (λ b. b && is_complete sc w.sites w.book.upcoming) (comes w.book.upcoming h) ∙ complete-alone sc w.sites w.book.upcoming shape h)
@@ -45,7 +45,7 @@ next-alone sc w shape h =
 
 -- A stage in which nobody is good is a breach.
 
-no-classes : (stages : List JudgedStage) (s : JudgedStage) → s.good Biu ≡ 0 → (classes_of Biu (s ∷ stages)).good ≡ 0
+pub no-classes : (stages : List JudgedStage) (s : JudgedStage) → s.good Biu ≡ 0 → (classes_of Biu (s ∷ stages)).good ≡ 0
 unfolding classes_of
 no-classes stages s h =
     same_set_of (λ j. has (trusted_now Biu (s ∷ stages)) j && has (s.good Biu) j) (λ j. false)
@@ -56,11 +56,11 @@ no-classes stages s h =
     and-none true = refl
     and-none false = refl
 
-few-cause : (a b : ClassSets) → are_few_good a ≡ true → cause_of a b ≡ Some FewGoodBiu
+pub few-cause : (a b : ClassSets) → are_few_good a ≡ true → cause_of a b ≡ Some FewGoodBiu
 few-cause a b few =
     ap (λ t. if t then Some FewGoodBiu else (if are_few_good b then Some FewGoodRmu else (if some_asymmetric a && some_asymmetric b then Some TwoSided else None))) few
 
-breach-alone : (stages : List JudgedStage) (s : JudgedStage) → s.good Biu ≡ 0 → verdict_of (s ∷ stages) ≡ Some FewGoodBiu
+pub breach-alone : (stages : List JudgedStage) (s : JudgedStage) → s.good Biu ≡ 0 → verdict_of (s ∷ stages) ≡ Some FewGoodBiu
 unfolding verdict_of
 breach-alone stages s h =
     let c : ClassSets = classes_of Biu (s ∷ stages) in
@@ -134,7 +134,7 @@ turn-alone sc w shape going h = by w.book.upcoming refl h
     by (Stage place) up h = stage-turn sc 1 w place shape going up h
     by End up h = end-turn sc 1 w shape going up
 
-go-on-is : (sc : Scenario) (w : World) → w.book.ended ≡ false → go_on sc w ≡ settle sc ByItself 2 w
+pub go-on-is : (sc : Scenario) (w : World) → w.book.ended ≡ false → go_on sc w ≡ settle sc ByItself 2 w
 unfolding go_on
 go-on-is sc w going = ap (λ b. elim b as (λ _. World) [ true ↦ w | false ↦ settle sc ByItself 2 w ]) going
 

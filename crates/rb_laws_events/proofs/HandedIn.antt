@@ -17,15 +17,16 @@ use Rattle.rb_rules.specs.Slots.{count_of}
 use Rattle.rb_rules.specs.WorldStep.{Site, Timed}
 use Rattle.rb_rules.proofs.HandIns.{moments-more}
 use Rattle.rb_rules.proofs.RoundStates.{HasTicks}
+use Rattle.rb_laws_agreement.proofs.Goodnesses.{good_counts}
+use Rattle.rb_laws_agreement.proofs.PortLists.{ports_long}
 use Rattle.rb_laws_events.specs.Closing.{stages_in}
 use Rattle.rb_laws_events.proofs.HandedMoments.{Alike, alike-sent, alike-through, before-frame, handed-alike, handed-ports, place-of}
 use Rattle.rb_laws_events.proofs.Invariant.{NodeStands, ahead_so_far, has_sent, heard_so_far, is_good_at, last_tick, next_stage, word_at}
 use Rattle.rb_laws_events.proofs.MomentBooks.{number-of, place_at}
 use Rattle.rb_laws_events.proofs.NodeActs.{IsInWindow}
-use Rattle.rb_laws_events.proofs.PortMoments.{ports-count}
 use Rattle.rb_laws_events.proofs.PortsKept.{still-early}
 use Rattle.rb_laws_events.proofs.Receiving.{Receives}
-use Rattle.rb_laws_events.proofs.RoundNodes.{good-counts, item-at, slot-is, slot_numbered}
+use Rattle.rb_laws_events.proofs.RoundNodes.{item-at, slot-is, slot_numbered}
 use Rattle.rb_laws_events.proofs.Settling.{RowOfRounds, RowsOfRounds}
 use Rattle.rb_laws_events.proofs.SettlingFrames.{BegunInRounds, BegunOfRounds, TellRounds, ports_before}
 use Rattle.rb_laws_events.proofs.TickWindows.{first_of}
@@ -147,7 +148,7 @@ sites-handed sc hands h now at sites early stand = record {
 pub site-of : (sc : Scenario) (sites : Each Site) → ((me : Side) → length (of_kind me sites) ≡ count_of me sc.sizes) → (me : Side) (i frame slot : ℕ) → is_good sc me i frame slot ≡ true
     → (s : Site) × (slice_get (of_kind me sites) i ≡ Some s)
 site-of sc sites counts me i frame slot good =
-    let counted : i < count_of me sc.sizes = good-counts sc me i frame slot good in
+    let counted : i < count_of me sc.sizes = good_counts sc me i frame slot good in
     let long : length (of_kind me sites) ≡ count_of me sc.sizes = counts me in
     item-at (of_kind me sites) i (omega arith)
 
@@ -256,11 +257,6 @@ state-other fresh zero state (suc j) (p ∷ ps) differ = refl
 state-other fresh (suc i) state zero (p ∷ ps) differ = refl
 state-other fresh (suc i) state (suc j) (p ∷ ps) differ = state-other fresh i state j ps (λ e. differ (ap suc e))
 
-pub length-handed : (i state : ℕ) (ports : List PortState) → length (with_state i state ports) ≡ length ports
-length-handed i state [] = refl
-length-handed zero state (p ∷ ps) = refl
-length-handed (suc i) state (p ∷ ps) = ap suc (length-handed i state ps)
-
 -- the port of BIU j, which stands in moment p, after a hand-in
 pub port-handed : (sc : Scenario) (hands : List HandIn) (h : HandIn) (ports : List PortState) (j p : ℕ) → HasTicks sc.plan → j < sc.sizes.bius → length ports ≡ sc.sizes.bius
     → p ≤ h.frame * (windows_in sc.sizes + 1) + 1 → (p < h.frame * (windows_in sc.sizes + 1) → h.biu ≢ j) → port_at sc ports j ≡ port_at sc (moment sc hands p).ports j
@@ -271,7 +267,7 @@ port-handed sc hands h ports j p ticks counted many early other same =
     let fresh : PortState = record { app = get_or sc.apps j 0; state = get_or sc.words j 0; faults = [] } in
     let at_begin : (q : ℕ) → q ≡ b → port_at sc (with_state h.biu h.state (moment sc hands q).ports) j ≡ port_at sc (moment sc more q).ports j =
     λ q e. ap (λ ports. port_at sc ports j) (sym (handed-ports sc hands h q e)) in
-    let count : (q : ℕ) → length ports ≡ length (moment sc hands q).ports = λ q. many ∙ sym (ports-count sc hands q) in
+    let count : (q : ℕ) → length ports ≡ length (moment sc hands q).ports = λ q. many ∙ sym (ports_long sc hands q) in
     elim (cases_lt p b) [
       | inl before ↦
           state-other fresh h.biu h.state j ports (other before) ∙ same

@@ -17,16 +17,17 @@ use Rattle.rb_rules.specs.Rounds.{Moment, Result, after_window, begin_frame, clo
 use Rattle.rb_rules.specs.Slots.{role_of}
 use Rattle.rb_rules.proofs.Books.{stepped}
 use Rattle.rb_rules.proofs.HandIns.{moments-more}
+use Rattle.rb_rules.proofs.Slots.{schedule_role}
 use Rattle.rb_laws_events.proofs.CloseOrder.{IsFrameLater, IsWindowLater, frame-later, window-later}
 use Rattle.rb_laws_events.proofs.MomentBooks.{number-of}
-use Rattle.rb_laws_events.proofs.PortsKept.{ports-turned, schedule-slot}
+use Rattle.rb_laws_events.proofs.PortsKept.{ports-turned}
 use Rattle.rb_laws_events.proofs.RoundNodes.{slot-is, slot_numbered}
 
 -- In a schedule slot ports play no part.
 
 word-alike : (sc : Scenario) (a b : List PortState) (i slot : ℕ) → slot < sc.sizes.bius → word_for sc a i slot (role_of sc.sizes slot) ≡ word_for sc b i slot (role_of sc.sizes slot)
 word-alike sc a b i slot early =
-    ap (word_for sc a i slot) (schedule-slot sc.sizes slot early) ∙ sym (ap (word_for sc b i slot) (schedule-slot sc.sizes slot early))
+    ap (word_for sc a i slot) (schedule_role sc.sizes slot early) ∙ sym (ap (word_for sc b i slot) (schedule_role sc.sizes slot early))
 
 -- a moment that differs from another in its ports alone, which play no part in its window
 pub record Alike (sc : Scenario) (m x : Moment) : Type 0 where

@@ -2,6 +2,7 @@
 -- node, with nothing known of what comes after. It shows what the rounds tell of the window, where all that was sent to the node has
 -- come; and whatever came to it, where it doesn't listen.
 use Rattle.std.proofs.Common.{◌≡◌, ℕ, ◌+◌, ◌^◌, ◌<◌, ◌≤◌, ◌==◌, ◌&&◌, ◌⊎◌, nat_le, Bool, true, false, List, [], map, ap, sym, ◌∙◌, subst, arith, Some, None}
+use Rattle.std.proofs.lemmas.Bool.{le-leb}
 use Rattle.std.proofs.lemmas.Bool.Decides.{nat_tests}
 use Rattle.rb_base.specs.Nodes.{Side, other}
 use Rattle.rb_base.specs.Sizes.{Sizes, sync_slot_of}
@@ -41,9 +42,6 @@ pub record ShowsRounds (sc : Scenario) (m : Moment) (me : Side) (i : ℕ) (st : 
   pub row : (go_through sc m (sent_in sc m) me i st (window_in sc m me st)).row ≡ Some (row_of me i x.core.state (coming_from s.got) shown)
   pub act : ActsClose sc me i st m.window (word_at sc m me i st) k (pass_to k s.core) x
 
-le-true : (a b : ℕ) → a ≤ b → nat_le a b ≡ true
-le-true a b h = grind (arith, nat_tests)
-
 -- a node that listens, once all has come
 pub shows-heard : (sc : Scenario) (hands : List HandIn) (sent : Side → ℕ → ℕ → Bool) (now : ℕ) (ports : List PortState) (me : Side) (i p : ℕ) (s : Site) (st : NodeState) (a : Timed)
     → HasRoom sc.plan → st.frame ≡ (moment sc hands p).frame
@@ -77,7 +75,7 @@ shows-heard sc hands sent now ports me i p s st a room frame all_sent words late
     let some : first_of sc.sizes sc.plan me st n ≤ last_of sc.sizes sc.plan me st n = omega arith in
     let holds : HoldsHeard sc m (sent_in sc m) me i st w s.core.inbox s.got = record {
       good = ap (is_good sc me i m.frame) (slot-is sc.sizes sc.plan me st n) ∙ h.good;
-      some_tick = le-true w.first w.last some;
+      some_tick = le-leb w.first w.last some;
       stamped = r.inbox;
       all = λ j. subst (AllOf (coming_from s.got j)) (heard-all sc m me i j st (λ j. sent (other me) j p) frame (all_sent j))
           (all-here j t s.got s.coming (heard j) (ahead j) after (r.hears j));
@@ -147,7 +145,7 @@ shows-deaf sc m ports me i s st k room good stood le small words last slot deaf 
     let some : first_of sc.sizes sc.plan me st n ≤ last_of sc.sizes sc.plan me st n = omega arith in
     let outcome : Outcome = closing_of sc m me i st w s.core.inbox in
     let rounds : (go_through sc m (sent_in sc m) me i st w).row ≡ Some (silent_row sc.sizes me (spoken sc m me i st w) w.stage) =
-    deaf-through sc m me i st (ap (is_good sc me i m.frame) (slot-is sc.sizes sc.plan me st n) ∙ good) (le-true w.first w.last some) slot deaf in
+    deaf-through sc m me i st (ap (is_good sc me i m.frame) (slot-is sc.sizes sc.plan me st n) ∙ good) (le-leb w.first w.last some) slot deaf in
     let shown : row_of me i outcome.state (coming_from s.got) outcome.closed ≡ silent_row sc.sizes me (spoken sc m me i st w) w.stage =
     deaf-window sc.sizes sc.plan me i (spoken sc m me i st w) w (of_source s.core.inbox) (coming_from s.got) slot deaf in
     record {

@@ -1,6 +1,7 @@
 -- For the law that events are rounds where the premise on faults is broken in a sync slot: a node that waits for its last tick
 -- of the last stage has told its row of it after that tick, and knows when its next frame begins.
 use Rattle.std.proofs.Common.{◌≡◌, ℕ, ◌+◌, ◌*◌, ◌<◌, ◌≤◌, ◌⊎◌, Bool, true, false, List, [], ◌∷◌, ◌++◌, refl, ap, sym, ◌∙◌, subst, arith, inl, Option, Some, None, option_map, lit<}
+use Rattle.std.proofs.lemmas.Bool.{true≢false}
 use Rattle.rb_base.specs.Nodes.{Side, other}
 use Rattle.rb_base.specs.Nodes.Side.{Biu, Rmu}
 use Rattle.rb_base.specs.Sizes.{sync_slot_of}
@@ -147,9 +148,6 @@ last-had sc m some at me st k last =
     let is : last_of sc.sizes sc.plan me st m.window ≡ last_of sc.sizes sc.plan me st (3 * sync_slot_of sc.sizes + 2) = ap (last_of sc.sizes sc.plan me st) at in
     omega (arith, is, last-third-call sc.sizes sc.plan me st, last, some)
 
-true-false : true ≡ false → ⊥
-true-false e = cc
-
 pub hearing-last : (sc : Scenario) (hands : List HandIn) → IsLawful sc → HasRoom sc.plan → (sent : Side → ℕ → ℕ → Bool) (ports : List PortState) (p : ℕ) → IsRunning (moment sc hands p)
     → (moment sc hands p).window ≡ 3 * sync_slot_of sc.sizes + 2 → (me : Side) (i : ℕ) (s : Site) → (h : WaitsAhead sc hands sent me i p s) → h.waits.st.frame ≡ (moment sc hands p).frame
     → ((j : ℕ) → is_good_at sc (moment sc hands p) (other me) j ≡ true → (sent (other me) j p ≡ true) ⊎ (entry_of sc (moment sc hands p) me i j ≡ []))
@@ -172,7 +170,7 @@ hearing-last sc hands lawful room sent ports p running at me i s h frame all_sen
     let had : x.core.had ≡ a.tick + 1 = ap (λ (c : Core). c.had) shows.0.act.core in
     let end : a.tick + 1 ≡ st.epoch + tail_start_of sc.sizes sc.plan = last-had sc m room.ticks.l at me st a.tick h.waits.last in
     told-same sc hands me i p (after_act sc ports me i x base) (after_act sc ports me i x s) (act-same sc ports me i x s h.mine)
-    (told-from sc hands ports me i p next.0 x base at closed (ap (new_epoch_of sc.plan me) shows.1 ∙ next.1) (omega (arith, low, had, end)) (λ deaf. absurd (true-false (sym hears ∙ deaf))))
+    (told-from sc hands ports me i p next.0 x base at closed (ap (new_epoch_of sc.plan me) shows.1 ∙ next.1) (omega (arith, low, had, end)) (λ deaf. absurd (true≢false (sym hears ∙ deaf))))
   where
     every-left : (P : Coming → Type 0) (xs ys : List Coming) → Every P (xs ++ ys) → Every P xs
     every-left P [] ys e = tt

@@ -2,12 +2,14 @@
 -- the run breaks off with the last stage of the sync slot. After it the node has told its row, and what it says comes to those that listen in
 -- the stage after their last tick of it.
 use Rattle.std.proofs.Common.{◌≡◌, ℕ, ◌+◌, ◌*◌, ◌-◌, ◌<◌, ◌≤◌, ◌==◌, Bool, true, false, List, refl, ap, sym, ◌∙◌, subst, arith, inl, inr, Option, Some, None, slice_get, lit<}
-use Rattle.std.proofs.lemmas.Bool.{cases_lt}
+use Rattle.std.proofs.lemmas.Bool.{cases_lt, true≢false}
 use Rattle.std.proofs.lemmas.Bool.Decides.{nat_tests}
+use Rattle.std.proofs.lemmas.Option.{same_Some}
 use Rattle.rb_base.specs.Nodes.{Side, other}
 use Rattle.rb_base.specs.Nodes.Side.{Biu, Rmu}
 use Rattle.rb_base.specs.Sizes.{sync_slot_of}
 use Rattle.rb_base.specs.declared.values.Place.{Place}
+use Rattle.rb_base.proofs.Plain.{none_and_some}
 use Rattle.rb_rules.specs.declared.message.Message.{Message}
 use Rattle.rb_rules.specs.declared.plan.Window.{Window}
 use Rattle.rb_rules.specs.declared.role.Role.TheVariants.{Sync}
@@ -31,10 +33,11 @@ use Rattle.rb_laws_agreement.proofs.NodeWindows.{Windows, sync_windows_are}
 use Rattle.rb_laws_synchrony.proofs.NextMessages.{next_message}
 use Rattle.rb_laws_synchrony.proofs.Synchrony.{IsSynchronous, synchrony}
 use Rattle.rb_laws_synchrony.proofs.TakenCalls.{IsStage, is_set}
+use Rattle.rb_laws_agreement.proofs.FrameTimes.{good-clock}
 use Rattle.rb_laws_events.proofs.BreakEnters.{sent-then}
 use Rattle.rb_laws_events.proofs.BreakEvents.{TickBreaks}
 use Rattle.rb_laws_events.proofs.BreakSites.{WaitsDeaf}
-use Rattle.rb_laws_events.proofs.CloseOrder.{good-clock, shortest-some, times-apart}
+use Rattle.rb_laws_events.proofs.CloseOrder.{shortest-some, times-apart}
 use Rattle.rb_laws_events.proofs.FrameTimes.{BegunWell, begun-well, good-node}
 use Rattle.rb_laws_events.proofs.Invariant.{is_good_at, last_tick, word_at}
 use Rattle.rb_laws_events.proofs.LastCloses.{shows-deaf}
@@ -49,6 +52,7 @@ use Rattle.rb_laws_events.proofs.RoundNodes.{slot-is}
 use Rattle.rb_laws_events.proofs.SameHeard.{Every}
 use Rattle.rb_laws_events.proofs.SentChanges.{sending-of-is}
 use Rattle.rb_laws_events.proofs.StageOrder.{Apart, apart-turn, last_of, last-same}
+use Rattle.rb_laws_events.proofs.TailTicks.{none-some}
 
 -- Times.
 
@@ -102,13 +106,6 @@ comes-later sc hands lawful p running at n yours there2 good2 i st there good x 
 
 -- A due tick.
 
-same-timed : (a b : Timed) → Some a ≡ Some b → a ≡ b
-same-timed a b e = cc
-
-none-pends : {P : Type 0} (a : Timed) (o : Option Timed) → o ≡ None → o ≡ Some a → P
-none-pends a None e f = cc
-none-pends a (Some b) e f = cc
-
 -- a node that has told its row ends no stage with it
 pub before-end : (sc : Scenario) (hands : List HandIn) (sent : Side → ℕ → ℕ → Bool) → IsLawful sc → (ports : List PortState) (p : ℕ) → IsRunning (moment sc hands p) → (moment sc hands p).window ≡ 3 * sync_slot_of sc.sizes + 2
     → (me : Side) (i : ℕ) (s : Site) (a : Timed) → TickBreaks sc hands sent ports p me i s a → (h : HasToldLast sc hands me i p s) → a.tick + 1 < h.x + sc.plan.l
@@ -121,14 +118,14 @@ before-end sc hands sent lawful ports p running at me i s a t h =
 pub last-ticks : (sc : Scenario) (hands : List HandIn) → IsLawful sc → HasRoom sc.plan → (sent : Side → ℕ → ℕ → Bool) (ports : List PortState) (p : ℕ) → IsRunning (moment sc hands p)
     → (moment sc hands p).window ≡ 3 * sync_slot_of sc.sizes + 2 → (me : Side) (i : ℕ) (s : Site) (a : Timed) → TickBreaks sc hands sent ports p me i s a → SiteLast sc hands sent p me i s
     → HasToldLast sc hands me i p (after_act sc ports me i (pass_and_tick sc ports me i a.tick s.core) s)
-last-ticks sc hands lawful room sent ports p running at me i s a t (inl stopped) = none-pends a s.ahead stopped.ahead t.pend
+last-ticks sc hands lawful room sent ports p running at me i s a t (inl stopped) = none_and_some a s.ahead stopped.ahead t.pend
 last-ticks sc hands lawful room sent ports p running at me i s a t (inr (inl h)) =
-    let same : h.waits.a ≡ a = same-timed h.waits.a a (sym h.waits.stands.receives.pends ∙ t.pend) in
+    let same : h.waits.a ≡ a = same_Some h.waits.a a (sym h.waits.stands.receives.pends ∙ t.pend) in
     subst (λ (b : Timed). HasToldLast sc hands me i p (after_act sc ports me i (pass_and_tick sc ports me i b.tick s.core) s)) same
     (hearing-last sc hands lawful room sent ports p running at me i s h (t.frame h.waits.st h.waits.stands.state h.waits.stands.good) t.all_sent (t.words h.waits.st h.waits.stands.state)
     (subst (λ (b : Timed). Every (λ c. b.time < c.time) s.coming) (sym same) t.later))
 last-ticks sc hands lawful room sent ports p running at me i s a t (inr (inr (inl h))) =
-    let same : h.a ≡ a = same-timed h.a a (sym h.pends ∙ t.pend) in
+    let same : h.a ≡ a = same_Some h.a a (sym h.pends ∙ t.pend) in
     subst (λ (b : Timed). HasToldLast sc hands me i p (after_act sc ports me i (pass_and_tick sc ports me i b.tick s.core) s)) same
     (deaf-last sc hands lawful room ports p running at me i s h (t.words h.st h.state))
 last-ticks sc hands lawful room sent ports p running at me i s a t (inr (inr (inr h))) =
@@ -139,7 +136,7 @@ deaf-quiet : (sc : Scenario) (hands : List HandIn) → IsLawful sc → HasRoom s
     → (moment sc hands p).window ≡ 3 * sync_slot_of sc.sizes + 2 → (me : Side) (i : ℕ) (s : Site) (a : Timed) → TickBreaks sc hands sent ports p me i s a → WaitsDeaf sc hands me i p s
     → (pass_and_tick sc ports me i a.tick s.core).message ≡ None
 deaf-quiet sc hands lawful room sent ports p running at me i s a t h =
-    let same : h.a ≡ a = same-timed h.a a (sym h.pends ∙ t.pend) in
+    let same : h.a ≡ a = same_Some h.a a (sym h.pends ∙ t.pend) in
     let shows = shows-deaf sc m ports me i s h.st h.a.tick room h.good h.stands h.had h.small (t.words h.st h.state) h.last h.slot h.deaf in
     let end : time_of (clock_of sc me i) h.a.tick ≡ time_of (clock_of sc me i) (last_tick sc m me h.st) = ap (time_of (clock_of sc me i)) h.last in
     let none : if_at h.a.tick (sending_at sc.sizes sc.plan me i h.st m.window (word_at sc m me i h.st)) ≡ None =
@@ -158,13 +155,6 @@ deaf-quiet sc hands lawful room sent ports p running at me i s a t h =
     gone k None h = refl
     gone k (Some x) h = ap (λ b. elim b as (λ _. Option Message) [ true ↦ Some x.message | false ↦ None ]) (differs x.tick k (h x refl))
 
-none-some : {X P : Type 0} (o : Option X) (x : X) → o ≡ None → o ≡ Some x → P
-none-some None x e f = cc
-none-some (Some y) x e f = cc
-
-true-false : true ≡ false → ⊥
-true-false e = cc
-
 -- and what the node says comes to a node that listens in the stage after that one's last tick
 pub ticks-late : (sc : Scenario) (hands : List HandIn) → IsLawful sc → HasRoom sc.plan → (sent : Side → ℕ → ℕ → Bool) (ports : List PortState) (p : ℕ) → IsRunning (moment sc hands p)
     → (moment sc hands p).window ≡ 3 * sync_slot_of sc.sizes + 2 → (me : Side) (i : ℕ) (s : Site) (a : Timed) → TickBreaks sc hands sent ports p me i s a → SiteLast sc hands sent p me i s
@@ -173,12 +163,12 @@ pub ticks-late : (sc : Scenario) (hands : List HandIn) → IsLawful sc → HasRo
 ticks-late sc hands lawful room sent ports p running at Biu i s a t h frame Biu n z w kind msg e = cc
 ticks-late sc hands lawful room sent ports p running at Rmu i s a t h frame Rmu n z w kind msg e = cc
 ticks-late sc hands lawful room sent ports p running at Rmu i s a t h frame Biu n z w kind msg e =
-    absurd (true-false (sym w.waits.hears ∙ ap (listens Biu Sync) (third-stage sc (moment sc hands p) at Biu w.waits.st)))
+    absurd (true≢false (sym w.waits.hears ∙ ap (listens Biu Sync) (third-stage sc (moment sc hands p) at Biu w.waits.st)))
 ticks-late sc hands lawful room sent ports p running at Biu i s a t h frame Rmu n z w kind msg e = by h
   where
     by : SiteLast sc hands sent p Biu i s → w.waits.a.time < (coming_of sc Rmu n i frame (record { tick = a.tick; message = msg })).time
-    by (inl stopped) = none-pends a s.ahead stopped.ahead t.pend
-    by (inr (inl b)) = absurd (true-false (sym b.waits.hears ∙ ap (listens Biu Sync) (third-stage sc (moment sc hands p) at Biu b.waits.st)))
+    by (inl stopped) = none_and_some a s.ahead stopped.ahead t.pend
+    by (inr (inl b)) = absurd (true≢false (sym b.waits.hears ∙ ap (listens Biu Sync) (third-stage sc (moment sc hands p) at Biu b.waits.st)))
     by (inr (inr (inl b))) = none-some (pass_and_tick sc ports Biu i a.tick s.core).message msg (deaf-quiet sc hands lawful room sent ports p running at Biu i s a t b) e
     by (inr (inr (inr b))) =
         let m : Moment = moment sc hands p in

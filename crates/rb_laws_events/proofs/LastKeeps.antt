@@ -1,7 +1,9 @@
 -- For the law that events are rounds: the nodes of a world in which the run breaks off with the last stage of the sync slot keep what is asked of them.
-use Rattle.std.proofs.Common.{◌≡◌, ℕ, ◌+◌, ◌*◌, ◌≤◌, ◌⊎◌, Bool, true, false, List, ap, sym, ◌∙◌, subst, inl, inr, Option, Some, None}
+use Rattle.std.proofs.Common.{◌≡◌, ℕ, ◌+◌, ◌*◌, ◌≤◌, ◌⊎◌, Bool, true, false, List, ap, sym, ◌∙◌, subst, inl, inr, Some}
+use Rattle.std.proofs.lemmas.Option.{same_Some}
 use Rattle.rb_base.specs.Nodes.{Side}
 use Rattle.rb_base.specs.Sizes.{sync_slot_of}
+use Rattle.rb_base.proofs.Plain.{none_and_some}
 use Rattle.rb_rules.specs.Book.{Each}
 use Rattle.rb_rules.specs.Clock.{time_of}
 use Rattle.rb_rules.specs.Goodness.{Scenario, clock_of}
@@ -47,22 +49,15 @@ last-goes sc hands sent p me i s (inr (inl h)) = inr h.waits.stands.good
 last-goes sc hands sent p me i s (inr (inr (inl h))) = inr h.good
 last-goes sc hands sent p me i s (inr (inr (inr h))) = inr h.good
 
-same-timed : (a b : Timed) → Some a ≡ Some b → a ≡ b
-same-timed a b e = cc
-
-none-pends : {P : Type 0} (a : Timed) (o : Option Timed) → o ≡ None → o ≡ Some a → P
-none-pends a None e f = cc
-none-pends a (Some b) e f = cc
-
 abbrev IsAhead : Scenario → Side → ℕ → Site → Timed → Type 0
 IsAhead sc me i s a = (s.core.had ≤ a.tick) × (a.time ≡ time_of (clock_of sc me i) a.tick)
 
 last-ahead : (sc : Scenario) (hands : List HandIn) (sent : Side → ℕ → ℕ → Bool) (p : ℕ) (me : Side) (i : ℕ) (s : Site) → SiteLast sc hands sent p me i s
     → (a : Timed) → s.ahead ≡ Some a → IsAhead sc me i s a
-last-ahead sc hands sent p me i s (inl stopped) a e = none-pends a s.ahead stopped.ahead e
+last-ahead sc hands sent p me i s (inl stopped) a e = none_and_some a s.ahead stopped.ahead e
 last-ahead sc hands sent p me i s (inr (inl h)) a e =
-    subst (IsAhead sc me i s) (same-timed h.waits.a a (sym h.waits.stands.receives.pends ∙ e)) (h.waits.stands.receives.is_next.later, h.waits.stands.receives.at_time)
-last-ahead sc hands sent p me i s (inr (inr (inl h))) a e = subst (IsAhead sc me i s) (same-timed h.a a (sym h.pends ∙ e)) (h.had, h.at_time)
+    subst (IsAhead sc me i s) (same_Some h.waits.a a (sym h.waits.stands.receives.pends ∙ e)) (h.waits.stands.receives.is_next.later, h.waits.stands.receives.at_time)
+last-ahead sc hands sent p me i s (inr (inr (inl h))) a e = subst (IsAhead sc me i s) (same_Some h.a a (sym h.pends ∙ e)) (h.had, h.at_time)
 last-ahead sc hands sent p me i s (inr (inr (inr h))) a e = let next = h.ahead a e in (next.had, next.at_time)
 
 -- each node of the world

@@ -14,12 +14,12 @@ use Rattle.rb_rules.specs.Ports.{HandIn, PortState}
 use Rattle.rb_rules.specs.Rounds.{Moment, moment, window_in}
 use Rattle.rb_rules.specs.WorldStep.{Site, Timed, after_act, after_arrival, at_node, pass_and_tick, with_message}
 use Rattle.rb_rules.proofs.Stamps.{Moves}
+use Rattle.rb_laws_agreement.proofs.ExactAgrees.{has_ticks}
 use Rattle.rb_laws_events.specs.Closing.{stages_in}
 use Rattle.rb_laws_events.proofs.BreakBegins.{FirstCloses}
 use Rattle.rb_laws_events.proofs.BreakEnters.{waits-then}
 use Rattle.rb_laws_events.proofs.BreakEvents.{TickBreaks}
 use Rattle.rb_laws_events.proofs.BreakSites.{WaitsDeaf, WaitsHearing}
-use Rattle.rb_laws_events.proofs.CloseOrder.{has-ticks}
 use Rattle.rb_laws_events.proofs.Invariant.{is_good_at}
 use Rattle.rb_laws_events.proofs.LastEvents.{last-ticks, ticks-late}
 use Rattle.rb_laws_events.proofs.LastSites.{HasToldLast, SiteLast, WaitsAhead, message-comes, site-comes}
@@ -92,6 +92,6 @@ pub last-row : (sc : Scenario) (hands : List HandIn) → IsLawful sc → (p : �
 last-row sc hands lawful p at me i s h =
     let m : Moment = moment sc hands p in
     let stage : m.window < stages_in sc.sizes = omega (arith, at) in
-    let frame : h.st.frame ≡ m.frame = ((moments-stand sc hands p (has-ticks sc lawful)).stands me i h.st h.state h.good).frame in
+    let frame : h.st.frame ≡ m.frame = ((moments-stand sc hands p (has_ticks sc lawful)).stands me i h.st h.state h.good).frame in
     let place : h.row.place ≡ place_at sc.sizes m = row-place sc m me i h.st (window_in sc m me h.st) h.row h.is ∙ place-is sc m me h.st stage frame in
     (place, record { q = p; st = h.st; stage = stage; state = h.state; place = place; is = h.is })

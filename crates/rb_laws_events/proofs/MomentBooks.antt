@@ -10,9 +10,9 @@ use Rattle.rb_rules.specs.declared.plan.Plan.{Plan}
 use Rattle.rb_rules.specs.declared.plan.Window.{Window}
 use Rattle.rb_base.specs.Nodes.{Side}
 use Rattle.rb_base.specs.Nodes.Side.{Biu}
-use Rattle.rb_rules.specs.Book.{Begun, Book, Each, Milestone, Row, after_stage, after_verdict, fresh_book, frame_records, judged_of, with_end, with_frame, with_stage}
+use Rattle.rb_base.proofs.Plain.{true-false}
+use Rattle.rb_rules.specs.Book.{Begun, Book, Each, Milestone, Row, after_stage, after_verdict, fresh_book, frame_records, judged_of, with_frame, with_stage}
 use Rattle.rb_rules.specs.Book.Milestone.{Begin, Stage, End}
-use Rattle.rb_rules.specs.Book.Record.{Ended}
 use Rattle.rb_rules.specs.Goodness.{Scenario}
 use Rattle.rb_rules.specs.Judging.{JudgedStage, verdict_of}
 use Rattle.rb_rules.specs.NodeState.{NodeState, first_state}
@@ -22,6 +22,7 @@ use Rattle.rb_rules.specs.Windows.{windows_of_frame}
 use Rattle.rb_rules.proofs.Books.{stepped}
 use Rattle.rb_rules.proofs.WindowNumbers.{exact-numbered, sync-numbered}
 use Rattle.rb_rules.specs.Hearing.{window_numbered}
+use Rattle.rb_laws_agreement.proofs.Agreement.{ended-end}
 use Rattle.rb_laws_events.specs.Closing.{stages_in}
 use Rattle.rb_laws_events.proofs.CloseOrder.{IsFrameLater, IsWindowLater, frame-later, window-later}
 use Rattle.rb_laws_events.proofs.RoundNodes.{slot-is, slot_numbered}
@@ -121,9 +122,6 @@ next_of sc frame window =
 unfoldable pub SettlesNext : Scenario → Moment → Type 0
 SettlesNext sc m = m.book.ended ≡ false → m.book.upcoming ≡ next_of sc m.frame m.window
 
-not-both : {P : Type 0} → true ≡ false → P
-not-both e = absurd (cc)
-
 frame-next : (sc : Scenario) (frame : ℕ) (begun : List Begun) (b : Book) → (with_frame sc frame begun b).ended ≡ false → (with_frame sc frame begun b).upcoming ≡ next_of sc frame 0
 unfolding with_frame
 frame-next sc frame begun b = by b.ended refl
@@ -147,7 +145,7 @@ frame-next sc frame begun b = by b.ended refl
         ended = false;
       }
     ]).upcoming ≡ next_of sc frame 0
-    by true e h = not-both (sym e ∙ h)
+    by true e h = true-false (sym e ∙ h)
     by false e h =
         let z : slot_numbered sc.sizes 0 ≡ 0 = omega arith in
         let one : 0 % 3 + 1 ≡ 1 = omega arith in
@@ -197,7 +195,7 @@ stage-next sc frame n below not_last =
 judged-next : (sc : Scenario) (place : Place) (rows : Each (Option Row)) (stages : List JudgedStage) (b : Book) (v : Option Cause)
     → (after_verdict sc.sizes place rows stages b v).ended ≡ false → (after_verdict sc.sizes place rows stages b v).upcoming ≡ after_stage sc.sizes place
 judged-next sc place rows stages b None h = refl
-judged-next sc place rows stages b (Some cause) h = not-both h
+judged-next sc place rows stages b (Some cause) h = true-false h
 
 pub stage-book-next : (sc : Scenario) (place : Place) (rows : Each (Option Row)) (b : Book)
     → (with_stage sc place rows b).ended ≡ false → (with_stage sc place rows b).upcoming ≡ after_stage sc.sizes place
@@ -208,15 +206,8 @@ stage-book-next sc place rows b = by b.ended refl
         → (elim e as (λ _. Book) [ true ↦ b | false ↦ after_verdict sc.sizes place rows (judged_of sc place rows ∷ b.stages) b (verdict_of (judged_of sc place rows ∷ b.stages)) ]).ended ≡ false
         → (elim e as (λ _. Book) [ true ↦ b | false ↦ after_verdict sc.sizes place rows (judged_of sc place rows ∷ b.stages) b (verdict_of (judged_of sc place rows ∷ b.stages)) ]).upcoming
         ≡ after_stage sc.sizes place
-    by true e h = not-both (sym e ∙ h)
+    by true e h = true-false (sym e ∙ h)
     by false e h = judged-next sc place rows (judged_of sc place rows ∷ b.stages) b (verdict_of (judged_of sc place rows ∷ b.stages)) h
-
-pub end-ended : (b : Book) → (with_end b).ended ≡ true
-end-ended b = by b.ended refl
-  where
-    by : (e : Bool) → b.ended ≡ e → (elim e as (λ _. Book) [ true ↦ b | false ↦ record b { given = b.given ++ Ended ∷ []; ended = true } ]).ended ≡ true
-    by true e = e
-    by false e = refl
 
 window-next : (sc : Scenario) (m : Moment) (rows : Each (Option Row)) (o : Option Window) → slice_get (windows_of_frame sc.sizes sc.plan) m.window ≡ o
     → (m.frame == sc.frames) ≡ false → SettlesNext sc m → (book_after sc m.frame o rows m.book).ended ≡ false
@@ -254,7 +245,7 @@ window-next sc m rows (Some w) e not_last h going =
 stepped-next : (sc : Scenario) (hands : List HandIn) (m : Moment) (over in_frame : Bool) → (m.frame == sc.frames) ≡ over → nat_lt m.window (windows_in sc.sizes) ≡ in_frame
     → SettlesNext sc m → SettlesNext sc (stepped sc hands m over in_frame)
 unfolding SettlesNext after_window begin_frame
-stepped-next sc hands m true in_frame e f h going = not-both (sym (end-ended m.book) ∙ going)
+stepped-next sc hands m true in_frame e f h going = true-false (sym (ended-end m.book) ∙ going)
 stepped-next sc hands m false true e f h going = window-next sc m _ (slice_get (windows_of_frame sc.sizes sc.plan) m.window) refl e h going
 stepped-next sc hands m false false e f h going = frame-next sc (m.frame + 1) _ m.book going
 

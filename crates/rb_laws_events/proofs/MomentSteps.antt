@@ -11,10 +11,11 @@ use Rattle.rb_rules.specs.Ports.{HandIn}
 use Rattle.rb_rules.specs.Rounds.{Moment, moment, windows_in}
 use Rattle.rb_rules.specs.Slots.{count_of}
 use Rattle.rb_rules.proofs.RoundStates.{HasTicks}
+use Rattle.rb_laws_agreement.proofs.Goodnesses.{good_before, good_counts, good_earlier}
 use Rattle.rb_laws_events.specs.Closing.{stages_in}
 use Rattle.rb_laws_events.proofs.CloseOrder.{IsFrameLater, IsWindowLater, frame-later, window-later}
 use Rattle.rb_laws_events.proofs.Invariant.{is_good_at, next_stage}
-use Rattle.rb_laws_events.proofs.RoundNodes.{AllStand, good-counts, good-earlier, good-same, item-at, moments-stand, slot_numbered}
+use Rattle.rb_laws_events.proofs.RoundNodes.{AllStand, item-at, moments-stand, slot_numbered}
 
 -- Who is good.
 
@@ -32,12 +33,12 @@ good-before sc hands p me i good =
           let a : is_good sc me i m.frame (slot_numbered sc.sizes (m.window + 1)) ≡ true =
           ap (λ w. is_good sc me i m.frame (slot_numbered sc.sizes w)) (sym next.window)
           ∙ ap (λ f. is_good sc me i f (slot_numbered sc.sizes (moment sc hands (suc p)).window)) (sym next.frame) ∙ good in
-          good-same sc me i m.frame (slot_numbered sc.sizes m.window) (slot_numbered sc.sizes (m.window + 1)) (slots-rise sc.sizes m.window (m.window + 1) (omega arith)) a
+          good_earlier sc me i m.frame (slot_numbered sc.sizes m.window) (slot_numbered sc.sizes (m.window + 1)) (slots-rise sc.sizes m.window (m.window + 1) (omega arith)) a
       | inr ge ↦
           let next : IsFrameLater sc hands m (moment sc hands (suc p)) = frame-later sc hands m ge in
           let a : is_good sc me i (m.frame + 1) (slot_numbered sc.sizes (moment sc hands (suc p)).window) ≡ true =
           ap (λ f. is_good sc me i f (slot_numbered sc.sizes (moment sc hands (suc p)).window)) (sym next.frame) ∙ good in
-          good-earlier sc me i m.frame (m.frame + 1) (slot_numbered sc.sizes m.window) (slot_numbered sc.sizes (moment sc hands (suc p)).window) (omega arith) a
+          good_before sc me i m.frame (m.frame + 1) (slot_numbered sc.sizes m.window) (slot_numbered sc.sizes (moment sc hands (suc p)).window) (omega arith) a
     ]
 
 good-some-before : (sc : Scenario) (hands : List HandIn) (p n : ℕ) (me : Side) (i : ℕ) → is_good_at sc (moment sc hands (n + p)) me i ≡ true
@@ -61,7 +62,7 @@ good-state sc hands p me i ticks good =
     let m : Moment = moment sc hands p in
     let stand : AllStand sc m = moments-stand sc hands p ticks in
     let long : length (of_kind me m.nodes) ≡ count_of me sc.sizes = stand.counts me in
-    let counted : i < count_of me sc.sizes = good-counts sc me i m.frame (slot_numbered sc.sizes m.window) good in
+    let counted : i < count_of me sc.sizes = good_counts sc me i m.frame (slot_numbered sc.sizes m.window) good in
     item-at (of_kind me m.nodes) i (omega arith)
 
 -- The next stage.

@@ -7,7 +7,7 @@ use Rattle.rb_rules.specs.declared.message.Message.{Message}
 use Rattle.rb_rules.specs.declared.plan.Plan.{Plan}
 use Rattle.rb_rules.specs.declared.plan.Window.{Window}
 use Rattle.rb_rules.specs.declared.record.Epoch.{Epoch}
-use Rattle.rb_rules.specs.Core.{Core, Act, if_at, is_last, is_spent, is_tick, of_source, said_at, state_at, state_kept, tick, wants, window_here, act_at, act_on, epoch_at}
+use Rattle.rb_rules.specs.Core.{Core, Act, if_at, is_last, is_tick, of_source, said_at, state_at, state_kept, tick, wants, window_here, act_at, act_on, epoch_at}
 use Rattle.rb_rules.specs.ExactStage.{Outcome}
 use Rattle.rb_rules.specs.Goodness.{Scenario}
 use Rattle.rb_rules.specs.Hearing.{Sending, sending, window_numbered, word_for, close_window}
@@ -18,6 +18,7 @@ use Rattle.rb_rules.specs.Slots.{role_of}
 use Rattle.rb_rules.specs.SyncStage.{send_tick_of}
 use Rattle.rb_rules.specs.WorldStep.{word_of, wants_in}
 use Rattle.rb_rules.proofs.Lawfulness.{SendsInside}
+use Rattle.rb_rules.proofs.QuietTicks.{not-spent}
 use Rattle.rb_rules.proofs.RoundStates.{HasTicks}
 use Rattle.rb_laws_events.specs.Closing.{stages_in}
 use Rattle.rb_laws_events.proofs.NodeSends.{KeepsTime, sending_at, said-is, sent-in, keeps-none}
@@ -98,9 +99,6 @@ says-so sc ports me i st n word k room le keeps at same =
 
 -- Acts.
 
-not-spent : (c : Core) → c.had < 2 ^ 31 → is_spent c ≡ false
-not-spent c h = grind (arith, nat_tests)
-
 -- a tick in the state to which the core has come with it
 tick-by : (sizes : Sizes) (plan : Plan) (me : Side) (i : ℕ) (c : Core) (y : NodeState) (given : ℕ) → c.had < 2 ^ 31 → state_at sizes plan me c.state c.had ≡ y
     → tick sizes plan me i c given
@@ -117,7 +115,7 @@ open_act st k c epoch message = record { core = record { state = st; had = k + 1
 abbrev pub close_act_of : Outcome → ℕ → Option Epoch → Option Message → Act
 close_act_of x k epoch message = record { core = record { state = x.state; had = k + 1; inbox = [] }; epoch = epoch; message = message; closed = Some x.closed }
 
-act-message : (sizes : Sizes) (plan : Plan) (me : Side) (i : ℕ) (c : Core) (y : NodeState) (m : Option Message) (kept : NodeState)
+pub act-message : (sizes : Sizes) (plan : Plan) (me : Side) (i : ℕ) (c : Core) (y : NodeState) (m : Option Message) (kept : NodeState)
     → (act_on sizes plan me i c y m kept).message ≡ m
 unfolding act_on
 act-message sizes plan me i c y m kept = by (is_last sizes plan me y c.had)

@@ -1,9 +1,10 @@
 -- For the law that events are rounds: the last tick of a window at its node.
-use Rattle.std.proofs.Common.{◌≡◌, ℕ, suc, ◌+◌, ◌*◌, ◌-◌, ◌^◌, ◌<◌, ◌≤◌, ◌==◌, ◌⊎◌, nat_le, nat_lt, if◌then◌else◌, Bool, true, false, List, [], ◌++◌, refl, ap, sym, ◌∙◌, subst, arith, inl, inr, Option, Some, None, slice_get, unwrap_or}
-use Rattle.std.proofs.lemmas.Bool.{cases_lt}
+use Rattle.std.proofs.Common.{◌≡◌, ℕ, suc, ◌+◌, ◌*◌, ◌-◌, ◌^◌, ◌<◌, ◌≤◌, ◌==◌, ◌⊎◌, nat_lt, if◌then◌else◌, Bool, true, false, List, [], ◌++◌, refl, ap, sym, ◌∙◌, subst, arith, inl, inr, Option, Some, None, slice_get, unwrap_or}
+use Rattle.std.proofs.lemmas.Bool.{cases_lt, le-leb, true≢false}
 use Rattle.std.proofs.lemmas.Bool.Decides.{nat_tests}
 use Rattle.rb_base.specs.Nodes.{Side, other}
 use Rattle.rb_base.specs.Sizes.{Sizes, sync_slot_of}
+use Rattle.rb_base.proofs.Plain.{some-from}
 use Rattle.rb_rules.specs.declared.closing.Closed.{Closed as Shown}
 use Rattle.rb_rules.specs.declared.plan.Plan.{Plan}
 use Rattle.rb_rules.specs.declared.plan.Window.{Window}
@@ -34,14 +35,14 @@ use Rattle.rb_laws_events.proofs.NodeActs.{ActsClose, HasRoom, HasWord, IsInWind
 use Rattle.rb_laws_events.proofs.NodeCloses.{after-close, all-here, good-span, heard-all, opens-stage, opens-tail, site_closed, span-begins, stage-lists}
 use Rattle.rb_laws_events.proofs.NodeEvents.{begun_after}
 use Rattle.rb_laws_events.proofs.NodeGoesOn.{Entered, enters, none-in-tail, tail-close}
-use Rattle.rb_laws_events.proofs.NodeMoves.{Closed, NextPlace, after-tail, epoch-known, get-later, inner, last-stage, state_after, the-some}
+use Rattle.rb_laws_events.proofs.NodeMoves.{Closed, NextPlace, after-tail, epoch-known, get-later, inner, last-stage, state_after}
 use Rattle.rb_laws_events.proofs.NodeSends.{KeepsTime, sending_at}
 use Rattle.rb_laws_events.proofs.NodeTicks.{Like, gone, like-kept, tail-last}
 use Rattle.rb_laws_events.proofs.PendingLists.{Hears}
-use Rattle.rb_laws_events.proofs.Receiving.{Receives, every-so}
+use Rattle.rb_laws_events.proofs.Receiving.{Receives}
 use Rattle.rb_laws_events.proofs.RoundNodes.{slot-is, slot_numbered}
 use Rattle.rb_laws_events.proofs.SameHeard.{AllOf, Every}
-use Rattle.rb_laws_events.proofs.SayLists.{ComesIn, said_if, say-more, says-come-in, says-now}
+use Rattle.rb_laws_events.proofs.SayLists.{ComesIn, every-to, said_if, say-more, says-come-in, says-now}
 use Rattle.rb_laws_events.proofs.StageOrder.{last_of}
 use Rattle.rb_laws_events.proofs.TickWindows.{first_of, here-is}
 
@@ -159,7 +160,7 @@ next-place sc hands me i p st room keeps h same =
         | inl below ↦ last-stage sc hands me i p st room.ticks h (omega arith) (good-in-sync sc hands me i p below (omega arith) h.good)
         | inr over ↦
             let is : m.window ≡ stages_in sc.sizes = omega arith in
-            let known = the-some (new_epoch_of sc.plan me st) (epoch-known sc.sizes sc.plan me st m.window (omega arith) h.knows) in
+            let known = some-from (new_epoch_of sc.plan me st) (epoch-known sc.sizes sc.plan me st m.window (omega arith) h.knows) in
             let x : ℕ = known.0 in
             let low = keeps.next x known.1 in
             let some : 1 ≤ sc.plan.l = room.ticks.l in
@@ -170,12 +171,6 @@ next-place sc hands me i p st room keeps h same =
     ]
 
 -- The last tick.
-
-le-true : (a b : ℕ) → a ≤ b → nat_le a b ≡ true
-le-true a b h = grind (arith, nat_tests)
-
-true-false : true ≡ false → ⊥
-true-false e = cc
 
 in-time-there : (sc : Scenario) (hands : List HandIn) (p q : ℕ)
     → ((q ≡ next_stage sc.sizes (moment sc hands p) p) ⊎ ((q ≡ suc p) × ((moment sc hands q).window ≡ stages_in sc.sizes)))
@@ -231,11 +226,11 @@ opened-lists sc hands sent me i p q st t got coming heard lawful lengths frame (
     subst (λ q. Hears j t got coming (heard j) (ahead_so_far sc (moment sc hands q) me i (λ j. sent (other me) j q) j)) (sym stage) (hears j) in
     let in_time : Every (λ c. c.time ≤ u) (ahead_so_far sc m2 me i (λ j. sent (other me) j q) j) =
     ahead-every (λ c. c.time ≤ u) sc m2 me i j (λ j. sent (other me) j q)
-    (λ g. every-so (ComesInWindow sc m2 me i st) (λ c. c.time ≤ u) (λ c h. h.1) (entry_of sc m2 me i j) ((times.stage q stage).heard me i j st there good g)) in
+    (λ g. every-to (ComesInWindow sc m2 me i st) (λ c. c.time ≤ u) (λ c h. h.1) (entry_of sc m2 me i j) ((times.stage q stage).heard me i j st there good g)) in
     let opened : Hears j u [] coming (ahead_so_far sc m2 me i (λ j. sent (other me) j q) j) [] = opens-stage j t u got coming (heard j) _ after in_time was in
     let lists = stage-lists sc m2 me i j st (λ j. sent (other me) j q) frame in
     let says_times : Every (λ c. c.time ≤ u) (says_in sc me i span) =
-    every-so (ComesIn (clock_of sc me i) span) (λ c. c.time ≤ u) (λ c h. h.1) (says_in sc me i span) (says-come-in sc lawful me i span lengths) in
+    every-to (ComesIn (clock_of sc me i) span) (λ c. c.time ≤ u) (λ c h. h.1) (says_in sc me i span) (says-come-in sc lawful me i span lengths) in
     let more : Hears j u [] (coming ++ says_in sc me i span) (ahead_so_far sc m2 me i (λ j. sent (other me) j q) j ++ said_if sc me i span j) [] =
     say-more j u coming (says_in sc me i span) (said_if sc me i span j) (ahead_so_far sc m2 me i (λ j. sent (other me) j q) j) []
     (says-now sc lawful me i span lengths j) says_times lists.1 opened in
@@ -268,7 +263,7 @@ opened-lists sc hands sent me i p q st t got coming heard lawful lengths frame (
     let none : ahead_so_far sc m2 me i (λ j. sent (other me) j q) j ≡ [] = ahead-tail sc m2 me i j (λ j. sent (other me) j q) tail.1 in
     let all : [] ++ said_if sc me i span j ≡ heard_so_far sc m2 me i span (λ j. sent (other me) j q) j = ap (λ l. l ++ said_if sc me i span j) (sym none) ∙ lists.0 in
     let says_times : Every (λ c. c.time ≤ u) (says_in sc me i span) =
-    every-so (ComesIn (clock_of sc me i) span) (λ c. c.time ≤ u) (λ c h. h.1) (says_in sc me i span) (says-come-in sc lawful me i span lengths) in
+    every-to (ComesIn (clock_of sc me i) span) (λ c. c.time ≤ u) (λ c h. h.1) (says_in sc me i span) (says-come-in sc lawful me i span lengths) in
     subst (λ l. Hears j u [] (coming ++ says_in sc me i span) l (ahead_so_far sc (moment sc hands z) me i (λ j. sent (other me) j z) j)) all
     (say-more j u coming (says_in sc me i span) (said_if sc me i span j) [] (ahead_so_far sc (moment sc hands z) me i (λ j. sent (other me) j z) j)
     (says-now sc lawful me i span lengths j) says_times (inr refl) opened)
@@ -304,7 +299,7 @@ closes-window sc hands sent now ports me i p s st a lawful room known times othe
     let some : first_of sc.sizes sc.plan me st n ≤ last_of sc.sizes sc.plan me st n = omega arith in
     let holds : HoldsHeard sc m (sent_in sc m) me i st w s.core.inbox s.got = record {
       good = ap (is_good sc me i m.frame) (slot-is sc.sizes sc.plan me st n) ∙ h.good;
-      some_tick = le-true w.first w.last some;
+      some_tick = le-leb w.first w.last some;
       stamped = r.inbox;
       all = λ j. subst (AllOf (coming_from s.got j)) (heard-all sc m me i j st (λ j. sent (other me) j p) known.frame (others.all_sent j))
           (all-here j t s.got s.coming (heard j) (ahead j) after (r.hears j));
@@ -371,8 +366,8 @@ closes-window sc hands sent now ports me i p s st a lawful room known times othe
       empty = refl;
       inbox = ap (λ (c : Core). c.inbox) acts.core;
       known = r.known;
-      later = every-so (λ c. a.time < c.time) (λ c. a.time ≤ c.time) (λ c lt. omega arith) s.coming later;
-      behind = every-so (λ c. a.time < c.time) (λ c. (j : ℕ) → a.tick + 1 ≡ suc j → time_of clock j < c.time)
+      later = every-to (λ c. a.time < c.time) (λ c. a.time ≤ c.time) (λ c lt. omega arith) s.coming later;
+      behind = every-to (λ c. a.time < c.time) (λ c. (j : ℕ) → a.tick + 1 ≡ suc j → time_of clock j < c.time)
           (λ c lt j e. let same : j ≡ a.tick = omega arith in subst (λ j. time_of clock j < c.time) (sym same) (omega (arith, lt, at_time))) s.coming later;
       soon = omega (arith, at_time, up);
       before = λ j e. let same : j ≡ a.tick = omega arith in subst (λ j. time_of clock j ≡ a.time) (sym same) (sym at_time);
@@ -412,7 +407,7 @@ closes-window sc hands sent now ports me i p s st a lawful room known times othe
               ahead = ap (λ (z : Site). z.ahead) (site false e);
               coming = ap (λ (z : Site). z.coming) (site false e);
             });
-            runs = λ g. absurd (true-false (sym g ∙ e));
+            runs = λ g. absurd (true≢false (sym g ∙ e));
             row = ap (λ (z : Site). z.row) (site false e) ∙ kept_row;
             begun = ap (λ (z : Site). z.begun) (site false e);
             told = (outcome.closed, (acts.closed, sym told));

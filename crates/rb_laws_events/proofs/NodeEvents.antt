@@ -24,8 +24,9 @@ use Rattle.rb_laws_events.proofs.NodeActs.{ActsOpen, HasRoom, HasWord, IsInWindo
 use Rattle.rb_laws_events.proofs.NodeNext.{NextIn, next-found, next-in}
 use Rattle.rb_laws_events.proofs.NodeSends.{sending_at}
 use Rattle.rb_laws_events.proofs.NodeTicks.{Like, gone, like-in, like-keeps, like-tick, no-turn, state_in}
-use Rattle.rb_laws_events.proofs.Receiving.{ArrivesNow, Receives, arrival-received, every-so}
+use Rattle.rb_laws_events.proofs.Receiving.{ArrivesNow, Receives, arrival-received}
 use Rattle.rb_laws_events.proofs.SameHeard.{Every}
+use Rattle.rb_laws_events.proofs.SayLists.{every-to}
 use Rattle.rb_laws_events.proofs.TickWindows.{IsTickIn, first_of, here-is}
 
 -- An event elsewhere.
@@ -218,10 +219,10 @@ stays-open sc hands sent now ports me i p s st a room below words later before h
           at_time = refl;
           is_next = next.1.1;
           in_window = lands.in_window.to;
-          behind = every-so (λ c. a.time < c.time) (λ c. (j : ℕ) → x.core.had ≡ suc j → time_of (clock_of sc me i) j < c.time)
+          behind = every-to (λ c. a.time < c.time) (λ c. (j : ℕ) → x.core.had ≡ suc j → time_of (clock_of sc me i) j < c.time)
               (λ c lt j e. let same : j ≡ a.tick = omega arith in subst (λ j. time_of (clock_of sc me i) j < c.time) (sym same) (omega (arith, lt, at_time))) s.coming later;
           passed = λ j e. let same : j ≡ a.tick = omega arith in subst (λ j. time_of (clock_of sc me i) j ≤ a.time) (sym same) (omega (arith, at_time));
-          coming_after = every-so (λ c. a.time < c.time) (λ c. a.time ≤ c.time) (λ c lt. omega arith) s.coming later;
+          coming_after = every-to (λ c. a.time < c.time) (λ c. a.time ≤ c.time) (λ c lt. omega arith) s.coming later;
           tick_after = omega (arith, at_time, up);
         };
       });

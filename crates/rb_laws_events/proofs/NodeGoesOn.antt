@@ -31,11 +31,10 @@ use Rattle.rb_laws_events.proofs.NodeActs.{HasRoom, IsInWindow}
 use Rattle.rb_laws_events.proofs.NodeNext.{NextIn, next-found, next-in}
 use Rattle.rb_laws_events.proofs.NodeSends.{KeepsTime, sending_at, sent-in, unsent}
 use Rattle.rb_laws_events.proofs.NodeTicks.{by_said, gone, kept_in}
-use Rattle.rb_laws_events.proofs.PendingLists.{Hears}
-use Rattle.rb_laws_events.proofs.Receiving.{every-so}
+use Rattle.rb_laws_events.proofs.PendingLists.{Hears, each-append}
 use Rattle.rb_laws_events.proofs.RoundNodes.{slot-is}
 use Rattle.rb_laws_events.proofs.SameHeard.{Every, kept_as}
-use Rattle.rb_laws_events.proofs.SayLists.{ComesIn, says-come-in}
+use Rattle.rb_laws_events.proofs.SayLists.{ComesIn, every-to, says-come-in}
 use Rattle.rb_laws_events.proofs.StageOrder.{last_of}
 use Rattle.rb_laws_events.proofs.TickWindows.{IsTickIn, first_of}
 use Rattle.rb_laws_events.proofs.WorldNodes.{Known, known-append, says-known}
@@ -97,10 +96,6 @@ none-in-tail sc m me i j w =
     ap (λ o. option_to_list (option_map (coming_of sc me i j m.frame) o)) (unsent-of sc m (other me) j (slice_get (of_kind (other me) m.nodes) j) refl w)
 
 -- The node in the new window.
-
-every-join : (P : Coming → Type 0) (xs ys : List Coming) → Every P xs → Every P ys → Every P (xs ++ ys)
-every-join P [] ys a b = b
-every-join P (x ∷ xs) ys a b = (a.0, every-join P xs ys a.1 b)
 
 -- no message of the window has gone out before its first tick
 pub none-gone : (sizes : Sizes) (plan : Plan) (me : Side) (i : ℕ) (st : NodeState) (n word k : ℕ) → HasRoom plan → KeepsTime sizes plan me st
@@ -200,12 +195,12 @@ enters sc hands sent t me i q k st s lawful room lengths keeps below e =
           at_time = refl;
           is_next = next.1.1;
           in_window = lands.in_window.to;
-          behind = every-join (λ c. (j : ℕ) → s.core.had ≡ suc j → time_of clock j < c.time) s.coming says
-              (every-so (λ c. (j : ℕ) → k ≡ suc j → time_of clock j < c.time) (λ c. (j : ℕ) → s.core.had ≡ suc j → time_of clock j < c.time) (λ c f j g. f j (sym had ∙ g)) s.coming e.behind)
-              (every-so (ComesIn clock span) (λ c. (j : ℕ) → s.core.had ≡ suc j → time_of clock j < c.time) (λ c f j g. f.0 j (sym first ∙ sym had ∙ g)) says in_span);
+          behind = each-append (λ c. (j : ℕ) → s.core.had ≡ suc j → time_of clock j < c.time) s.coming says
+              (every-to (λ c. (j : ℕ) → k ≡ suc j → time_of clock j < c.time) (λ c. (j : ℕ) → s.core.had ≡ suc j → time_of clock j < c.time) (λ c f j g. f j (sym had ∙ g)) s.coming e.behind)
+              (every-to (ComesIn clock span) (λ c. (j : ℕ) → s.core.had ≡ suc j → time_of clock j < c.time) (λ c f j g. f.0 j (sym first ∙ sym had ∙ g)) says in_span);
           passed = λ j g. let same : time_of clock j ≡ t = e.before j (sym had ∙ g) in omega arith;
-          coming_after = every-join (λ c. t ≤ c.time) s.coming says e.later
-              (every-so (ComesIn clock span) (λ c. t ≤ c.time) (λ c f. from-first k c t refl (λ j g. f.0 j (sym first ∙ g)) e.before e.at_first) says in_span);
+          coming_after = each-append (λ c. t ≤ c.time) s.coming says e.later
+              (every-to (ComesIn clock span) (λ c. t ≤ c.time) (λ c f. from-first k c t refl (λ j g. f.0 j (sym first ∙ g)) e.before e.at_first) says in_span);
           tick_after = omega arith;
         };
       });

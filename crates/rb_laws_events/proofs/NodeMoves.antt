@@ -1,11 +1,13 @@
 -- For the law that events are rounds: where a node stands after it has closed a window: in the next one, or
 -- past an empty tail and the turn in the first one of the next frame.
 use Rattle.std.proofs.Common.{◌≡◌, ℕ, suc, ◌+◌, ◌*◌, ◌-◌, ◌<◌, ◌≤◌, ◌==◌, ◌&&◌, nat_le, nat_lt, Bool, true, false, refl, ap, sym, ◌∙◌, subst, arith, inl, inr, ◌⊎◌, List, Option, Some, None, is_some, slice_get, option_map, unwrap_or, if◌then◌else◌}
-use Rattle.std.proofs.lemmas.Bool.{cases_lt, lt-ltb, le-ltb}
+use Rattle.std.proofs.lemmas.Bool.{cases_lt, le-ltb, lt-leb, lt-ltb}
 use Rattle.std.proofs.lemmas.Bool.Decides.{nat_tests}
+use Rattle.std.proofs.lemmas.Option.{same_Some}
 use Rattle.rb_base.specs.Nodes.{Side}
 use Rattle.rb_base.specs.Nodes.Side.{Biu, Rmu}
 use Rattle.rb_base.specs.Sizes.{Sizes, sync_slot_of}
+use Rattle.rb_base.proofs.Plain.{is_some-map, none-from, some-from}
 use Rattle.rb_rules.specs.declared.plan.Plan.{Plan}
 use Rattle.rb_rules.specs.declared.plan.Window.{Window}
 use Rattle.rb_rules.specs.Book.{of_kind}
@@ -32,9 +34,6 @@ use Rattle.rb_laws_events.proofs.StageOrder.{last_of}
 use Rattle.rb_laws_events.proofs.TickWindows.{IsTickIn, Tiles, first_of, first-same, get-window, tiles}
 
 -- One step of a node.
-
-pub some-same : {X : Type 0} (a b : X) → Some a ≡ Some b → a ≡ b
-some-same a b e = cc
 
 -- what the rounds make of a node in a moment's window
 abbrev pub state_after : Scenario → Moment → Side → ℕ → NodeState → NodeState
@@ -95,36 +94,20 @@ next-of-outer sizes m p q h e =
     e ∙ ap (λ b. p + (if b then 1 else windows_in sizes + 1 - m.window)) (sym t)
 
 -- the node knows its next epoch once all stages are closed
-lt-known : (a b : ℕ) → a < b → nat_lt a b ≡ true
-lt-known a b h = grind (arith, nat_tests)
-
-map-some : (f : ℕ → ℕ) (o : Option ℕ) → is_some (option_map f o) ≡ is_some o
-map-some f None = refl
-map-some f (Some x) = refl
 
 pub epoch-known : (sizes : Sizes) (plan : Plan) (me : Side) (st : NodeState) (n : ℕ) → stages_in sizes ≤ n → Knows sizes me n st → is_some (new_epoch_of plan me st) ≡ true
 epoch-known sizes plan Biu st n h k =
-    map-some (λ k2. k2 + plan.v + plan.z + plan.c) st.k2 ∙ k.k2 ∙ lt-known (3 * sync_slot_of sizes + 2 - 1) n (omega arith)
+    is_some-map (λ k2. k2 + plan.v + plan.z + plan.c) st.k2 ∙ k.k2 ∙ lt-ltb (3 * sync_slot_of sizes + 2 - 1) n (omega arith)
 epoch-known sizes plan Rmu st n h k =
-    map-some (λ k3. k3 + plan.z) st.k3 ∙ k.k3 ∙ lt-known (3 * sync_slot_of sizes + 3 - 1) n (omega arith)
-
-pub the-some : (o : Option ℕ) → is_some o ≡ true → (x : ℕ) × (o ≡ Some x)
-the-some None h = cc
-the-some (Some x) h = (x, refl)
+    is_some-map (λ k3. k3 + plan.z) st.k3 ∙ k.k3 ∙ lt-ltb (3 * sync_slot_of sizes + 3 - 1) n (omega arith)
 
 -- and none before the sync slot
-lt-unknown : (a b : ℕ) → b ≤ a → nat_lt a b ≡ false
-lt-unknown a b h = grind (arith, nat_tests)
-
-the-none : (o : Option ℕ) → is_some o ≡ false → o ≡ None
-the-none None h = refl
-the-none (Some x) h = cc
 
 epoch-unknown : (sizes : Sizes) (plan : Plan) (me : Side) (st : NodeState) (n : ℕ) → n ≤ 3 * sync_slot_of sizes → Knows sizes me n st → new_epoch_of plan me st ≡ None
 epoch-unknown sizes plan Biu st n h k =
-    ap (option_map (λ k2. k2 + plan.v + plan.z + plan.c)) (the-none st.k2 (k.k2 ∙ lt-unknown (3 * sync_slot_of sizes + 2 - 1) n (omega arith)))
+    ap (option_map (λ k2. k2 + plan.v + plan.z + plan.c)) (none-from st.k2 (k.k2 ∙ le-ltb (3 * sync_slot_of sizes + 2 - 1) n (omega arith)))
 epoch-unknown sizes plan Rmu st n h k =
-    ap (option_map (λ k3. k3 + plan.z)) (the-none st.k3 (k.k3 ∙ lt-unknown (3 * sync_slot_of sizes + 3 - 1) n (omega arith)))
+    ap (option_map (λ k3. k3 + plan.z)) (none-from st.k3 (k.k3 ∙ le-ltb (3 * sync_slot_of sizes + 3 - 1) n (omega arith)))
 
 pub turn-at : (sizes : Sizes) (plan : Plan) (me : Side) (st : NodeState) (x : ℕ) → new_epoch_of plan me st ≡ Some x
     → (state_at sizes plan me st x ≡ turn_if_known sizes plan me st) × (((turn_if_known sizes plan me st).epoch ≡ x) × ((turn_if_known sizes plan me st).frame ≡ st.frame + 1))
@@ -172,7 +155,7 @@ first-alike sizes plan me a b n ticks h =
   where
     same-window : (sizes : Sizes) (plan : Plan) (me : Side) (a b : NodeState) (n : ℕ) → n < stages_in sizes → window_numbered sizes plan me b n ≡ window_numbered sizes plan me a n
     same-window sizes plan me a b n h =
-        some-same (window_numbered sizes plan me b n) (window_numbered sizes plan me a n)
+        same_Some (window_numbered sizes plan me b n) (window_numbered sizes plan me a n)
         (sym (get-window sizes plan me b n h) ∙ get-window sizes plan me a n h)
 
 -- the next stage of the frame
@@ -235,9 +218,6 @@ turned-place sc hands me i p e k x c ticks over there frame known is place =
       some = subst (λ j. first_of sc.sizes sc.plan me y j ≤ last_of sc.sizes sc.plan me y j) w t.some;
     }
 
-le-false : (a b : ℕ) → b < a → nat_le a b ≡ false
-le-false a b h = grind (arith, nat_tests)
-
 -- after the last stage the tail, or if that is empty the next frame
 pub last-stage : (sc : Scenario) (hands : List HandIn) (me : Side) (i p : ℕ) (st : NodeState) → HasTicks sc.plan → Closed sc hands me i p st
     → (moment sc hands p).window + 1 ≡ stages_in sc.sizes → is_good_at sc (moment sc hands (suc p)) me i ≡ true
@@ -257,7 +237,7 @@ last-stage sc hands me i p st ticks h at_last good =
     let first : first_of sc.sizes sc.plan me c (stages_in sc.sizes) ≡ last_of sc.sizes sc.plan me st m.window + 1 =
     ap (first_of sc.sizes sc.plan me c) (sym at_last) ∙ begins in
     let start : first_of sc.sizes sc.plan me c (stages_in sc.sizes) ≡ tail_start_of sc.sizes sc.plan = tail-first sc.sizes sc.plan me c in
-    let known = the-some (new_epoch_of sc.plan me c) (epoch-known sc.sizes sc.plan me c (m.window + 1) (omega arith) (after-knows sc hands me i p st ticks h)) in
+    let known = some-from (new_epoch_of sc.plan me c) (epoch-known sc.sizes sc.plan me c (m.window + 1) (omega arith) (after-knows sc hands me i p st ticks h)) in
     let x : ℕ = known.0 in
     let low : c.epoch + tail_start_of sc.sizes sc.plan ≤ x = (h.keeps (omega arith) good).next x known.1 in
     let last : last_of sc.sizes sc.plan me c (stages_in sc.sizes) ≡ x - c.epoch - 1 =
@@ -285,7 +265,7 @@ last-stage sc hands me i p st ticks h at_last good =
           let end_of : IsWindowLater sc tail (moment sc hands (suc (suc p))) = window-later sc hands tail (omega arith) in
           let tail_first : (window_in sc tail me c).first ≡ first_of sc.sizes sc.plan me c (stages_in sc.sizes) = ap (first_of sc.sizes sc.plan me c) (sym w) in
           let tail_last : (window_in sc tail me c).last ≡ last_of sc.sizes sc.plan me c (stages_in sc.sizes) = ap (last_of sc.sizes sc.plan me c) (sym w) in
-          let empty : nat_le (window_in sc tail me c).first (window_in sc tail me c).last ≡ false = le-false _ _ (omega arith) in
+          let empty : nat_le (window_in sc tail me c).first (window_in sc tail me c).last ≡ false = lt-leb _ _ (omega arith) in
           let same : state_after sc tail me i c ≡ c = passed-over sc tail (sent_in sc tail) me i c (window_in sc tail me c) empty in
           let at_end : slice_get (of_kind me (moment sc hands (suc (suc p))).nodes) i ≡ Some c =
           get-later sc hands (suc p) me i c (omega arith) there ∙ ap Some same in

@@ -1,10 +1,11 @@
 -- For the law that events are rounds: the next busy tick of a node in a window lies in it, and no message
 -- goes out before.
-use Rattle.std.proofs.Common.{◌≡◌, ℕ, zero, suc, ◌+◌, ◌-◌, ◌^◌, ◌<◌, ◌≤◌, ◌==◌, ◌||◌, nat_lt, Bool, true, false, refl, ap, sym, ◌∙◌, subst, arith, inl, inr, Option, Some, None, is_some}
-use Rattle.std.proofs.lemmas.Bool.{cases_lt}
+use Rattle.std.proofs.Common.{◌≡◌, ℕ, zero, suc, ◌+◌, ◌-◌, ◌^◌, ◌<◌, ◌≤◌, ◌==◌, ◌||◌, Bool, true, false, refl, ap, sym, ◌∙◌, subst, arith, inl, inr, Option, Some, None, is_some}
+use Rattle.std.proofs.lemmas.Bool.{cases_lt, le-ltb, lt-ltb, true≢false}
 use Rattle.std.proofs.lemmas.Bool.Decides.{nat_tests}
 use Rattle.rb_base.specs.Nodes.{Side}
 use Rattle.rb_base.specs.Sizes.{Sizes}
+use Rattle.rb_base.proofs.Plain.{or_middle}
 use Rattle.rb_rules.specs.declared.message.Message.{Message}
 use Rattle.rb_rules.specs.declared.plan.Plan.{Plan}
 use Rattle.rb_rules.specs.declared.plan.Window.{Window}
@@ -28,11 +29,6 @@ pub record NextIn (sizes : Sizes) (plan : Plan) (me : Side) (i : ℕ) (st : Node
   pub now : state_at sizes plan me c k ≡ state_in sizes plan me i st n word k
   pub silent : gone (sending_at sizes plan me i st n word) had ≡ gone (sending_at sizes plan me i st n word) k
 
-or-second : (a b c : Bool) → b ≡ true → (a || b || c) ≡ true
-or-second true b c h = refl
-or-second false true c h = refl
-or-second false false c h = cc
-
 -- the last tick of a window is busy
 last-busy : (sizes : Sizes) (plan : Plan) (me : Side) (i : ℕ) (y : NodeState) (n : ℕ) → HasRoom plan → KeepsTime sizes plan me y → n ≤ stages_in sizes
     → IsTickIn sizes plan me y n (y.epoch + last_of sizes plan me y n) → is_busy sizes plan me i y (y.epoch + last_of sizes plan me y n) ≡ true
@@ -42,7 +38,7 @@ last-busy sizes plan me i y n room keeps le at =
     let now : state_at sizes plan me y k ≡ y = no-turn sizes plan me y n k room.ticks keeps le at in
     let last : is_last sizes plan me y k ≡ true = last-is sizes plan me y n k room.ticks le at ∙ same k in
     subst (λ z. ((z.epoch == k) || is_last sizes plan me z k || is_some (said_at sizes plan me i z 0 k)) ≡ true) (sym now)
-    (or-second (y.epoch == k) (is_last sizes plan me y k) (is_some (said_at sizes plan me i y 0 k)) last)
+    (or_middle (y.epoch == k) (is_last sizes plan me y k) (is_some (said_at sizes plan me i y 0 k)) last)
   where
     same : (k : ℕ) → (k == k) ≡ true
     same k = grind (arith, nat_tests)
@@ -114,18 +110,9 @@ within sizes plan me i st y n had k room le keeps at like next =
       | inl lt ↦
           let busy : is_busy sizes plan me i y last ≡ true = last-busy sizes plan me i y n room (like-keeps sizes plan me i st y like keeps) le end.0 in
           let quiet : is_busy sizes plan me i y last ≡ false = next.quiet_before last (omega arith) lt in
-          absurd (true-false (sym busy ∙ quiet))
+          absurd (true≢false (sym busy ∙ quiet))
       | inr ge ↦ omega arith
     ]
-  where
-    true-false : true ≡ false → ⊥
-    true-false e = cc
-
-lt-is : (a b : ℕ) → a < b → nat_lt a b ≡ true
-lt-is a b h = grind (arith, nat_tests)
-
-lt-not : (a b : ℕ) → b ≤ a → nat_lt a b ≡ false
-lt-not a b h = grind (arith, nat_tests)
 
 -- and up to it nothing is said
 unchanged : (sizes : Sizes) (plan : Plan) (me : Side) (i : ℕ) (st y : NodeState) (n word had k : ℕ) → HasRoom plan → n ≤ stages_in sizes
@@ -135,13 +122,13 @@ unchanged sizes plan me i st y n word had k room le keeps at to like next None e
 unchanged sizes plan me i st y n word had k room le keeps at to like next (Some s) e =
     let later : had ≤ k = next.later in
     elim (cases_lt s.tick had) [
-      | inl lt ↦ lt-is s.tick had lt ∙ sym (lt-is s.tick k (omega arith))
+      | inl lt ↦ lt-ltb s.tick had lt ∙ sym (lt-ltb s.tick k (omega arith))
       | inr ge ↦ elim (cases_lt s.tick k) [
         | inl before ↦
             let from : st.epoch + first_of sizes plan me st n ≤ had = at.from in
             let here : IsTickIn sizes plan me st n s.tick = record { from = omega arith; to = omega arith } in
             absurd (unsaid sizes plan me i st y n word s room le keeps here like e (next.quiet_before s.tick ge before))
-        | inr after ↦ lt-not s.tick had ge ∙ sym (lt-not s.tick k after)
+        | inr after ↦ le-ltb s.tick had ge ∙ sym (le-ltb s.tick k after)
       ]
     ]
 
@@ -174,9 +161,6 @@ next-in sizes plan me i st n word had k c room stands next =
 
 -- There is a next busy tick.
 
-true-false : true ≡ false → ⊥
-true-false e = cc
-
 found : (sizes : Sizes) (plan : Plan) (me : Side) (i : ℕ) (c : NodeState) (others had m : ℕ) → had ≤ m → m < had + others
     → is_busy sizes plan me i c m ≡ true → (k : ℕ) × (busy_among sizes plan me i c others had ≡ Some k)
 found sizes plan me i c zero had m lo hi busy = absurd (omega arith)
@@ -189,7 +173,7 @@ found sizes plan me i c (suc others) had m lo hi busy = by (λ le. found sizes p
       | inl lt ↦ rest (omega arith)
       | inr ge ↦
           let same : m ≡ had = omega arith in
-          absurd (true-false (sym busy ∙ ap (is_busy sizes plan me i c) same ∙ e))
+          absurd (true≢false (sym busy ∙ ap (is_busy sizes plan me i c) same ∙ e))
     ]
 
 pub next-found : (sizes : Sizes) (plan : Plan) (me : Side) (i : ℕ) (st : NodeState) (n word : ℕ) (c : Core) → HasRoom plan

@@ -1,29 +1,29 @@
 -- For the law that events are rounds: at each tick of a window the core says what the rounds send in this
 -- window, if that is its tick.
-use Rattle.std.proofs.Common.{◌≡◌, ℕ, zero, suc, ◌+◌, ◌*◌, ◌-◌, ◌/◌, ◌%◌, ◌<◌, ◌≤◌, ◌==◌, ◌&&◌, ◌⊎◌, nat_lt, Bool, true, false, refl, ap, sym, ◌∙◌, subst, arith, inl, inr, Option, Some, None, is_some, option_and_then, option_map, if◌then◌else◌}
+use Rattle.std.proofs.Common.{◌≡◌, ℕ, zero, suc, ◌+◌, ◌*◌, ◌-◌, ◌/◌, ◌%◌, ◌<◌, ◌≤◌, ◌==◌, ◌⊎◌, true, false, refl, ap, sym, ◌∙◌, subst, arith, inl, inr, Option, Some, None, option_and_then, option_map, if◌then◌else◌}
 use Rattle.std.proofs.lemmas.Bool.{cases_lt}
-use Rattle.std.proofs.lemmas.Bool.Decides.{nat_tests}
+use Rattle.std.proofs.lemmas.Option.{same_Some}
 use Rattle.std.specs.Option.{option_or}
 use Rattle.rb_base.specs.Nodes.{Side, other}
 use Rattle.rb_base.specs.Nodes.Side.{Biu, Rmu}
 use Rattle.rb_base.specs.Sizes.{Sizes, sync_slot_of}
 use Rattle.rb_rules.specs.declared.message.Message.{Message}
 use Rattle.rb_base.specs.declared.values.Heard.{Heard}
+use Rattle.rb_base.proofs.Plain.{eq_self, less-differs, more-differs, option_map-back}
 use Rattle.rb_rules.specs.declared.plan.Plan.{Plan}
 use Rattle.rb_rules.specs.declared.plan.Window.{Window}
-use Rattle.rb_rules.specs.declared.role.Role.{Role}
-use Rattle.rb_rules.specs.declared.role.Role.TheVariants.{Schedule, Data, DiagBiu, DiagRmu, Sync}
 use Rattle.rb_rules.specs.Core.{if_at, said_at, window_here}
 use Rattle.rb_rules.specs.ExactStage.{says, says_of, message_of, keep_sent}
 use Rattle.rb_rules.specs.Hearing.{Sending, sending, window_numbered}
 use Rattle.rb_rules.specs.NodeState.{NodeState, trusted_of}
 use Rattle.rb_rules.specs.NodeSteps.{message_said}
 use Rattle.rb_rules.specs.Plan.{f0_of, tail_start_of}
-use Rattle.rb_rules.specs.Slots.{first_diagnosis_of, role_of, sender_in}
+use Rattle.rb_rules.specs.Slots.{sender_in}
 use Rattle.rb_rules.specs.SyncStage.{calls, new_epoch_of, send_tick_of, call_tick_of}
 use Rattle.rb_rules.specs.Windows.{send_offset_of}
 use Rattle.rb_rules.proofs.Lawfulness.{SendsInside}
 use Rattle.rb_rules.proofs.RoundStates.{HasTicks}
+use Rattle.rb_rules.proofs.Slots.{nothing-kept, sync_role}
 use Rattle.rb_rules.proofs.WindowNumbers.{exact-numbered, sync-numbered}
 use Rattle.rb_laws_events.specs.Closing.{stages_in}
 use Rattle.rb_laws_events.proofs.StageOrder.{last_of, last-same}
@@ -37,14 +37,11 @@ pub record KeepsTime (sizes : Sizes) (plan : Plan) (me : Side) (st : NodeState) 
 
 -- The tick at which a message goes out.
 
-some-same : {X : Type 0} (a b : X) → Some a ≡ Some b → a ≡ b
-some-same a b e = cc
-
 tick-of : (m : Option Message) (t : Option ℕ) (s : Sending)
     → option_and_then (λ m. option_map (λ tick. let x : Sending = record { tick = tick; message = m } in x) t) m ≡ Some s → t ≡ Some s.tick
 tick-of None t s e = cc
 tick-of (Some m) None s e = cc
-tick-of (Some m) (Some t) s e = ap (λ (x : Sending). Some x.tick) (some-same (record { tick = t; message = m }) s e)
+tick-of (Some m) (Some t) s e = ap (λ (x : Sending). Some x.tick) (same_Some (record { tick = t; message = m }) s e)
 
 pub sent-at : (sizes : Sizes) (plan : Plan) (me : Side) (i : ℕ) (st : NodeState) (slot stage word : ℕ) (s : Sending)
     → sending sizes plan me i st slot stage word ≡ Some s → send_tick_of sizes plan st slot stage ≡ Some s.tick
@@ -52,23 +49,13 @@ unfolding sending
 sent-at sizes plan me i st slot stage word s e =
     tick-of (message_said sizes me i st slot stage word) (send_tick_of sizes plan st slot stage) s e
 
-mapped : (f : ℕ → ℕ) (o : Option ℕ) (t : ℕ) → option_map f o ≡ Some t → (x : ℕ) × ((o ≡ Some x) × (f x ≡ t))
-mapped f None t e = cc
-mapped f (Some x) t e = (x, (refl, some-same (f x) t e))
-
-equal-itself : (n : ℕ) → (n == n) ≡ true
-equal-itself n = grind (arith, nat_tests)
-
-differs : (a b : ℕ) → a < b → (a == b) ≡ false
-differs a b h = grind (arith, nat_tests)
-
 -- stage r + 1 of a slot is window 3 slot + r
 exact-sent : (sizes : Sizes) (plan : Plan) (me : Side) (st : NodeState) (slot r t : ℕ) → SendsInside plan → slot < sync_slot_of sizes → r < 3
     → send_tick_of sizes plan st slot (r + 1) ≡ Some t → IsTickIn sizes plan me st (3 * slot + r) t
 exact-sent sizes plan me st slot r t inside below small e =
     let exact : send_tick_of sizes plan st slot (r + 1) ≡ Some (st.epoch + send_offset_of plan slot (r + 1)) =
-    ap (λ b. if b then call_tick_of sizes plan st (r + 1) else Some (st.epoch + send_offset_of plan slot (r + 1))) (differs slot (sync_slot_of sizes) below) in
-    let at : st.epoch + send_offset_of plan slot (r + 1) ≡ t = some-same _ _ (sym exact ∙ e) in
+    ap (λ b. if b then call_tick_of sizes plan st (r + 1) else Some (st.epoch + send_offset_of plan slot (r + 1))) (less-differs slot (sync_slot_of sizes) below) in
+    let at : st.epoch + send_offset_of plan slot (r + 1) ≡ t = same_Some _ _ (sym exact ∙ e) in
     let k : 3 * slot + (r + 1) - 1 ≡ 3 * slot + r = omega arith in
     let offset : send_offset_of plan slot (r + 1) ≡ (3 * slot + r) * plan.l + plan.h = ap (λ n. n * plan.l + plan.h) k in
     let a : first_of sizes plan me st (3 * slot + r) ≡ (3 * slot + r) * plan.l = first-same sizes plan me st (3 * slot + r) (omega arith) in
@@ -79,16 +66,16 @@ exact-sent sizes plan me st slot r t inside below small e =
 call-sent : (sizes : Sizes) (plan : Plan) (me : Side) (st : NodeState) (r t : ℕ) → SendsInside plan → KeepsTime sizes plan me st → r < 3
     → call_tick_of sizes plan st (r + 1) ≡ Some t → IsTickIn sizes plan me st (3 * sync_slot_of sizes + r) t
 call-sent sizes plan me st zero t inside keeps small e =
-    let at : st.epoch + f0_of sizes plan + plan.h ≡ t = some-same _ _ e in
+    let at : st.epoch + f0_of sizes plan + plan.h ≡ t = same_Some _ _ e in
     let a : first_of sizes plan me st (3 * sync_slot_of sizes + 0) ≡ f0_of sizes plan = ap (λ w. w.first) (sync-numbered sizes plan me st 0) in
     let b : last_of sizes plan me st (3 * sync_slot_of sizes + 0) ≡ f0_of sizes plan + plan.l - 1 = ap (λ w. w.last) (sync-numbered sizes plan me st 0) in
     let h : plan.h < plan.l = inside.in_l in
     record { from = omega (arith, at, a); to = omega (arith, at, b, h) }
 call-sent sizes plan me st (suc zero) t inside keeps small e =
-    let x = mapped (λ k1. k1 + plan.l) st.k1 t e in
+    let x = option_map-back (λ k1. k1 + plan.l) st.k1 t e in
     subst (IsTickIn sizes plan me st (3 * sync_slot_of sizes + 1)) x.1.1 (keeps.second x.0 x.1.0)
 call-sent sizes plan me st (suc (suc zero)) t inside keeps small e =
-    let x = mapped (λ k2. k2 + plan.v) st.k2 t e in
+    let x = option_map-back (λ k2. k2 + plan.v) st.k2 t e in
     subst (IsTickIn sizes plan me st (3 * sync_slot_of sizes + 2)) x.1.1 (keeps.third x.0 x.1.0)
 call-sent sizes plan me st (suc (suc (suc r))) t inside keeps small e = absurd (omega arith)
 
@@ -102,7 +89,7 @@ sent-in-window sizes plan me i st slot r word s inside keeps le small e =
       | inr ge ↦
           let same : sync_slot_of sizes ≡ slot = omega arith in
           let call : call_tick_of sizes plan st (r + 1) ≡ Some s.tick =
-          sym (ap (λ b. if b then call_tick_of sizes plan st (r + 1) else Some (st.epoch + send_offset_of plan (sync_slot_of sizes) (r + 1))) (equal-itself (sync_slot_of sizes)))
+          sym (ap (λ b. if b then call_tick_of sizes plan st (r + 1) else Some (st.epoch + send_offset_of plan (sync_slot_of sizes) (r + 1))) (eq_self (sync_slot_of sizes)))
           ∙ ap (λ n. send_tick_of sizes plan st n (r + 1)) same ∙ at in
           subst (λ n. IsTickIn sizes plan me st (3 * n + r) s.tick) same (call-sent sizes plan me st r s.tick inside keeps small call)
     ]
@@ -123,12 +110,6 @@ after-none : (o : Option Message) → option_or o None ≡ o
 after-none None = refl
 after-none (Some m) = refl
 
-below-differs : (a b : ℕ) → a < b → (a == b) ≡ false
-below-differs a b h = grind (arith, nat_tests)
-
-above-differs : (a b : ℕ) → b < a → (a == b) ≡ false
-above-differs a b h = grind (arith, nat_tests)
-
 -- the message of another stage of the slot does not go out at a tick of this window
 other-stage : (sizes : Sizes) (plan : Plan) (me : Side) (i : ℕ) (st : NodeState) (slot r n word k : ℕ) → HasTicks plan → SendsInside plan
     → KeepsTime sizes plan me st → slot ≤ sync_slot_of sizes → r < 3 → n ≤ stages_in sizes → (3 * slot + r < n) ⊎ (n < 3 * slot + r)
@@ -138,8 +119,8 @@ other-stage sizes plan me i st slot r n word k ticks inside keeps le small withi
     (λ s e.
     let sent : IsTickIn sizes plan me st (3 * slot + r) s.tick = sent-in-window sizes plan me i st slot r word s inside keeps le small e in
     elim differ [
-      | inl lt ↦ below-differs s.tick k (apart sizes plan me st (3 * slot + r) n s.tick k ticks lt within sent at)
-      | inr gt ↦ above-differs s.tick k (apart sizes plan me st n (3 * slot + r) k s.tick ticks gt (omega arith) at sent)
+      | inl lt ↦ less-differs s.tick k (apart sizes plan me st (3 * slot + r) n s.tick k ticks lt within sent at)
+      | inr gt ↦ more-differs s.tick k (apart sizes plan me st n (3 * slot + r) k s.tick ticks gt (omega arith) at sent)
     ])
 
 -- the message of stage r + 1, where those of the others don't go out
@@ -196,8 +177,8 @@ said-in-tail sizes plan me i st word k ticks inside keeps at =
 -- in the tail nothing is sent
 pub unsent : (sizes : Sizes) (plan : Plan) (me : Side) (i : ℕ) (st : NodeState) (word : ℕ) → sending sizes plan me i st (sync_slot_of sizes) 4 word ≡ None
 unfolding sending
-unsent sizes plan Biu i st word = ap (λ b. option_and_then (λ m. option_map (λ tick. let x : Sending = record { tick = tick; message = m } in x) (send_tick_of sizes plan st (sync_slot_of sizes) 4)) (if b then None else option_map (message_of st (sync_slot_of sizes) 4) (says sizes Biu i st (sync_slot_of sizes) 4 word))) (equal-itself (sync_slot_of sizes))
-unsent sizes plan Rmu i st word = ap (λ b. option_and_then (λ m. option_map (λ tick. let x : Sending = record { tick = tick; message = m } in x) (send_tick_of sizes plan st (sync_slot_of sizes) 4)) (if b then None else option_map (message_of st (sync_slot_of sizes) 4) (says sizes Rmu i st (sync_slot_of sizes) 4 word))) (equal-itself (sync_slot_of sizes))
+unsent sizes plan Biu i st word = ap (λ b. option_and_then (λ m. option_map (λ tick. let x : Sending = record { tick = tick; message = m } in x) (send_tick_of sizes plan st (sync_slot_of sizes) 4)) (if b then None else option_map (message_of st (sync_slot_of sizes) 4) (says sizes Biu i st (sync_slot_of sizes) 4 word))) (eq_self (sync_slot_of sizes))
+unsent sizes plan Rmu i st word = ap (λ b. option_and_then (λ m. option_map (λ tick. let x : Sending = record { tick = tick; message = m } in x) (send_tick_of sizes plan st (sync_slot_of sizes) 4)) (if b then None else option_map (message_of st (sync_slot_of sizes) 4) (says sizes Rmu i st (sync_slot_of sizes) 4 word))) (eq_self (sync_slot_of sizes))
 
 thirds : (n : ℕ) → (n ≡ 3 * (n / 3) + n % 3) × (n % 3 < 3)
 thirds n = (omega arith, omega arith)
@@ -296,20 +277,11 @@ no-value : (st : NodeState) (slot stage : ℕ) (o : Option Heard) → option_map
 no-value st slot stage None e = refl
 no-value st slot stage (Some v) e = cc
 
-nothing-kept : (sizes : Sizes) (me : Side) (i : ℕ) (st : NodeState) (slot stage word : ℕ) → says sizes me i st slot stage word ≡ None
-    → keep_sent sizes me i st slot stage word ≡ st
-nothing-kept sizes me i st slot stage word e =
-    ap (λ o. if (stage == 1) && is_some o then record st { sent = o } else st) e ∙ by (stage == 1)
-  where
-    by : (b : Bool) → (if b && false then record st { sent = None } else st) ≡ st
-    by true = refl
-    by false = refl
-
 unsent-exact : (sizes : Sizes) (plan : Plan) (me : Side) (i : ℕ) (st : NodeState) (slot stage word : ℕ) → slot < sync_slot_of sizes
     → sending sizes plan me i st slot stage word ≡ None → keep_sent sizes me i st slot stage word ≡ st
 unfolding sending
 unsent-exact sizes plan me i st slot stage word lt e =
-    let test : (slot == sync_slot_of sizes) ≡ false = differs slot (sync_slot_of sizes) lt in
+    let test : (slot == sync_slot_of sizes) ≡ false = less-differs slot (sync_slot_of sizes) lt in
     let t : ℕ = st.epoch + send_offset_of plan slot stage in
     let exact : send_tick_of sizes plan st slot stage ≡ Some t =
     ap (λ b. if b then call_tick_of sizes plan st stage else Some t) test in
@@ -320,24 +292,6 @@ unsent-exact sizes plan me i st slot stage word lt e =
     sym (ap (λ b. if b then calls sizes me st stage else option_map (message_of st slot stage) (says sizes me i st slot stage word)) test) ∙ none in
     nothing-kept sizes me i st slot stage word (no-value st slot stage (says sizes me i st slot stage word) value)
 
-not-less : (a b : ℕ) → b ≤ a → nat_lt a b ≡ false
-not-less a b h = grind (arith, nat_tests)
-
-sync-role : (sizes : Sizes) → role_of sizes (sync_slot_of sizes) ≡ Sync
-sync-role sizes =
-    let s : ℕ = sync_slot_of sizes in
-    let a : nat_lt s sizes.bius ≡ false = not-less s sizes.bius (omega arith) in
-    let b : nat_lt s (first_diagnosis_of Biu sizes) ≡ false = not-less s (first_diagnosis_of Biu sizes) (omega arith) in
-    let c : nat_lt s (first_diagnosis_of Rmu sizes) ≡ false = not-less s (first_diagnosis_of Rmu sizes) (omega arith) in
-    let d : nat_lt s s ≡ false = not-less s s (omega arith) in
-    ap (λ t. if t then Schedule s else (if nat_lt s (first_diagnosis_of Biu sizes) then Data (s - sizes.bius) else later s)) a
-    ∙ ap (λ t. if t then Data (s - sizes.bius) else later s) b
-    ∙ ap (λ t. if t then DiagBiu (s - first_diagnosis_of Biu sizes) else (if nat_lt s s then DiagRmu (s - first_diagnosis_of Rmu sizes) else Sync)) c
-    ∙ ap (λ t. if t then DiagRmu (s - first_diagnosis_of Rmu sizes) else Sync) d
-  where
-    later : ℕ → Role
-    later s = (if nat_lt s (first_diagnosis_of Rmu sizes) then DiagBiu (s - first_diagnosis_of Biu sizes) else (if nat_lt s (sync_slot_of sizes) then DiagRmu (s - first_diagnosis_of Rmu sizes) else Sync))
-
 pub keeps-none : (sizes : Sizes) (plan : Plan) (me : Side) (i : ℕ) (st : NodeState) (slot stage word : ℕ) → slot ≤ sync_slot_of sizes
     → sending sizes plan me i st slot stage word ≡ None → keep_sent sizes me i st slot stage word ≡ st
 keeps-none sizes plan me i st slot stage word le e =
@@ -347,7 +301,7 @@ keeps-none sizes plan me i st slot stage word le e =
           let same : sync_slot_of sizes ≡ slot = omega arith in
           subst (λ slot. keep_sent sizes me i st slot stage word ≡ st) same
           (nothing-kept sizes me i st (sync_slot_of sizes) stage word
-          (ap (λ role. says_of me i st (sync_slot_of sizes) role (sender_in (trusted_of me Biu st) (trusted_of me Rmu st) st.owners role) stage word) (sync-role sizes)))
+          (ap (λ role. says_of me i st (sync_slot_of sizes) role (sender_in (trusted_of me Biu st) (trusted_of me Rmu st) st.owners role) stage word) (sync_role sizes)))
     ]
 
 -- up to stage 1 of the sync slot the message of window n goes out h ticks after its first
@@ -362,8 +316,8 @@ sent-exactly sizes plan me i st n word s le e =
           let at : send_tick_of sizes plan st (n / 3) (n % 3 + 1) ≡ Some s.tick = sym (ap (λ (w : Window). send_tick_of sizes plan st w.slot w.stage) w) ∙ tick in
           let below : n / 3 < sync_slot_of sizes = omega arith in
           let exact : send_tick_of sizes plan st (n / 3) (n % 3 + 1) ≡ Some (st.epoch + send_offset_of plan (n / 3) (n % 3 + 1)) =
-          ap (λ b. if b then call_tick_of sizes plan st (n % 3 + 1) else Some (st.epoch + send_offset_of plan (n / 3) (n % 3 + 1))) (differs (n / 3) (sync_slot_of sizes) below) in
-          let is : st.epoch + send_offset_of plan (n / 3) (n % 3 + 1) ≡ s.tick = some-same _ _ (sym exact ∙ at) in
+          ap (λ b. if b then call_tick_of sizes plan st (n % 3 + 1) else Some (st.epoch + send_offset_of plan (n / 3) (n % 3 + 1))) (less-differs (n / 3) (sync_slot_of sizes) below) in
+          let is : st.epoch + send_offset_of plan (n / 3) (n % 3 + 1) ≡ s.tick = same_Some _ _ (sym exact ∙ at) in
           let k : 3 * (n / 3) + (n % 3 + 1) - 1 ≡ n = omega arith in
           let offset : send_offset_of plan (n / 3) (n % 3 + 1) ≡ n * plan.l + plan.h = ap (λ n. n * plan.l + plan.h) k in
           omega (arith, is, offset)
@@ -374,8 +328,8 @@ sent-exactly sizes plan me i st n word s le e =
           sym (ap (λ (w : Window). send_tick_of sizes plan st w.slot w.stage) (sync-numbered sizes plan me st 0))
           ∙ ap (λ n. send_tick_of sizes plan st (window_numbered sizes plan me st n).slot (window_numbered sizes plan me st n).stage) same ∙ tick in
           let call : send_tick_of sizes plan st (sync_slot_of sizes) 1 ≡ Some (st.epoch + f0_of sizes plan + plan.h) =
-          ap (λ b. if b then call_tick_of sizes plan st 1 else Some (st.epoch + send_offset_of plan (sync_slot_of sizes) 1)) (equal-itself (sync_slot_of sizes)) in
-          let is : st.epoch + f0_of sizes plan + plan.h ≡ s.tick = some-same _ _ (sym call ∙ at) in
+          ap (λ b. if b then call_tick_of sizes plan st 1 else Some (st.epoch + send_offset_of plan (sync_slot_of sizes) 1)) (eq_self (sync_slot_of sizes)) in
+          let is : st.epoch + f0_of sizes plan + plan.h ≡ s.tick = same_Some _ _ (sym call ∙ at) in
           let f : n * plan.l ≡ f0_of sizes plan = ap (λ n. n * plan.l) plain in
           omega (arith, is, f)
     ]

@@ -1,11 +1,12 @@
 -- For the law that events are rounds: what a core does at a tick of a window, whether it has already said
 -- what it has to say in it or not.
 use Rattle.std.proofs.Common.{◌≡◌, ℕ, ◌+◌, ◌*◌, ◌-◌, ◌<◌, ◌≤◌, ◌==◌, ◌&&◌, nat_lt, Bool, true, false, refl, ap, sym, ◌∙◌, subst, arith, inl, inr, Option, Some, None, is_some, option_and_then, option_map, unwrap_or, if◌then◌else◌}
-use Rattle.std.proofs.lemmas.Bool.{cases_lt}
+use Rattle.std.proofs.lemmas.Bool.{cases_lt, eqb-true, le-ltb, lt-ltb, ltb-false, ltb-true}
 use Rattle.std.proofs.lemmas.Bool.Decides.{nat_tests}
 use Rattle.rb_base.specs.Nodes.{Side}
 use Rattle.rb_base.specs.Nodes.Side.{Biu, Rmu}
 use Rattle.rb_base.specs.Sizes.{Sizes, sync_slot_of}
+use Rattle.rb_base.proofs.Plain.{less-differs, more-differs}
 use Rattle.rb_rules.specs.declared.message.Message.{Message}
 use Rattle.rb_rules.specs.declared.plan.Plan.{Plan}
 use Rattle.rb_rules.specs.declared.plan.Window.{Window}
@@ -20,7 +21,7 @@ use Rattle.rb_rules.proofs.RoundStates.{HasTicks}
 use Rattle.rb_rules.proofs.WindowNumbers.{sync-numbered}
 use Rattle.rb_laws_events.specs.Closing.{stages_in}
 use Rattle.rb_laws_events.proofs.NodeSends.{KeepsTime, sending_at}
-use Rattle.rb_laws_events.proofs.NodeWords.{SameWords, WordFits, HasPlace, message-place}
+use Rattle.rb_laws_events.proofs.NodeWords.{HasPlace, SameWords, WordFits, kept-some, message-place}
 use Rattle.rb_laws_events.proofs.StageOrder.{last_of}
 use Rattle.rb_laws_events.proofs.TickWindows.{IsTickIn, first_of, ends-before-later}
 
@@ -139,12 +140,9 @@ epoch-later sizes plan me st n k x ticks keeps le at e =
           past-tail sizes plan me st k x ticks low (subst (λ n. IsTickIn sizes plan me st n k) same at) e
     ]
 
-above-differs : (a b : ℕ) → b < a → (a == b) ≡ false
-above-differs a b h = grind (arith, nat_tests)
-
 no-tick : (k : ℕ) (o : Option ℕ) → ((x : ℕ) → o ≡ Some x → k < x) → is_tick o k ≡ false
 no-tick k None h = refl
-no-tick k (Some x) h = above-differs x k (h x refl)
+no-tick k (Some x) h = more-differs x k (h x refl)
 
 pub no-turn : (sizes : Sizes) (plan : Plan) (me : Side) (st : NodeState) (n k : ℕ) → HasTicks plan → KeepsTime sizes plan me st
     → n ≤ stages_in sizes → IsTickIn sizes plan me st n k → state_at sizes plan me st k ≡ st
@@ -193,31 +191,8 @@ sent-place sizes plan me i st slot stage word s e = by (message_said sizes me i 
         let same : m ≡ s.message = ap (λ (x : Sending). x.message) (some-same (record { tick = t; message = m }) s e) in
         subst (λ m. HasPlace m slot stage) same (message-place sizes me i st slot stage word m f)
 
-kept-place : (sizes : Sizes) (me : Side) (i : ℕ) (st : NodeState) (slot stage word : ℕ) (m : Message) → HasPlace m slot stage
-    → keep_sent sizes me i st m.slot m.stage word ≡ keep_sent sizes me i st slot stage word
-kept-place sizes me i st slot stage word m p =
-    ap (λ s. keep_sent sizes me i st s m.stage word) p.slot_is ∙ ap (λ s. keep_sent sizes me i st slot s word) p.stage_is
-
-lt-is : (a b : ℕ) → a < b → nat_lt a b ≡ true
-lt-is a b h = grind (arith, nat_tests)
-
-lt-not : (a b : ℕ) → b ≤ a → nat_lt a b ≡ false
-lt-not a b h = grind (arith, nat_tests)
-
-lt-of : (a b : ℕ) → nat_lt a b ≡ true → a < b
-lt-of a b h = grind (arith, nat_tests)
-
-le-of : (a b : ℕ) → nat_lt a b ≡ false → b ≤ a
-le-of a b h = grind (arith, nat_tests)
-
-same-of : (a b : ℕ) → (a == b) ≡ true → a ≡ b
-same-of a b h = grind (arith, nat_tests)
-
 other-of : (a b : ℕ) → (a == b) ≡ false → b ≤ a → b < a
 other-of a b h k = grind (arith, nat_tests)
-
-below-differs : (a b : ℕ) → a < b → (a == b) ≡ false
-below-differs a b h = grind (arith, nat_tests)
 
 -- after the tick the state is that of the next tick
 pub after-say : (sizes : Sizes) (me : Side) (i : ℕ) (st kept : NodeState) (slot stage word k : ℕ) (o : Option Sending)
@@ -232,20 +207,20 @@ after-say sizes me i st kept slot stage word k (Some s) place is = by (nat_lt s.
     at : (b : Bool) → (s.tick == k) ≡ b → nat_lt s.tick k ≡ false
         → state_kept sizes me i st word (elim b as (λ _. Option Message) [ true ↦ Some s.message | false ↦ None ]) ≡ by_said (nat_lt s.tick (k + 1)) st kept
     at true e h =
-        let same : s.tick ≡ k = same-of s.tick k e in
-        kept-place sizes me i st slot stage word s.message (place s refl) ∙ sym is
-        ∙ sym (ap (λ b. by_said b st kept) (lt-is s.tick (k + 1) (omega arith)))
+        let same : s.tick ≡ k = eqb-true s.tick k e in
+        kept-some sizes me i st slot stage word s.message (place s refl) ∙ sym is
+        ∙ sym (ap (λ b. by_said b st kept) (lt-ltb s.tick (k + 1) (omega arith)))
     at false e h =
-        let more : k < s.tick = other-of s.tick k e (le-of s.tick k h) in
-        sym (ap (λ b. by_said b st kept) (lt-not s.tick (k + 1) (omega arith)))
+        let more : k < s.tick = other-of s.tick k e (ltb-false s.tick k h) in
+        sym (ap (λ b. by_said b st kept) (le-ltb s.tick (k + 1) (omega arith)))
 
     by : (b : Bool) → nat_lt s.tick k ≡ b → state_kept sizes me i (by_said (nat_lt s.tick k) st kept) word (elim (s.tick == k) as (λ _. Option Message) [ true ↦ Some s.message | false ↦ None ])
         ≡ by_said (nat_lt s.tick (k + 1)) st kept
     by true e =
-        let lt : s.tick < k = lt-of s.tick k e in
+        let lt : s.tick < k = ltb-true s.tick k e in
         ap (λ b. state_kept sizes me i (by_said b st kept) word (elim (s.tick == k) as (λ _. Option Message) [ true ↦ Some s.message | false ↦ None ])) e
-        ∙ ap (λ b. state_kept sizes me i kept word (elim b as (λ _. Option Message) [ true ↦ Some s.message | false ↦ None ])) (below-differs s.tick k lt)
-        ∙ sym (ap (λ b. by_said b st kept) (lt-is s.tick (k + 1) (omega arith)))
+        ∙ ap (λ b. state_kept sizes me i kept word (elim b as (λ _. Option Message) [ true ↦ Some s.message | false ↦ None ])) (less-differs s.tick k lt)
+        ∙ sym (ap (λ b. by_said b st kept) (lt-ltb s.tick (k + 1) (omega arith)))
     by false e =
         ap (λ b. state_kept sizes me i (by_said b st kept) word (elim (s.tick == k) as (λ _. Option Message) [ true ↦ Some s.message | false ↦ None ])) e
         ∙ at (s.tick == k) refl e
@@ -264,5 +239,5 @@ words-fit sizes me i st slot stage a b true same = record {
     by None e = ap (state_kept sizes me i st a) e ∙ sym (ap (state_kept sizes me i st b) e)
     by (Some m) e =
         let p : HasPlace m slot stage = message-place sizes me i st slot stage a m e in
-        ap (state_kept sizes me i st a) e ∙ kept-place sizes me i st slot stage a m p ∙ same.kept ∙ sym (kept-place sizes me i st slot stage b m p)
+        ap (state_kept sizes me i st a) e ∙ kept-some sizes me i st slot stage a m p ∙ same.kept ∙ sym (kept-some sizes me i st slot stage b m p)
         ∙ sym (ap (state_kept sizes me i st b) e)

@@ -1,7 +1,9 @@
 -- For the law that events are rounds: the word that a core is given at a tick is the one that the rounds
 -- give the node in the window.
 use Rattle.std.proofs.Common.{◌≡◌, ℕ, ◌+◌, ◌-◌, ◌==◌, ◌&&◌, nat_lt, Bool, true, false, refl, ap, sym, ◌∙◌, subst, arith, Option, Some, None, is_some, option_and_then, option_map, unwrap_or, get_or, if◌then◌else◌, List}
+use Rattle.std.proofs.lemmas.Bool.{and_parts, eqb-true}
 use Rattle.std.proofs.lemmas.Bool.Decides.{nat_tests}
+use Rattle.std.proofs.lemmas.Option.{same_Some}
 use Rattle.rb_base.specs.Nodes.{Side, other}
 use Rattle.rb_base.specs.Nodes.Side.{Biu, Rmu}
 use Rattle.rb_base.specs.Sizes.{Sizes, sync_slot_of}
@@ -118,17 +120,13 @@ rmu-silent sizes i st slot word EachTrusted h = refl
 one-is : (stage : ℕ) → (stage == 1) ≡ true → 1 ≡ stage
 one-is stage h = grind (arith, nat_tests)
 
-and-first : (a b : Bool) → (a && b) ≡ true → (a ≡ true) × (b ≡ true)
-and-first true b h = (refl, h)
-and-first false b h = cc
-
 pub rmu-words : (sizes : Sizes) (i : ℕ) (st : NodeState) (slot stage a b : ℕ) → SameWords sizes Rmu i st slot stage a b
 rmu-words sizes i st slot stage a b = by (takes_word sizes slot stage) refl
   where
     by : (t : Bool) → takes_word sizes slot stage ≡ t → SameWords sizes Rmu i st slot stage a b
     by false e = word-free sizes Rmu i st slot stage a b e
     by true e =
-        let parts = and-first (stage == 1) (nat_lt slot (first_diagnosis_of Biu sizes)) e in
+        let parts = and_parts (stage == 1) (nat_lt slot (first_diagnosis_of Biu sizes)) e in
         from-says sizes Rmu i st slot stage a b
         (subst (λ s. says sizes Rmu i st slot s a ≡ says sizes Rmu i st slot s b) (one-is stage parts.0)
         (rmu-silent sizes i st slot a (sender_at sizes Rmu st slot) parts.1 ∙ sym (rmu-silent sizes i st slot b (sender_at sizes Rmu st slot) parts.1)))
@@ -181,15 +179,9 @@ value-place : (st : NodeState) (slot stage : ℕ) (v : Heard) → HasPlace (mess
 value-place st slot stage (heard.Word word) = record { slot_is = refl; stage_is = refl }
 value-place st slot stage heard.Fault = record { slot_is = refl; stage_is = refl }
 
-some-same : {X : Type 0} (a b : X) → Some a ≡ Some b → a ≡ b
-some-same a b e = cc
-
 map-place : (st : NodeState) (slot stage : ℕ) (o : Option Heard) (m : Message) → option_map (message_of st slot stage) o ≡ Some m → HasPlace m slot stage
 map-place st slot stage None m e = cc
-map-place st slot stage (Some v) m e = subst (λ m. HasPlace m slot stage) (some-same (message_of st slot stage v) m e) (value-place st slot stage v)
-
-same-number : (a b : ℕ) → (a == b) ≡ true → a ≡ b
-same-number a b h = grind (arith, nat_tests)
+map-place st slot stage (Some v) m e = subst (λ m. HasPlace m slot stage) (same_Some (message_of st slot stage v) m e) (value-place st slot stage v)
 
 pub message-place : (sizes : Sizes) (me : Side) (i : ℕ) (st : NodeState) (slot stage word : ℕ) (m : Message)
     → message_said sizes me i st slot stage word ≡ Some m → HasPlace m slot stage
@@ -197,12 +189,12 @@ message-place sizes me i st slot stage word m = by (slot == sync_slot_of sizes) 
   where
     call : (b : Bool) → slot ≡ sync_slot_of sizes → (if b then Some (call_of sizes st stage) else None) ≡ Some m → HasPlace m slot stage
     call true s e =
-        subst (λ m. HasPlace m slot stage) (some-same (call_of sizes st stage) m e) (record { slot_is = sym s; stage_is = refl })
+        subst (λ m. HasPlace m slot stage) (same_Some (call_of sizes st stage) m e) (record { slot_is = sym s; stage_is = refl })
     call false s e = cc
 
     by : (x : Bool) → (slot == sync_slot_of sizes) ≡ x
         → (if x then calls sizes me st stage else option_map (message_of st slot stage) (says sizes me i st slot stage word)) ≡ Some m → HasPlace m slot stage
-    by true s e = call (listens (other me) Sync stage) (same-number slot (sync_slot_of sizes) s) e
+    by true s e = call (listens (other me) Sync stage) (eqb-true slot (sync_slot_of sizes) s) e
     by false s e = map-place st slot stage (says sizes me i st slot stage word) m e
 
 -- What goes out at a tick, by whether it is the message's tick.
@@ -249,7 +241,7 @@ none-fits sizes me i st slot stage given right e =
       kept = ap (state_kept sizes me i st given) e ∙ sym (ap (state_kept sizes me i st right) f);
     }
 
-kept-some : (sizes : Sizes) (me : Side) (i : ℕ) (st : NodeState) (slot stage word : ℕ) (m : Message) → HasPlace m slot stage
+pub kept-some : (sizes : Sizes) (me : Side) (i : ℕ) (st : NodeState) (slot stage word : ℕ) (m : Message) → HasPlace m slot stage
     → keep_sent sizes me i st m.slot m.stage word ≡ keep_sent sizes me i st slot stage word
 kept-some sizes me i st slot stage word m p =
     ap (λ s. keep_sent sizes me i st s m.stage word) p.slot_is ∙ ap (λ s. keep_sent sizes me i st slot s word) p.stage_is

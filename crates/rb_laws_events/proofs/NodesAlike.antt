@@ -1,6 +1,6 @@
 -- For the law that running nodes agree: what the rounds hold in common at a slot, the nodes hold that stand there.
 use Rattle.std.proofs.Common.{◌≡◌, ℕ, zero, suc, ◌+◌, ◌*◌, ◌-◌, ◌==◌, ◌&&◌, ◌<◌, ◌≤◌, ◌⊎◌, nat_lt, not, Bool, true, false, refl, ap, sym, ◌∙◌, subst, arith, inl, inr, List, Option, Some, get_or, slice_get, is_some, if◌then◌else◌}
-use Rattle.std.proofs.lemmas.Bool.{cases_lt}
+use Rattle.std.proofs.lemmas.Bool.{and_right, cases_lt}
 use Rattle.rb_base.specs.Nodes.{Side, has, set_of}
 use Rattle.rb_base.specs.Nodes.Side.{Biu, Rmu}
 use Rattle.rb_base.specs.Sizes.{Sizes, sync_slot_of}
@@ -24,6 +24,7 @@ use Rattle.rb_rules.specs.StandsFor.{votes_on}
 use Rattle.rb_rules.specs.WorldStep.{World, world_after}
 use Rattle.rb_laws_agreement.specs.Values.{vote_on}
 use Rattle.rb_laws_agreement.proofs.Agreement.{running_before}
+use Rattle.rb_laws_agreement.proofs.ExactAgrees.{has_ticks}
 use Rattle.rb_laws_agreement.proofs.Exchanges.{trusted-either}
 use Rattle.rb_laws_agreement.proofs.FrameBegins.{settled_before}
 use Rattle.rb_laws_agreement.proofs.Goodnesses.{good_below_16}
@@ -32,12 +33,11 @@ use Rattle.rb_laws_agreement.proofs.Places.{IsPlaced, complete_before, placed}
 use Rattle.rb_laws_agreement.proofs.Promises.{convict-alike}
 use Rattle.rb_laws_agreement.proofs.SlotLaws.{none_convicted}
 use Rattle.rb_laws_agreement.proofs.SlotRuns.{stage_next}
-use Rattle.rb_laws_agreement.proofs.Tests.{and_none}
 use Rattle.rb_laws_synchrony.proofs.SyncLaws.{slots_near}
 use Rattle.rb_laws_events.specs.Closing.{stages_in}
 use Rattle.rb_laws_events.specs.OwnMoments.{FollowsTheRounds, HoldsTheState, IsStateOf, RunningNode, moment_of}
 use Rattle.rb_laws_events.specs.RunningNodes.{NodesBeginSlotsNear, NodesConvictAlike, NodesConvictNoGoodNode, NodesHoldOneSchedule, NodesVoteAlike, RunningNodesAgreeInLawful, StandsInSlot, begin_of_slot, convicted_by, state_of, window_of}
-use Rattle.rb_laws_events.proofs.CloseOrder.{WasGood, has-ticks, was-good}
+use Rattle.rb_laws_events.proofs.CloseOrder.{WasGood, was-good}
 use Rattle.rb_laws_events.proofs.CoreStates.{window-place}
 use Rattle.rb_laws_events.proofs.CoresPast.{cores-follow}
 use Rattle.rb_laws_events.proofs.MomentBooks.{number-of}
@@ -193,7 +193,7 @@ was-there sc hands lawful frame slot le me i (suc k) stage e small running st go
     let p : IsPlaced sc hands frame slot (k + 1) = placed sc hands lawful frame slot (k + 1) le (omega arith) (omega (arith, small)) runs in
     let at : m.window ≡ 3 * slot + (k + 1 - 1) = p.window_is in
     let before : WasGood sc m me i st.epoch =
-    was-good sc hands m me i st (omega (arith, at, le, small)) (moments-stand sc hands (frame * (windows_in sc.sizes + 1) + 3 * slot + (k + 1) - 1) (has-ticks sc lawful))
+    was-good sc hands m me i st (omega (arith, at, le, small)) (moments-stand sc hands (frame * (windows_in sc.sizes + 1) + 3 * slot + (k + 1) - 1) (has_ticks sc lawful))
     (subst (λ (m : Moment). IsGoodIn sc m me i st) (sym on) good) in
     let first : WasThere sc hands frame slot me i before.st.epoch =
     was-there sc hands lawful frame slot le me i k (k + 1) refl (omega (arith, small)) runs before.st before.good in
@@ -369,7 +369,7 @@ trusted-stays : (sc : Scenario) → IsLawful sc → (kind : Side) (j frame slot 
     → has (convicted_by_trusted sc.sizes kind trusted) j ≡ false
 trusted-stays sc law kind j frame slot trusted good trusts =
     has-set_of j (λ j. nat_lt j (count_of kind sc.sizes) && not (has trusted j)) (good_below_16 sc law.sizes kind j frame slot good)
-    ∙ and_none (nat_lt j (count_of kind sc.sizes)) (not (has trusted j)) (ap not trusts)
+    ∙ and_right (nat_lt j (count_of kind sc.sizes)) (not (has trusted j)) (ap not trusts)
 
 convict-no-good-node : {w : World} (sc : Scenario) → IsLawful sc → FollowsTheRounds sc w → NodesConvictNoGoodNode sc w
 convict-no-good-node {w} sc lawful follow frame slot me node at kind j good =

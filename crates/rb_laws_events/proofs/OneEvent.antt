@@ -1,6 +1,7 @@
 -- For the law that events are rounds: what holds in every world in which all nodes stand in the rounds, and one event in it.
 use Rattle.std.proofs.Common.{◌≡◌, ℕ, ◌<◌, ◌≤◌, Bool, true, false, List, [], ◌∷◌, ◌++◌, flat_map, length, length-set, option_and_then, refl, ap, sym, ◌∙◌, subst, arith, inl, inr, Option, Some, None, slice_get}
 use Rattle.std.specs.Prelude.{⊤}
+use Rattle.std.proofs.lemmas.Option.{none-some, same_Some}
 use Rattle.rb_base.specs.Nodes.{Side}
 use Rattle.rb_base.specs.Nodes.Side.{Biu, Rmu}
 use Rattle.rb_base.specs.declared.values.Delivery.{Delivery}
@@ -16,6 +17,7 @@ use Rattle.rb_rules.specs.Rounds.{moment}
 use Rattle.rb_rules.specs.Clock.{time_of}
 use Rattle.rb_rules.specs.NodeState.{NodeState}
 use Rattle.rb_laws_events.specs.Closing.{stages_in}
+use Rattle.rb_laws_events.proofs.Behind.{pend-of}
 use Rattle.rb_laws_events.proofs.Pace.{Bound, IsWithin}
 use Rattle.rb_laws_events.proofs.ToldSoFar.{AllHaveTold, all-have-told, so-far-after, so-far-arrival}
 use Rattle.rb_laws_events.proofs.UpToThere.{UpTo, next-le, next-up-to}
@@ -23,7 +25,8 @@ use Rattle.rb_rules.specs.WorldStep.{Due, Pending, Site, Timed, World, after_act
 use Rattle.rb_rules.specs.WorldStep.Pending.{Tick, Arrival}
 use Rattle.rb_rules.proofs.Drift.{HasLengths}
 use Rattle.rb_rules.proofs.Stamps.{Moves}
-use Rattle.rb_laws_events.proofs.CloseOrder.{good-clock, shortest-some}
+use Rattle.rb_laws_agreement.proofs.FrameTimes.{good-clock}
+use Rattle.rb_laws_events.proofs.CloseOrder.{shortest-some}
 use Rattle.rb_laws_events.proofs.Completing.{EventAt}
 use Rattle.rb_laws_events.proofs.SettledOnce.{Settled}
 use Rattle.rb_laws_events.proofs.DueEvents.{IsReady, every-at, every-back, every-front, every-unflat}
@@ -37,7 +40,7 @@ use Rattle.rb_laws_events.proofs.PortsInRounds.{AllHanded, PortsStand, handed-af
 use Rattle.rb_laws_events.proofs.Receiving.{every-stands}
 use Rattle.rb_laws_events.proofs.RoundNodes.{slot_numbered}
 use Rattle.rb_laws_events.proofs.SameHeard.{Every}
-use Rattle.rb_laws_events.proofs.Settling.{RowOfRounds, RowsOfRounds, some-same}
+use Rattle.rb_laws_events.proofs.Settling.{RowOfRounds, RowsOfRounds}
 use Rattle.rb_laws_events.proofs.SettlingFrames.{BegunInRounds, BegunOfRounds, IsOfMoment, TellRounds, ports_before}
 use Rattle.rb_laws_events.proofs.Telling.{begun-then, closed-row, still-tell}
 use Rattle.rb_laws_events.proofs.Timing.{AreInTime, HavePassed}
@@ -73,14 +76,7 @@ all-pend w t all = at
     at Biu i s e = every-at (λ s. Every (λ u. t ≤ u) (times_of s)) w.sites.bius i s e (every-front (λ s. Every (λ u. t ≤ u) (times_of s)) w.sites.bius w.sites.rmus (every-unflat (λ u. t ≤ u) times_of (in_order w.sites) all))
     at Rmu i s e = every-at (λ s. Every (λ u. t ≤ u) (times_of s)) w.sites.rmus i s e (every-back (λ s. Every (λ u. t ≤ u) (times_of s)) w.sites.bius w.sites.rmus (every-unflat (λ u. t ≤ u) times_of (in_order w.sites) all))
 
-pub pend-of : (t : ℕ) (sites : Each Site) → AllPend t sites → (me : Side) (i : ℕ) (s : Site) → slice_get (of_kind me sites) i ≡ Some s → Every (λ u. t ≤ u) (times_of s)
-unfolding AllPend
-pend-of t sites all = all
-
-some-none : {X : Type 0} (x : X) → None ≡ Some x → ⊥
-some-none x e = cc
-
-none-stands : (n : ℕ) (c : Coming) (cs : List Coming) → cs ≡ [] → StandsAt n c cs → ⊥
+pub none-stands : (n : ℕ) (c : Coming) (cs : List Coming) → cs ≡ [] → StandsAt n c cs → ⊥
 none-stands n c [] e s = s
 none-stands n c (x ∷ xs) e s = cc
 
@@ -134,7 +130,7 @@ tick-happens sc now at w n me i k t s a lawful room times h may early there pend
     let x : Act = pass_and_tick sc w.ports me i a.tick s.core in
     let runs : s.runs ≡ true = is-up s.runs refl in
     let up : IsUp sc hands (sent_by sc hands at w.sites) now me i (at me i) s = h.sites.up me i s there runs in
-    let same : up.a ≡ a = some-same up.a a (sym up.stands.receives.pends ∙ pend) in
+    let same : up.a ≡ a = same_Some up.a a (sym up.stands.receives.pends ∙ pend) in
     let later : now ≤ a.time = subst (λ (b : Timed). now ≤ b.time) same up.stands.receives.tick_after in
     let at_time : a.time ≡ time_of (clock_of sc me i) a.tick = subst (λ (b : Timed). b.time ≡ time_of (clock_of sc me i) b.tick) same up.stands.receives.at_time in
     let closes_early : (st : NodeState) → slice_get (of_kind me (moment sc hands (at me i)).nodes) i ≡ Some st → a.tick ≡ last_tick sc (moment sc hands (at me i)) me st → at me i < n =
@@ -199,7 +195,7 @@ tick-happens sc now at w n me i k t s a lawful room times h may early there pend
   where
     is-up : (b : Bool) → s.runs ≡ b → s.runs ≡ true
     is-up true e = e
-    is-up false e = let down : IsDown sc w.hands me i (at me i) s = h.sites.down me i s there e in absurd (some-none a (sym down.ahead ∙ pend))
+    is-up false e = let down : IsDown sc w.hands me i (at me i) s = h.sites.down me i s there e in absurd (none-some a (sym down.ahead ∙ pend))
 
 -- an arrival, in the world
 arrival-told : (sc : Scenario) (hands : List HandIn) (sites : Each Site) (me : Side) (i n : ℕ) (c : Coming) (s : Site) → slice_get (of_kind me sites) i ≡ Some s
@@ -248,7 +244,7 @@ up-there sc now at w me i s a h there pend = by s.runs refl
   where
     by : (b : Bool) → s.runs ≡ b → IsUp sc w.hands (sent_by sc w.hands at w.sites) now me i (at me i) s
     by true e = h.up me i s there e
-    by false e = let down : IsDown sc w.hands me i (at me i) s = h.down me i s there e in absurd (some-none a (sym down.ahead ∙ pend))
+    by false e = let down : IsDown sc w.hands me i (at me i) s = h.down me i s there e in absurd (none-some a (sym down.ahead ∙ pend))
 
 pub happens-is : (sc : Scenario) (w : World) (d : Due) (s : Site) → slice_get (of_kind d.side w.sites) d.node ≡ Some s → happens sc w d ≡ with_pending sc w d.side d.node s d.pending
 unfolding happens

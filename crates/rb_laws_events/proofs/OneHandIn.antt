@@ -1,7 +1,9 @@
 -- For the law that events are rounds: what is handed in keeps the whole invariant.
 use Rattle.std.proofs.Common.{◌≡◌, ℕ, ◌+◌, ◌*◌, ◌%◌, ◌<◌, ◌≤◌, ◌==◌, nat_lt, Bool, true, false, List, [], ◌∷◌, ◌++◌, length, refl, ap, sym, ◌∙◌, subst, arith, ◌⊎◌, inl, inr, Option, Some, None, slice_get, if◌then◌else◌}
+use Rattle.std.proofs.lemmas.Bool.{eqb-true}
 use Rattle.std.proofs.lemmas.Bool.Decides.{nat_tests}
 use Rattle.std.proofs.lemmas.Nat.{mul-le}
+use Rattle.std.proofs.lemmas.Option.{slice_get_within}
 use Rattle.rb_base.specs.Nodes.{Side}
 use Rattle.rb_base.specs.Nodes.Side.{Biu}
 use Rattle.rb_base.specs.declared.values.Place.{Place}
@@ -13,9 +15,10 @@ use Rattle.rb_rules.specs.Moments.{IsRunning}
 use Rattle.rb_rules.specs.Ports.{HandIn, with_state}
 use Rattle.rb_rules.specs.Rounds.{Moment, moment, windows_in}
 use Rattle.rb_rules.specs.WorldStep.{Site, World, frame_in, hand}
+use Rattle.rb_laws_agreement.proofs.PortLists.{with-state-long}
 use Rattle.rb_laws_events.specs.Closing.{stages_in}
 use Rattle.rb_laws_events.proofs.Behind.{begins-at}
-use Rattle.rb_laws_events.proofs.HandedIn.{AreEarly, length-handed, passed-handed, port-handed, sites-handed, tell-handed, told-handed}
+use Rattle.rb_laws_events.proofs.HandedIn.{AreEarly, passed-handed, port-handed, sites-handed, tell-handed, told-handed}
 use Rattle.rb_laws_events.proofs.HandedMoments.{Alike, handed-alike}
 use Rattle.rb_laws_events.proofs.MomentBooks.{next_of, number-of, place_at, settles-next, SettlesNext}
 use Rattle.rb_laws_events.proofs.NodeActs.{HasRoom}
@@ -23,12 +26,8 @@ use Rattle.rb_laws_events.proofs.ToldSoFar.{so-far-handed}
 use Rattle.rb_laws_events.proofs.OneEvent.{WorldInRounds}
 use Rattle.rb_laws_events.proofs.RoundNodes.{slot_numbered}
 use Rattle.rb_laws_events.proofs.SameHeard.{Every}
-use Rattle.rb_laws_events.proofs.Settling.{get-within}
 use Rattle.rb_laws_events.proofs.SettlingFrames.{IsOfMoment, RunsIn, runs-in}
 use Rattle.rb_laws_events.proofs.Waiting.{AfterRecord}
-
-same-number : (a b : ℕ) → (a == b) ≡ true → a ≡ b
-same-number a b h = grind (arith, nat_tests)
 
 -- a book that settles a frame's first stage next is that of the frame's first moment
 at-first : (sc : Scenario) (hands : List HandIn) (b : Book) (frame : ℕ) → 1 ≤ sc.sizes.bius → IsOfMoment sc hands b → b.ended ≡ false
@@ -63,8 +62,8 @@ at-first sc hands b frame some (inr at) going up =
         ≡ (if p then (if q then End else Stage (place_at sc.sizes (moment sc hands at.0))) else Begin ((moment sc hands at.0).frame + 1))
         → ((moment sc hands at.0).frame ≡ frame) × ((moment sc hands at.0).window ≡ 0)
     by true true true e f h runs is =
-        let last : (moment sc hands at.0).frame ≡ sc.frames = same-number (moment sc hands at.0).frame sc.frames h in
-        (last ∙ sym (same-number frame sc.frames e), runs.at_first last)
+        let last : (moment sc hands at.0).frame ≡ sc.frames = eqb-true (moment sc hands at.0).frame sc.frames h in
+        (last ∙ sym (eqb-true frame sc.frames e), runs.at_first last)
     by true true false e f h runs is = cc
     by true false q e f h runs is = cc
     by false true true e f h runs is = cc
@@ -108,9 +107,9 @@ handed sc now at w biu state frame lawful room h turn good =
         tell = tell-handed sc hands x at w.sites early h.told h.tell;
         told = told-handed sc hands x at w.sites early h.told;
         book = inr (book.0, book.1.1 ∙ sym (ap (λ (m : Moment). m.book) alike.is));
-        many = length-handed biu state w.ports ∙ h.many;
+        many = with-state-long biu state w.ports ∙ h.many;
         ports = λ j s there runs.
-            let within : j < length (of_kind Biu w.sites) = get-within (of_kind Biu w.sites) j s there in
+            let within : j < length (of_kind Biu w.sites) = slice_get_within (of_kind Biu w.sites) j s there in
             let long : length (of_kind Biu w.sites) ≡ sc.sizes.bius = h.sites.counts Biu in
             port-handed sc hands x w.ports j (at Biu j) room.ticks (omega arith) h.many (a.near Biu j s there)
             (λ before same.

@@ -1,6 +1,7 @@
 -- For the law that events are rounds: one due event keeps the whole invariant, as long as the nodes are in time where
 -- they stand and where the node of the event stands next.
 use Rattle.std.proofs.Common.{◌≡◌, ℕ, zero, suc, ◌<◌, ◌≤◌, ◌&&◌, not, Bool, true, false, List, length, refl, ap, sym, ◌∙◌, subst, arith, Option, Some, None, slice_get}
+use Rattle.std.proofs.lemmas.Option.{same_Some}
 use Rattle.rb_base.specs.Nodes.{Side, other}
 use Rattle.rb_rules.specs.Book.{Book, Record, of_kind}
 use Rattle.rb_rules.specs.Goodness.{Scenario, clock_of, is_good}
@@ -17,6 +18,7 @@ use Rattle.rb_laws_events.proofs.UpToThere.{UpTo}
 use Rattle.rb_rules.specs.WorldStep.{Due, Pending, Site, Timed, Way, World, happens, is_complete, needs_no_event, record_since, settle, settle_next, take_if_due, with_pending}
 use Rattle.rb_rules.specs.WorldStep.Pending.{Tick, Arrival}
 use Rattle.rb_rules.specs.WorldStep.Way.{ByAnEvent}
+use Rattle.rb_laws_agreement.proofs.Goodnesses.{good_counts}
 use Rattle.rb_laws_events.proofs.Completing.{event-settled}
 use Rattle.rb_laws_events.proofs.SettledOnce.{Settled, next-eta}
 use Rattle.rb_laws_events.proofs.DueEvents.{IsDue, IsReady}
@@ -24,8 +26,7 @@ use Rattle.rb_laws_events.proofs.NodeActs.{HasRoom}
 use Rattle.rb_laws_events.proofs.Invariant.{is_good_at}
 use Rattle.rb_laws_events.proofs.MomentSteps.{NextIsStage, next-is-stage}
 use Rattle.rb_laws_events.proofs.PortsInRounds.{AllHanded, PortsStand}
-use Rattle.rb_laws_events.proofs.RoundNodes.{good-counts, item-at, slot_numbered}
-use Rattle.rb_laws_events.proofs.Settling.{some-same}
+use Rattle.rb_laws_events.proofs.RoundNodes.{item-at, slot_numbered}
 use Rattle.rb_laws_events.proofs.SettlingFrames.{IsOfMoment, TellRounds, all-settled, next-hands}
 use Rattle.rb_laws_events.proofs.Timing.{AreInTime, HavePassed}
 use Rattle.rb_laws_events.proofs.ToldInOrder.{AllTold}
@@ -105,7 +106,7 @@ are-in-time sc now at w n h may =
     let hands : List HandIn = w.hands in
     let site : (me : Side) (i frame slot : ℕ) → is_good sc me i frame slot ≡ true → (s : Site) × (slice_get (of_kind me w.sites) i ≡ Some s) =
     λ me i frame slot good.
-    let counted : i < count_of me sc.sizes = good-counts sc me i frame slot good in
+    let counted : i < count_of me sc.sizes = good_counts sc me i frame slot good in
     let long : length (of_kind me w.sites) ≡ count_of me sc.sizes = h.sites.counts me in
     item-at (of_kind me w.sites) i (omega arith) in
     let within : (me : Side) (i : ℕ) → is_good_at sc (moment sc hands (at me i)) me i ≡ true → (at me i ≤ n) × ((moment sc hands (at me i)).window ≤ stages_in sc.sizes) =
@@ -142,7 +143,7 @@ closes-earlier sc now at w n d lawful h waits up_to due = by d.pending due.ready
         let s : Site = due.s in
         let a : Timed = ready.0 in
         let up : IsUp sc w.hands (sent_by sc w.hands at w.sites) now me i (at me i) s = up-there sc now at w me i s a h.sites due.there ready.1.0 in
-        let same : up.a ≡ a = some-same up.a a (sym up.stands.receives.pends ∙ ready.1.0) in
+        let same : up.a ≡ a = same_Some up.a a (sym up.stands.receives.pends ∙ ready.1.0) in
         let later : now ≤ a.time = subst (λ (b : Timed). now ≤ b.time) same up.stands.receives.tick_after in
         let at_time : a.time ≡ time_of (clock_of sc me i) a.tick = subst (λ (b : Timed). b.time ≡ time_of (clock_of sc me i) b.tick) same up.stands.receives.at_time in
         closes-before sc w.hands now a.time at w.sites n lawful later h.sites h.passed (subst (λ t. AllPend t w.sites) (sym ready.1.1.1.0) (all-pend w due.t due.first)) waits.stage waits.behind

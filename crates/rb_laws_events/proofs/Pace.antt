@@ -2,12 +2,12 @@
 -- complete. Whatever is settled keeps it so.
 use Rattle.std.proofs.Common.{◌≡◌, ℕ, zero, suc, ◌+◌, ◌*◌, ◌<◌, ◌≤◌, ◌==◌, ◌&&◌, ◌⊎◌, not, nat_lt, if◌then◌else◌, Bool, true, false, List, [], ◌∷◌, ◌++◌, length, refl, ap, sym, ◌∙◌, subst, arith, inl, inr, Option, Some, None, slice_get}
 use Rattle.std.specs.Prelude.{⊤}
-use Rattle.std.proofs.lemmas.Bool.{le-ltb}
-use Rattle.std.proofs.lemmas.Bool.Decides.{nat_tests}
+use Rattle.std.proofs.lemmas.Bool.{and_parts, eqb-true, le-ltb, ltb-true}
 use Rattle.std.proofs.lemmas.List.{append-nil}
 use Rattle.rb_base.specs.Nodes.{Side}
 use Rattle.rb_base.specs.Sizes.{IsShape, Sizes, sync_slot_of}
 use Rattle.rb_base.specs.declared.values.Place.{Place}
+use Rattle.rb_base.proofs.Plain.{true-false}
 use Rattle.rb_rules.specs.Book.{Begun, Book, Each, Milestone, Record, Row, after_stage, after_verdict, frame_records, judged_of, of_kind, with_frame, with_stage}
 use Rattle.rb_rules.specs.Book.Milestone.{Begin, Stage, End}
 use Rattle.rb_rules.specs.declared.cause.Cause.{Cause}
@@ -19,11 +19,13 @@ use Rattle.rb_rules.specs.Slots.{count_of}
 use Rattle.rb_rules.specs.WorldStep.{Site, Way, World, book_with, comes_so, is_complete, needs_no_event, nobody_good, record_since, row_for, settle, settle_next}
 use Rattle.rb_rules.specs.WorldStep.Way.{ByAnEvent, ByItself}
 use Rattle.rb_rules.proofs.Books.{GoesOn}
-use Rattle.rb_laws_events.proofs.MomentBooks.{end-ended, stage-book-next}
-use Rattle.rb_laws_events.proofs.RoundNodes.{good-counts, good-earlier, item-at}
-use Rattle.rb_laws_events.proofs.Settling.{and-true, same-number}
+use Rattle.rb_laws_agreement.proofs.Agreement.{ended-end}
+use Rattle.rb_laws_agreement.proofs.Goodnesses.{good_before, good_counts}
+use Rattle.rb_laws_events.proofs.MomentBooks.{stage-book-next}
+use Rattle.rb_laws_events.proofs.RoundNodes.{item-at}
 use Rattle.rb_laws_events.proofs.ToldInOrder.{AllTold, number_at}
-use Rattle.rb_laws_events.proofs.Untold.{no-row, nobody, one-not-told, somebody}
+use Rattle.rb_laws_events.proofs.Untold.{no-row, nobody, somebody}
+use Rattle.rb_laws_events.proofs.Waiting.{untold}
 use Rattle.rb_laws_events.proofs.WorldBooks.{book-on, none-past}
 use Rattle.rb_laws_events.proofs.WorldNodes.{next-sites}
 
@@ -41,9 +43,6 @@ IsWithin sizes (Begin frame) p = p ≤ number_of sizes (Begin frame)
 IsWithin sizes (Stage place) p = p ≤ number_of sizes (after_stage sizes place)
 IsWithin sizes End p = ⊤
 
-lt-from : (a b : ℕ) → nat_lt a b ≡ true → a < b
-lt-from a b h = grind (arith, nat_tests)
-
 -- what comes after a stage
 abbrev pub then_stage : Sizes → Place → Bool → Bool → Milestone
 then_stage sizes place early last =
@@ -60,7 +59,7 @@ rises sizes place few = by (nat_lt place.stage 3) (place.slot == sync_slot_of si
     by : (early last : Bool) → (place.slot == sync_slot_of sizes) ≡ last → number_at sizes place ≤ number_of sizes (then_stage sizes place early last)
     by true last e = omega arith
     by false true e =
-        let same : place.slot ≡ sync_slot_of sizes = same-number place.slot (sync_slot_of sizes) e in
+        let same : place.slot ≡ sync_slot_of sizes = eqb-true place.slot (sync_slot_of sizes) e in
         let more : (place.frame + 1) * (windows_in sizes + 1) ≡ place.frame * (windows_in sizes + 1) + (windows_in sizes + 1) = one-more place.frame (windows_in sizes + 1) in
         omega (arith, same, more, few)
     by false false e = omega (arith, few)
@@ -73,7 +72,7 @@ after-within sizes place p = by (nat_lt place.stage 3) (place.slot == sync_slot_
     up place few le = let rise : number_at sizes place ≤ number_of sizes (after_stage sizes place) = rises sizes place few in omega arith
 
     by : (early last : Bool) → nat_lt place.stage 3 ≡ early → p ≤ number_of sizes (then_stage sizes place early last) → IsWithin sizes (then_stage sizes place early last) p
-    by true last e le = let lt : place.stage < 3 = lt-from place.stage 3 e in up (record place { stage = place.stage + 1 }) (omega arith) le
+    by true last e le = let lt : place.stage < 3 = ltb-true place.stage 3 e in up (record place { stage = place.stage + 1 }) (omega arith) le
     by false true e le = le
     by false false e le = up (record { frame = place.frame; slot = place.slot + 1; stage = 1 }) (omega arith) le
 
@@ -96,9 +95,6 @@ Bound sc at sites b = b.ended ≡ false → (me : Side) (i : ℕ) (s : Site) →
 -- what the book waits for is not complete
 abbrev pub Waits : Scenario → Each Site → Book → Type 0
 Waits sc sites b = b.ended ≡ false → needs_no_event sc b.upcoming ≡ false → is_complete sc sites b.upcoming ≡ false
-
-true-false : {P : Type 0} → true ≡ false → P
-true-false e = absurd (cc)
 
 still-running : (b x : Book) → GoesOn b x → x.ended ≡ false → b.ended ≡ false
 still-running b x on h = by b.ended refl
@@ -144,7 +140,7 @@ settled-bound sc at sites b (Stage place) e bound going me i s there =
     let was : IsWithin sc.sizes b.upcoming (at me i) = bound (still-running b (book_with sc sites b (Stage place)) (book-on sc sites b (Stage place)) going) me i s there in
     let le : at me i ≤ number_of sc.sizes (after_stage sc.sizes place) = subst (λ m. IsWithin sc.sizes m (at me i)) e was in
     subst (λ m. IsWithin sc.sizes m (at me i)) (sym (stage-book-next sc place _ b going)) (after-within sc.sizes place (at me i) le)
-settled-bound sc at sites b End e bound going me i s there = true-false (sym (end-ended b) ∙ going)
+settled-bound sc at sites b End e bound going me i s there = true-false (sym (ended-end b) ∙ going)
 
 -- a stage that nobody has closed is not complete
 pub stage-waits : (sc : Scenario) (hands : List HandIn) (at : Side → ℕ → ℕ) (sites : Each Site) (place : Place) → ((me : Side) → length (of_kind me sites) ≡ count_of me sc.sizes)
@@ -154,10 +150,10 @@ stage-waits sc hands at sites place counts told before needs =
     let good = somebody sc place.frame place.slot needs in
     let me : Side = good.0 in
     let i : ℕ = good.1.0 in
-    let counted : i < count_of me sc.sizes = good-counts sc me i place.frame place.slot good.1.1 in
+    let counted : i < count_of me sc.sizes = good_counts sc me i place.frame place.slot good.1.1 in
     let long : length (of_kind me sites) ≡ count_of me sc.sizes = counts me in
     let site = item-at (of_kind me sites) i (omega arith) in
-    one-not-told sc place.frame place.slot (λ (s : Site). row_for place s.row) sites me i site.0 site.1 good.1.1
+    untold sc place.frame place.slot (λ (s : Site). row_for place s.row) sites me i site.0 site.1 good.1.1
     (no-row sc.sizes place site.0.row (λ row e.
     let lt : number_at sc.sizes row.place < at me i = (told me i site.0 site.1).row row e in
     let le : at me i ≤ number_at sc.sizes place = before me i site.0 site.1 in
@@ -186,7 +182,7 @@ pub record IsLastStage (sc : Scenario) (place : Place) : Type 0 where
 pub settled-waits : (sc : Scenario) (hands : List HandIn) (at : Side → ℕ → ℕ) (sites : Each Site) (b : Book) (m : Milestone) → b.upcoming ≡ m
     → ((me : Side) → length (of_kind me sites) ≡ count_of me sc.sizes) → AllTold sc hands at sites → Bound sc at sites b
     → Waits sc sites (book_with sc sites b m) ⊎ ((place : Place) × ((m ≡ Stage place) × IsLastStage sc place))
-settled-waits sc hands at sites b End e counts told bound = inl (λ going. true-false (sym (end-ended b) ∙ going))
+settled-waits sc hands at sites b End e counts told bound = inl (λ going. true-false (sym (ended-end b) ∙ going))
 settled-waits sc hands at sites b (Begin frame) e counts told bound =
     inl (λ going needs.
     begin-waits sc hands at sites frame counts told
@@ -233,7 +229,7 @@ next-cases sc way w = by (comes_so sc way w.book.upcoming && is_complete sc w.si
 
     by : (b : Bool) → (comes_so sc way w.book.upcoming && is_complete sc w.sites w.book.upcoming) ≡ b → IsSettled sc way w ⊎ IsLeft sc way w
     by true e =
-        let parts = and-true (comes_so sc way w.book.upcoming) (is_complete sc w.sites w.book.upcoming) e in
+        let parts = and_parts (comes_so sc way w.book.upcoming) (is_complete sc w.sites w.book.upcoming) e in
         inl (record { comes = parts.0; complete = parts.1; book = ap (λ b. (pick b).book) e })
     by false e = inr (record { test = e; book = ap (λ b. (pick b).book) e })
 
@@ -259,7 +255,7 @@ nobody-then sc shape frame slot h = by (nobody_good sc (frame + 1) 0) refl
     by true e = refl
     by false e =
         let good = somebody sc (frame + 1) 0 e in
-        absurd (nobody sc shape frame slot h good.0 good.1.0 (good-earlier sc good.0 good.1.0 frame (frame + 1) slot 0 (omega arith) good.1.1))
+        absurd (nobody sc shape frame slot h good.0 good.1.0 (good_before sc good.0 good.1.0 frame (frame + 1) slot 0 (omega arith) good.1.1))
 
 then-begins : (sizes : Sizes) (sc : Scenario) (place : Place) → IsLastStage sc place → after_stage sc.sizes place ≡ Begin (place.frame + 1)
 then-begins sizes sc place last =
@@ -334,7 +330,7 @@ last-given sc place rows b last = by b.ended (verdict_of (judged_of sc place row
     none false c e = refl
 
     not-less : (a b : ℕ) → (a == b) ≡ true → nat_lt a b ≡ false
-    not-less a b e = let same : a ≡ b = same-number a b e in le-ltb a b (omega arith)
+    not-less a b e = let same : a ≡ b = eqb-true a b e in le-ltb a b (omega arith)
 
     verdict : (v : Option Cause) → (after_verdict sc.sizes place rows (judged_of sc place rows ∷ b.stages) b v).ended ≡ false
         → (after_verdict sc.sizes place rows (judged_of sc place rows ∷ b.stages) b v).given ≡ b.given

@@ -55,7 +55,7 @@ fewer q (suc n) x (y ∷ ys) s =
     λ b. elim b as (λ b. length (cond b (y ∷ filter q (remove ys n)) (filter q (remove ys n))) + cond (q x) 1 0 ≡ length (cond b (y ∷ filter q ys) (filter q ys))) [ true ↦ omega (arith, more) | false ↦ more ] in
     go (q y)
 
-same_others : (q : Coming → Bool) (n : ℕ) (x : Coming) (xs : List Coming) → StandsAt n x xs → q x ≡ false → filter q (remove xs n) ≡ filter q xs
+pub same_others : (q : Coming → Bool) (n : ℕ) (x : Coming) (xs : List Coming) → StandsAt n x xs → q x ≡ false → filter q (remove xs n) ≡ filter q xs
 same_others q n x [] s h = absurd s
 same_others q zero x (y ∷ ys) s h = let e : q y ≡ false = ap q s ∙ h in ap (λ b. cond b (y ∷ filter q ys) (filter q ys)) (sym e)
 same_others q (suc n) x (y ∷ ys) s h = ap (λ l. cond (q y) (y ∷ l) l) (same_others q n x ys s h)

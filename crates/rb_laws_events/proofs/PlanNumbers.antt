@@ -8,6 +8,7 @@ use Rattle.rb_base.specs.Sizes.{Sizes}
 use Rattle.rb_rules.specs.declared.plan.Plan.{Plan}
 use Rattle.rb_rules.specs.Plan.{IsFeasible, IsPlan, Sides, drift_in, longest_of, next_skew_of, shortest_of, skew_of}
 use Rattle.rb_rules.proofs.Lawfulness.{SendsInside, sends_inside_all}
+use Rattle.rb_laws_synchrony.proofs.PlanNumbers.{enough}
 
 -- the ticks after the sending tick take at least so long, so with the one that sends and those before it the window takes longer
 window-rest : (ticks h shortest n : ℕ) → h < ticks → pos n ≤ℤ ((pos ticks -ℤ pos (1 + h)) *ℤ pos shortest)
@@ -23,9 +24,6 @@ window-rest ticks h shortest n inside le =
     let parts : ticks * shortest ≡ k * shortest + (1 + h) * shortest = ap (λ t. t * shortest) all ∙ add-mul k (1 + h) shortest in
     let first : (1 + h) * shortest ≡ 1 * shortest + h * shortest = add-mul 1 h shortest in
     omega (arith, parts, first, low)
-
-enough : (a b : ℕ) → pos a ≤ℤ pos b → a ≤ b
-enough a b h = omega (arith, ints)
 
 skew-bound : (a cg dg cu least p : ℕ) → a + max cg dg - min cu least ≤ p → least ≤ dg → a ≤ p
 skew-bound a cg dg cu least p h le = omega arith

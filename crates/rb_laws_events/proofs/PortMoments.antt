@@ -1,28 +1,28 @@
 -- For the law that events are rounds: the ports of a world and those of the rounds: the words that they offer, and
 -- what is delivered to them.
-use Rattle.std.proofs.Common.{◌≡◌, ℕ, zero, suc, ◌+◌, ◌<◌, ◌==◌, ◌≢◌, Bool, true, false, List, [], ◌∷◌, length, map, refl, ap, ◌∙◌, arith, nat_lt, Option, Some, None, slice_get, get_or, option_map, if◌then◌else◌, option_and_then}
+use Rattle.std.proofs.Common.{◌≡◌, ℕ, suc, ◌<◌, ◌==◌, ◌≢◌, List, [], length, refl, ap, ◌∙◌, arith, Option, Some, None, slice_get, get_or, option_map, option_and_then}
 use Rattle.std.proofs.lemmas.Bool.{lt-ltb}
 use Rattle.std.proofs.lemmas.List.{get_or-set_same, get_or-set_other}
-use Rattle.std.proofs.lemmas.List.FromFn.{length-map-range_with_len}
-use Rattle.rb_base.specs.Counting.{numbers}
+use Rattle.std.proofs.lemmas.Option.{get_or_from_slice_get}
 use Rattle.rb_base.specs.Nodes.{Side}
 use Rattle.rb_base.specs.Nodes.Side.{Biu, Rmu}
 use Rattle.rb_base.specs.declared.values.Delivery.{Delivery}
 use Rattle.rb_rules.specs.declared.record.SlotLine.{SlotLine}
 use Rattle.rb_rules.specs.declared.role.Role.{Role}
 use Rattle.rb_rules.specs.declared.role.Role.TheVariants.{Schedule, Data, DiagBiu, DiagRmu, Sync}
-use Rattle.rb_rules.specs.Book.{Each, Row, line_in, map_each, of_kind}
+use Rattle.rb_rules.specs.Book.{Row, line_in, map_each, of_kind}
 use Rattle.rb_rules.specs.ExactStage.{says}
 use Rattle.rb_rules.specs.Goodness.{Scenario}
 use Rattle.rb_rules.specs.Hearing.{Coming, port_at, row_of, word_for}
 use Rattle.rb_rules.specs.declared.closing.Closed.{Closed}
 use Rattle.rb_rules.specs.NodeState.{NodeState}
-use Rattle.rb_rules.specs.Ports.{HandIn, PortState, delivered_to, hand_over, offered_at, with_state}
-use Rattle.rb_rules.specs.Rounds.{Moment, Result, after_window, begin_frame, go_through, moment, port_after, ports_after, results_of, sent_in, step, window_in, windows_in}
+use Rattle.rb_rules.specs.Ports.{HandIn, PortState, delivered_to, offered_at}
+use Rattle.rb_rules.specs.Rounds.{Moment, Result, after_window, go_through, moment, port_after, ports_after, results_of, sent_in, step, window_in, windows_in}
 use Rattle.rb_rules.specs.Slots.{role_of}
 use Rattle.rb_rules.specs.WorldStep.{with_delivery}
 use Rattle.rb_rules.proofs.Books.{stepped}
-use Rattle.rb_rules.proofs.WindowNumbers.{get-each, length-each}
+use Rattle.rb_rules.proofs.WindowNumbers.{get-each}
+use Rattle.rb_laws_agreement.proofs.PortLists.{port-after, ports_long}
 use Rattle.rb_laws_events.proofs.Invariant.{word_at}
 use Rattle.rb_laws_events.proofs.NodeActs.{HasWord}
 use Rattle.rb_laws_events.proofs.NodeWords.{from-says, rmu-words}
@@ -49,62 +49,6 @@ has-word sc ports m Biu i st same =
 has-word sc ports m Rmu i st same =
     rmu-words sc.sizes i st (window_in sc m Rmu st).slot (window_in sc m Rmu st).stage
     (word_for sc ports i (window_in sc m Rmu st).slot (role_of sc.sizes (window_in sc m Rmu st).slot)) (word_at sc m Rmu i st)
-
--- How many there are.
-
-length-state : (i state : ℕ) (ports : List PortState) → length (with_state i state ports) ≡ length ports
-length-state i state [] = refl
-length-state zero state (p ∷ ps) = refl
-length-state (suc i) state (p ∷ ps) = ap suc (length-state i state ps)
-
-length-handed : (frame : ℕ) (hands : List HandIn) (ports : List PortState) → length (hand_over frame hands ports) ≡ length ports
-length-handed frame [] ports = refl
-length-handed frame (h ∷ hs) ports = length-handed frame hs (if h.frame == frame then with_state h.biu h.state ports else ports) ∙ by (h.frame == frame)
-  where
-    by : (b : Bool) → length (if b then with_state h.biu h.state ports else ports) ≡ length ports
-    by true = length-state h.biu h.state ports
-    by false = refl
-
-both : List PortState → Each PortState
-both ports = record { bius = ports; rmus = [] }
-
-length-delivered : (rows : List (Option Row)) (ports : List PortState) → length (ports_after rows ports) ≡ length ports
-unfolding both
-length-delivered rows ports = length-each (λ side i port. port_after (line_in (get_or rows i None)) port) (both ports) Biu
-
-stepped-length : (sc : Scenario) (hands : List HandIn) (m : Moment) (over in_frame : Bool) → length (stepped sc hands m over in_frame).ports ≡ length m.ports
-unfolding after_window begin_frame
-stepped-length sc hands m over true = length-delivered _ m.ports
-stepped-length sc hands m over false = length-handed (m.frame + 1) hands m.ports
-
--- a port for each BIU
-pub ports-count : (sc : Scenario) (hands : List HandIn) (p : ℕ) → length (moment sc hands p).ports ≡ sc.sizes.bius
-unfolding begin_frame step
-ports-count sc hands zero = length-handed 0 hands (map (port_at sc []) (numbers sc.sizes.bius)) ∙ length-map-range_with_len (port_at sc []) 0 sc.sizes.bius
-ports-count sc hands (suc p) =
-    stepped-length sc hands (moment sc hands p) ((moment sc hands p).frame == sc.frames) (nat_lt (moment sc hands p).window (windows_in sc.sizes)) ∙ ports-count sc hands p
-
--- Deliveries.
-
-get-there : {X : Type 0} (xs : List X) (i : ℕ) (d : X) → i < length xs → slice_get xs i ≡ Some (get_or xs i d)
-get-there [] i d h = absurd (omega arith)
-get-there (x ∷ xs) zero d h = refl
-get-there (x ∷ xs) (suc i) d h = get-there xs i d (omega arith)
-
-got-there : {X : Type 0} (xs : List X) (i : ℕ) (x d : X) → slice_get xs i ≡ Some x → get_or xs i d ≡ x
-got-there [] i x d e = cc
-got-there (y ∷ ys) zero x d e = cc
-got-there (y ∷ ys) (suc i) x d e = got-there ys i x d e
-
--- the port of a BIU after a window of the rounds
-pub port-delivered : (sc : Scenario) (rows : List (Option Row)) (ports : List PortState) (i : ℕ) → i < length ports
-    → port_at sc (ports_after rows ports) i ≡ port_after (line_in (get_or rows i None)) (port_at sc ports i)
-unfolding both
-port-delivered sc rows ports i h =
-    let fresh : PortState = record { app = get_or sc.apps i 0; state = get_or sc.words i 0; faults = [] } in
-    let make : Side → ℕ → PortState → PortState = λ side i port. port_after (line_in (get_or rows i None)) port in
-    got-there (ports_after rows ports) i (port_after (line_in (get_or rows i None)) (port_at sc ports i)) fresh
-    (get-each make (both ports) Biu i ∙ ap (option_map (make Biu i)) (get-there ports i fresh h))
 
 -- and after a close in the world
 pub port-given : (sc : Scenario) (i : ℕ) (d : Option Delivery) (ports : List PortState) → i < length ports
@@ -137,13 +81,13 @@ port-after-window sc hands p i st inside counted there =
     let m : Moment = moment sc hands p in
     let go : Side → ℕ → NodeState → Result = λ me i st. go_through sc m (sent_in sc m) me i st (window_in sc m me st) in
     let rows : List (Option Row) = (map_each (λ me i (r : Result). r.row) (map_each go m.nodes)).bius in
-    let many : length m.ports ≡ sc.sizes.bius = ports-count sc hands p in
+    let many : length m.ports ≡ sc.sizes.bius = ports_long sc hands p in
     let row : get_or rows i None ≡ (go Biu i st).row =
-    got-there rows i (go Biu i st).row None
+    get_or_from_slice_get rows i (go Biu i st).row None
     (get-each (λ me i (r : Result). r.row) (map_each go m.nodes) Biu i
     ∙ ap (option_map (λ (r : Result). r.row)) (get-each go m.nodes Biu i ∙ ap (option_map (go Biu i)) there)) in
     ap (λ ports. port_at sc ports i) (in-window-ports sc hands p inside)
-    ∙ port-delivered sc rows m.ports i (omega arith)
+    ∙ port-after sc rows m.ports i (omega arith)
     ∙ ap (λ row. port_after (line_in row) (port_at sc m.ports i)) row
 
 -- and so does a close in the world that gave that row

@@ -10,12 +10,12 @@ use Rattle.rb_rules.specs.Moments.{IsRunning, after_slot, before_stage}
 use Rattle.rb_rules.specs.Rounds.{Moment}
 use Rattle.rb_rules.specs.WorldStep.{Choice, World, world_after}
 use Rattle.rb_laws_agreement.proofs.PortHistories.{ports_alike}
+use Rattle.rb_laws_agreement.proofs.Goodnesses.{good_counts, good_earlier}
 use Rattle.rb_laws_events.specs.OwnMoments.{FollowsTheRounds, HasItsPort, HoldsItsState, HoldsTheRounds, IsBeforeTheBreak, RunningNode, moment_of}
 use Rattle.rb_laws_events.specs.RunningNodes.{IsAfterDelivery, RunningPortsAgreeInLawful, StandsAfterSlot, window_of}
 use Rattle.rb_laws_events.proofs.CoresHold.{cores-hold}
 use Rattle.rb_laws_events.proofs.CoresPast.{cores-follow}
 use Rattle.rb_laws_events.proofs.PortsBetween.{before-third, then-first, then-second}
-use Rattle.rb_laws_events.proofs.RoundNodes.{good-counts, good-same}
 
 -- the BIU is good in the slot, and its port is that after the slot
 record IsAfter {w : World} (sc : Scenario) (frame slot : ℕ) (node : RunningNode w Biu) : Type 0 where
@@ -39,7 +39,7 @@ is-after {w} sc lawful frame slot node h in_rounds at = by at.place
     good_here = ap (λ f. is_good sc Biu i f window.slot) (sym at.frame_is ∙ h.frame) ∙ h.good
 
     counted : i < sc.sizes.bius
-    counted = good-counts sc Biu i frame window.slot good_here
+    counted = good_counts sc Biu i frame window.slot good_here
 
     port : (k stage : ℕ) → window.slot ≡ k → window.stage ≡ stage → port_at sc w.ports i ≡ port_at sc (before_stage sc w.hands frame k stage).ports i
     port k stage e f =
@@ -63,7 +63,7 @@ is-after {w} sc lawful frame slot node h in_rounds at = by at.place
         let low = next.1.0 in
         let high = next.1.1 in
         record {
-          good = good-same sc Biu i frame slot (slot + 1) (omega arith) (ap (is_good sc Biu i frame) (sym next.0) ∙ good_here);
+          good = good_earlier sc Biu i frame slot (slot + 1) (omega arith) (ap (is_good sc Biu i frame) (sym next.0) ∙ good_here);
           port = elim (cases_lt window.stage 2) [
             | inl lt ↦ port (slot + 1) 1 next.0 (omega (arith, low, lt)) ∙ then-first sc w.hands frame slot i
             | inr ge ↦ port (slot + 1) 2 next.0 (omega (arith, high, ge)) ∙ then-second sc w.hands lawful frame slot i at.within at.complete counted

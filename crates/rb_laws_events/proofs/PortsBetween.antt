@@ -22,8 +22,8 @@ use Rattle.rb_rules.specs.Slots.{count_of, role_of}
 use Rattle.rb_rules.specs.SyncStage.{close_sync, sync_outcome_of}
 use Rattle.rb_rules.proofs.RoundStates.{HasTicks}
 use Rattle.rb_laws_agreement.proofs.Deliveries.{no-delivery}
+use Rattle.rb_laws_agreement.proofs.ExactAgrees.{has_ticks}
 use Rattle.rb_laws_agreement.proofs.Places.{IsPlaced, complete_before, placed}
-use Rattle.rb_laws_events.proofs.CloseOrder.{has-ticks}
 use Rattle.rb_laws_events.proofs.MomentBooks.{stage-is-of}
 use Rattle.rb_laws_events.proofs.PortMoments.{port-after-window}
 use Rattle.rb_laws_events.proofs.PortsKept.{still-late}
@@ -84,7 +84,7 @@ before-third sc hands lawful frame slot i le complete counted =
     let inside : (before_stage sc hands frame slot 3).window < windows_in sc.sizes = omega (arith, window, le) in
     let stage : (before_stage sc hands frame slot 3).window % 3 ≡ 2 = omega (arith, window) in
     sym (ap (λ n. port_at sc (moment sc hands n).ports i) (sym (third-number (frame * (windows_in sc.sizes + 1)) slot))
-    ∙ still sc hands (frame * (windows_in sc.sizes + 1) + 3 * slot + 3 - 1) i (has-ticks sc lawful) counted inside (inr stage))
+    ∙ still sc hands (frame * (windows_in sc.sizes + 1) + 3 * slot + 3 - 1) i (has_ticks sc lawful) counted inside (inr stage))
 
 next-first : (a slot : ℕ) → a + 3 * (slot + 1) + 1 - 1 ≡ a + 3 * slot + 4 - 1
 next-first a slot = omega arith
@@ -105,4 +105,4 @@ then-second sc hands lawful frame slot i le complete counted =
     let inside : (after_slot sc hands frame slot).window < windows_in sc.sizes = omega (arith, window, le) in
     let stage : (after_slot sc hands frame slot).window % 3 ≡ 0 = omega (arith, window) in
     ap (λ n. port_at sc (moment sc hands n).ports i) (next-second (frame * (windows_in sc.sizes + 1)) slot)
-    ∙ still sc hands (frame * (windows_in sc.sizes + 1) + 3 * slot + 4 - 1) i (has-ticks sc lawful) counted inside (inl stage)
+    ∙ still sc hands (frame * (windows_in sc.sizes + 1) + 3 * slot + 4 - 1) i (has_ticks sc lawful) counted inside (inl stage)

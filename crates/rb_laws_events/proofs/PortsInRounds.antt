@@ -1,9 +1,10 @@
 -- For the law that events are rounds: an event keeps the ports of the nodes that run those of the rounds, and what is
 -- handed in is of frames that all good nodes have begun.
 use Rattle.std.proofs.Common.{◌≡◌, ℕ, zero, suc, ◌+◌, ◌*◌, ◌<◌, ◌≤◌, ◌==◌, ◌&&◌, ◌⊎◌, nat_le, Bool, true, false, List, [], ◌∷◌, length, refl, ap, sym, ◌∙◌, subst, arith, inl, inr, Option, Some, None, slice_get, option_and_then, option_map}
-use Rattle.std.proofs.lemmas.Bool.{cases_lt}
+use Rattle.std.proofs.lemmas.Bool.{cases_lt, eqb-true}
 use Rattle.std.proofs.lemmas.Bool.Decides.{nat_tests}
 use Rattle.std.proofs.lemmas.Nat.{mul-le}
+use Rattle.std.proofs.lemmas.Option.{same_Some}
 use Rattle.rb_base.specs.Nodes.{Side}
 use Rattle.rb_base.specs.Nodes.Side.{Biu, Rmu}
 use Rattle.rb_base.specs.Sizes.{sync_slot_of}
@@ -25,21 +26,23 @@ use Rattle.rb_rules.specs.Rounds.{Moment, Result, begin_frame, close_on, go_thro
 use Rattle.rb_rules.specs.SyncStage.{close_sync, sync_outcome_of}
 use Rattle.rb_rules.specs.WorldStep.{Site, Timed, after_act, at_node, with_delivery, with_message}
 use Rattle.rb_rules.proofs.RoundStates.{HasTicks}
+use Rattle.rb_laws_agreement.proofs.Goodnesses.{good_counts}
 use Rattle.rb_laws_events.proofs.CloseOrder.{IsWindowLater, frame-later, window-later}
+use Rattle.rb_laws_events.proofs.DueEvents.{every-weaker}
 use Rattle.rb_laws_events.proofs.Invariant.{is_good_at, word_at}
 use Rattle.rb_laws_events.proofs.MomentBooks.{number-of}
 use Rattle.rb_laws_events.proofs.NodeClosing.{ClosesWindow}
 use Rattle.rb_laws_events.proofs.NodeEvents.{begun_after}
 use Rattle.rb_laws_events.proofs.PortMoments.{port-kept}
 use Rattle.rb_laws_events.proofs.PortsKept.{NoneHanded, none-over, port-then, ports-turned}
-use Rattle.rb_laws_events.proofs.RoundNodes.{good-counts, slot_numbered}
+use Rattle.rb_laws_events.proofs.RoundNodes.{slot_numbered}
 use Rattle.rb_laws_events.proofs.SameHeard.{Every}
 use Rattle.rb_laws_events.proofs.SettlingFrames.{ports_before}
 use Rattle.rb_laws_events.proofs.ToldInOrder.{AllTold, NodeTold, begun-at, one-changes}
 use Rattle.rb_laws_events.proofs.Telling.{reached-tells}
 use Rattle.rb_laws_events.proofs.Waiting.{HasBegun}
 use Rattle.rb_laws_events.proofs.WorldEvents.{AfterTick}
-use Rattle.rb_laws_events.proofs.WorldStands.{is_node, some-same, sent_by}
+use Rattle.rb_laws_events.proofs.WorldStands.{is_node, sent_by}
 use Rattle.rb_laws_events.proofs.WorldTicks.{moved, reached-same}
 
 -- the ports of the BIUs that run are those of the rounds where they stand
@@ -53,15 +56,12 @@ AllHanded sc sites hands = Every (λ h. HasBegun sc sites h.frame) hands
 
 -- What is not handed in yet.
 
-same-number : (a b : ℕ) → (a == b) ≡ true → a ≡ b
-same-number a b h = grind (arith, nat_tests)
-
 none-of : (frame : ℕ) (hands : List HandIn) (P : HandIn → Type 0) → ((h : HandIn) → P h → h.frame ≡ frame → ⊥) → Every P hands → NoneHanded frame hands
 none-of frame [] P never all = tt
 none-of frame (h ∷ hs) P never all = (by (h.frame == frame) refl, none-of frame hs P never all.1)
   where
     by : (b : Bool) → (h.frame == frame) ≡ b → (h.frame == frame) ≡ false
-    by true e = absurd (never h all.0 (same-number h.frame frame e))
+    by true e = absurd (never h all.0 (eqb-true h.frame frame e))
     by false e = e
 
 -- the frame that a node enters begins for it
@@ -210,7 +210,7 @@ own-port sc hands at sites ports i s a x ticks many all told there after runs sa
             | inl on ↦ on.stands.good
             | inr off ↦ absurd (true-false (sym runs ∙ off.runs))
           ] in
-          port-then sc hands ports p q i after.st x.core.state _ x.closed c.told.0 ticks (good-counts sc Biu i m.frame (slot_numbered sc.sizes m.window) after.good) many after.stands.window c.place
+          port-then sc hands ports p q i after.st x.core.state _ x.closed c.told.0 ticks (good_counts sc Biu i m.frame (slot_numbered sc.sizes m.window) after.good) many after.stands.window c.place
           (none-entered sc hands sites Biu i p q s all there (told Biu i s there) later good) after.there c.told.1.0 c.told.1.1 same
           ∙ ap (λ n. port_at sc (moment sc hands n).ports i) closes.1.1.0
     ]
@@ -245,10 +245,6 @@ ports-after sc hands at sites ports me i frame k m s a x ticks many all told the
     Biu j z e refl runs
 
 -- What is handed in.
-
-pub every-all : {X : Type 0} (P Q : X → Type 0) → ((x : X) → P x → Q x) → (xs : List X) → Every P xs → Every Q xs
-every-all P Q go [] all = tt
-every-all P Q go (x ∷ xs) all = (go x all.0, every-all P Q go xs all.1)
 
 some-after : (sc : Scenario) (ports : List PortState) (me : Side) (i : ℕ) (e : Option Epoch) (b : Begun) → (z : Begun) × (begun_after sc ports me i e (Some b) ≡ Some z)
 some-after sc ports me i None b = (b, refl)
@@ -292,7 +288,7 @@ still-begun sc hands at sites ports me i frame k m s a x told there after f begu
               let ge : f ≤ b.0.frame = b.1.1 in
               omega (arith, within, ge, at_frame.0)
           | inr old ↦
-              let same : b.0 ≡ new.0 = some-same b.0 new.0 (sym b.1.0 ∙ old) in
+              let same : b.0 ≡ new.0 = same_Some b.0 new.0 (sym b.1.0 ∙ old) in
               subst (λ (b : Begun). f ≤ b.frame) same b.1.1
         ],
       ),
@@ -318,5 +314,5 @@ pub handed-after : (sc : Scenario) (hands : List HandIn) (at : Side → ℕ → 
     → AllTold sc hands at sites → slice_get (of_kind me sites) i ≡ Some s → AfterTick sc hands at sites ports me i s a x → (all : List HandIn) → AllHanded sc sites all
     → AllHanded sc (with_message sc me i frame k m (at_node me i (after_act sc ports me i x) sites)) all
 handed-after sc hands at sites ports me i frame k m s a x told there after all h =
-    every-all (λ h. HasBegun sc sites h.frame) (λ h. HasBegun sc (with_message sc me i frame k m (at_node me i (after_act sc ports me i x) sites)) h.frame)
+    every-weaker (λ h. HasBegun sc sites h.frame) (λ h. HasBegun sc (with_message sc me i frame k m (at_node me i (after_act sc ports me i x) sites)) h.frame)
     (λ h begun. still-begun sc hands at sites ports me i frame k m s a x told there after h.frame begun) all h

@@ -20,11 +20,12 @@ use Rattle.rb_rules.specs.Hearing.{Coming, port_at, row_of, word_for}
 use Rattle.rb_rules.specs.NodeState.{NodeState}
 use Rattle.rb_rules.specs.Ports.{HandIn, PortState, hand_over, with_state}
 use Rattle.rb_rules.specs.Rounds.{Moment, Result, begin_frame, close_on, go_through, heard_at, moment, port_after, sent_in, step, window_in, windows_in, word_for_window}
-use Rattle.rb_rules.specs.Slots.{Sender, count_of, first_diagnosis_of, role_of}
+use Rattle.rb_rules.specs.Slots.{Sender, count_of, role_of}
 use Rattle.rb_rules.specs.SyncStage.{close_sync, sync_outcome_of}
 use Rattle.rb_rules.specs.WorldStep.{with_delivery}
 use Rattle.rb_rules.proofs.Books.{stepped}
 use Rattle.rb_rules.proofs.RoundStates.{HasTicks}
+use Rattle.rb_rules.proofs.Slots.{schedule_role, sync_role}
 use Rattle.rb_laws_agreement.proofs.NodeWindows.{sync_windows_are}
 use Rattle.rb_laws_events.specs.Closing.{stages_in}
 use Rattle.rb_laws_events.proofs.CloseOrder.{IsFrameLater, IsWindowLater, frame-later, window-later}
@@ -74,23 +75,11 @@ no-line sc m me i st w no_data = by (is_good sc me i m.frame w.slot && nat_le w.
 role-not : (r s : Role) → r ≡ s → ((n : ℕ) → s ≡ Data n → ⊥) → (n : ℕ) → r ≡ Data n → ⊥
 role-not r s e no_data n f = no_data n (sym e ∙ f)
 
-pub schedule-slot : (sizes : Sizes) (slot : ℕ) → slot < sizes.bius → role_of sizes slot ≡ Schedule slot
-schedule-slot sizes slot h =
-    ap (λ b. if b then Schedule slot
-    else (if nat_lt slot (first_diagnosis_of Biu sizes) then Data (slot - sizes.bius)
-    else (if nat_lt slot (first_diagnosis_of Rmu sizes) then DiagBiu (slot - first_diagnosis_of Biu sizes)
-    else (if nat_lt slot (sync_slot_of sizes) then DiagRmu (slot - first_diagnosis_of Rmu sizes) else Sync)))) (lt-ltb slot sizes.bius h)
-
-pub sync-role : (sizes : Sizes) → role_of sizes (sync_slot_of sizes) ≡ Sync
-sync-role sizes =
-    let s : ℕ = sync_slot_of sizes in
-    rw (le-ltb s sizes.bius (omega arith), le-ltb s (first_diagnosis_of Biu sizes) (omega arith), le-ltb s (first_diagnosis_of Rmu sizes) (omega arith), le-ltb s s (omega arith)) refl
-
 no-data-early : (sizes : Sizes) (slot : ℕ) → slot < sizes.bius → HasNoData sizes slot
-no-data-early sizes slot h n e = role-not (role_of sizes slot) (Schedule slot) (schedule-slot sizes slot h) (λ n e. cc) n e
+no-data-early sizes slot h n e = role-not (role_of sizes slot) (Schedule slot) (schedule_role sizes slot h) (λ n e. cc) n e
 
 no-data-late : (sizes : Sizes) → HasNoData sizes (sync_slot_of sizes)
-no-data-late sizes n e = role-not (role_of sizes (sync_slot_of sizes)) Sync (sync-role sizes) (λ n e. cc) n e
+no-data-late sizes n e = role-not (role_of sizes (sync_slot_of sizes)) Sync (sync_role sizes) (λ n e. cc) n e
 
 -- Steps of the rounds that leave a port alone.
 
@@ -205,7 +194,7 @@ pub sync-word : (sc : Scenario) (ports : List PortState) (m : Moment) (me : Side
 sync-word sc ports m me i st q small at =
     let slot : ℕ = (window_in sc m me st).slot in
     let stage : ℕ = (window_in sc m me st).stage in
-    let role : role_of sc.sizes slot ≡ Sync = ap (λ (w : Window). role_of sc.sizes w.slot) ((sync_windows_are sc m q small at).are me st) ∙ sync-role sc.sizes in
+    let role : role_of sc.sizes slot ≡ Sync = ap (λ (w : Window). role_of sc.sizes w.slot) ((sync_windows_are sc m q small at).are me st) ∙ sync_role sc.sizes in
     let word : word_for sc ports i slot (role_of sc.sizes slot) ≡ word_for sc m.ports i slot (role_of sc.sizes slot) =
     ap (word_for sc ports i slot) role ∙ sym (ap (word_for sc m.ports i slot) role) in
     from-says sc.sizes me i st slot stage (word_for sc ports i slot (role_of sc.sizes slot)) (word_for sc m.ports i slot (role_of sc.sizes slot))

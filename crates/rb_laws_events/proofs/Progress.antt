@@ -21,7 +21,7 @@ pub record SomePends (w : World) : Type 0 where
   pub pends : s.ahead ≡ Some a
 
 -- its next tick is among all that pends
-some-time : (w : World) (me : Side) (i : ℕ) (s : Site) (a : Timed) → slice_get (of_kind me w.sites) i ≡ Some s → s.ahead ≡ Some a
+pub some-time : (w : World) (me : Side) (i : ℕ) (s : Site) (a : Timed) → slice_get (of_kind me w.sites) i ≡ Some s → s.ahead ≡ Some a
     → (t : ℕ) × (least (flat_map times_of (in_order w.sites)) ≡ Some t)
 some-time w me i s a there pend = by (least (flat_map times_of (in_order w.sites))) refl
   where

@@ -1,5 +1,6 @@
 -- For the law that events are rounds: what a tick of one node does at the nodes that hear of it.
 use Rattle.std.proofs.Common.{◌≡◌, ℕ, suc, ◌+◌, ◌-◌, ◌<◌, ◌≤◌, ◌==◌, ◌⊎◌, nat_lt, Bool, true, false, All, List, [], ◌∷◌, ◌++◌, refl, ap, sym, ◌∙◌, subst, arith, inl, inr, if◌then◌else◌}
+use Rattle.std.proofs.lemmas.Bool.{eqb-true}
 use Rattle.std.proofs.lemmas.Bool.Decides.{nat_tests}
 use Rattle.std.proofs.lemmas.List.Elements.{All-head, All-tail}
 use Rattle.std.proofs.Math.Path.{fun_ext}
@@ -7,6 +8,7 @@ use Rattle.rb_base.specs.Nodes.{Side, other}
 use Rattle.rb_base.specs.Sizes.{Sizes}
 use Rattle.rb_base.specs.declared.node.NodeName.{NodeName}
 use Rattle.rb_base.specs.declared.values.Place.{Place}
+use Rattle.rb_base.proofs.Plain.{differs-turned, eq_self}
 use Rattle.rb_rules.specs.declared.link.Rule.{Rule}
 use Rattle.rb_rules.specs.Clock.{time_of}
 use Rattle.rb_rules.specs.Goodness.{Scenario, clock_of}
@@ -101,17 +103,8 @@ pub record SendsFor (sent sent2 : ℕ → ℕ → Bool) (j0 q : ℕ) : Type 0 wh
   pub before : sent j0 q ≡ false
   pub after : sent2 j0 q ≡ true
 
-same-of : (a b : ℕ) → (a == b) ≡ true → a ≡ b
-same-of a b h = grind (arith, nat_tests)
-
 differs : (a b : ℕ) → a < b → (b == a) ≡ false
 differs a b h = grind (arith, nat_tests)
-
-not-same-sym : (a b : ℕ) → (a == b) ≡ false → (b == a) ≡ false
-not-same-sym a b h = grind (arith, nat_tests)
-
-itself : (a : ℕ) → (a == a) ≡ true
-itself a = grind (arith, nat_tests)
 
 -- the lists of the source for its moment
 heard-before : (sc : Scenario) (m : Moment) (me : Side) (i j : ℕ) (st : NodeState) (sent : ℕ → Bool) → is_good_at sc m (other me) j ≡ true → (b : Bool) → sent j ≡ b
@@ -157,7 +150,7 @@ own-lands : (sc : Scenario) (hands : List HandIn) (sent sent2 : Side → ℕ →
     → Hears j t got coming (heard_for sc hands sent me i p st j) (ahead_for sc hands sent me i p j)
     → Hears j t got (coming ++ e ∷ []) (heard_for sc hands sent2 me i p st j) (ahead_for sc hands sent2 me i p j)
 own-lands sc hands sent sent2 me i p j0 q t st e got coming at sends from entry good rise j same (inl now) h =
-    let its : (e.from == j) ≡ true = ap (λ k. k == j) (from ∙ sym same) ∙ itself j in
+    let its : (e.from == j) ≡ true = ap (λ k. k == j) (from ∙ sym same) ∙ eq_self j in
     let entry_p : entry_of sc (moment sc hands p) me i j ≡ e ∷ [] =
     ap (entry_of sc (moment sc hands p) me i) same ∙ ap (λ q. entry_of sc (moment sc hands q) me i j0) (sym now.0) ∙ entry in
     let good_p : is_good_at sc (moment sc hands p) (other me) j ≡ true =
@@ -178,7 +171,7 @@ own-lands sc hands sent sent2 me i p j0 q t st e got coming at sends from entry 
     (subst (λ l. Hears j t got coming [] l) ahead
     (subst (λ l. Hears j t got coming l (ahead_so_far sc (moment sc hands z) me i (λ j. sent (other me) j z) j)) none h)))
 own-lands sc hands sent sent2 me i p j0 q t st e got coming at sends from entry good rise j same (inr next) h =
-    let its : (e.from == j) ≡ true = ap (λ k. k == j) (from ∙ sym same) ∙ itself j in
+    let its : (e.from == j) ≡ true = ap (λ k. k == j) (from ∙ sym same) ∙ eq_self j in
     let z : ℕ = next_stage sc.sizes (moment sc hands p) p in
     let entry_z : entry_of sc (moment sc hands z) me i j ≡ e ∷ [] =
     ap (entry_of sc (moment sc hands z) me i) same ∙ ap (λ q. entry_of sc (moment sc hands q) me i j0) (sym next.0) ∙ entry in
@@ -191,7 +184,7 @@ own-lands sc hands sent sent2 me i p j0 q t st e got coming at sends from entry 
     let one : ahead_so_far sc (moment sc hands z) me i (λ j. sent2 (other me) j z) j ≡ e ∷ [] =
     ahead-before sc (moment sc hands z) me i j (λ j. sent2 (other me) j z) good_z true is ∙ entry_z in
     let near : sent (other me) j p ≡ sent2 (other me) j p =
-    ap (λ j. sent (other me) j p) same ∙ sym (sends.elsewhere p (not-same-sym q p (differs p q (omega arith)))) ∙ sym (ap (λ j. sent2 (other me) j p) same) in
+    ap (λ j. sent (other me) j p) same ∙ sym (sends.elsewhere p (differs-turned q p (differs p q (omega arith)))) ∙ sym (ap (λ j. sent2 (other me) j p) same) in
     let heard = heard-same sc (moment sc hands p) me i j st (λ j. sent (other me) j p) (λ j. sent2 (other me) j p) near in
     subst (λ l. Hears j t got (coming ++ e ∷ []) (heard_so_far sc (moment sc hands p) me i (span_of st (window_in sc (moment sc hands p) me st)) (λ j. sent2 (other me) j p) j) l) (sym one)
     (say-next j t got coming (heard_so_far sc (moment sc hands p) me i (span_of st (window_in sc (moment sc hands p) me st)) (λ j. sent2 (other me) j p) j) e its (subst (λ t. t < e.time) (sym at) next.1)
@@ -204,7 +197,7 @@ other-lands : (sc : Scenario) (hands : List HandIn) (sent sent2 : Side → ℕ �
     → Hears j t got (coming ++ e ∷ []) (heard_for sc hands sent2 me i p st j) (ahead_for sc hands sent2 me i p j)
 other-lands sc hands sent sent2 me i p j0 q t st e got coming sends from j f h =
     let z : ℕ = next_stage sc.sizes (moment sc hands p) p in
-    let its : (e.from == j) ≡ false = ap (λ k. k == j) from ∙ not-same-sym j j0 f in
+    let its : (e.from == j) ≡ false = ap (λ k. k == j) from ∙ differs-turned j j0 f in
     let heard = heard-same sc (moment sc hands p) me i j st (λ j. sent (other me) j p) (λ j. sent2 (other me) j p) (sym (sends.others j p f)) in
     let ahead = ahead-same sc (moment sc hands z) me i j (λ j. sent (other me) j z) (λ j. sent2 (other me) j z) (sym (sends.others j z f)) in
     say-other j t got coming (heard_for sc hands sent2 me i p st j) (ahead_for sc hands sent2 me i p j) e its
@@ -220,7 +213,7 @@ hears-more : (sc : Scenario) (hands : List HandIn) (sent sent2 : Side → ℕ �
 hears-more sc hands sent sent2 me i p j0 q t st e got coming at sends from entry good rise lands j h =
     let go : (b : Bool) → (j == j0) ≡ b → Hears j t got (coming ++ e ∷ []) (heard_for sc hands sent2 me i p st j) (ahead_for sc hands sent2 me i p j) =
     λ b. elim b as (λ b. (j == j0) ≡ b → Hears j t got (coming ++ e ∷ []) (heard_for sc hands sent2 me i p st j) (ahead_for sc hands sent2 me i p j)) [
-      | true ↦ λ f. own-lands sc hands sent sent2 me i p j0 q t st e got coming at sends from entry good rise j (same-of j j0 f) lands h
+      | true ↦ λ f. own-lands sc hands sent sent2 me i p j0 q t st e got coming at sends from entry good rise j (eqb-true j j0 f) lands h
       | false ↦ λ f. other-lands sc hands sent sent2 me i p j0 q t st e got coming sends from j f h
     ] in
     go (j == j0) refl

@@ -14,6 +14,7 @@ use Rattle.rb_rules.proofs.QuietTicks.{IsNext, arrive-same, passed-next}
 use Rattle.rb_rules.proofs.Stamps.{Moves, stamp_of-is, stamp_le}
 use Rattle.rb_laws_events.proofs.PendingLists.{Hears, StandsAt, arrival-keeps, inbox-keeps}
 use Rattle.rb_laws_events.proofs.SameHeard.{Every, kept_as}
+use Rattle.rb_laws_events.proofs.SayLists.{every-to}
 
 -- node i of kind me in an open window, of which this is the last tick. `sent` gives what was sent to it of each source for the
 -- window so far, `next` what was sent for the one after it; `now` is the time of the last event, `a` the node's next busy tick
@@ -44,10 +45,6 @@ every-without P n [] e = none n
     none (suc n) = tt
 every-without P zero (x ∷ xs) e = e.1
 every-without P (suc n) (x ∷ xs) e = (e.0, every-without P n xs e.1)
-
-pub every-so : (P Q : Coming → Type 0) → ((x : Coming) → P x → Q x) → (xs : List Coming) → Every P xs → Every Q xs
-every-so P Q f [] e = tt
-every-so P Q f (x ∷ xs) e = (f x e.0, every-so P Q f xs e.1)
 
 pub every-stands : (P : Coming → Type 0) (n : ℕ) (c : Coming) (xs : List Coming) → StandsAt n c xs → Every P xs → P c
 every-stands P n c [] s e = absurd s
@@ -107,7 +104,7 @@ arrival-received sc me i last sent next now n c s a moves due r =
       is_next = subst (λ st. IsNext sc.sizes sc.plan me i st core.had a.tick) (sym e.0)
           (subst (λ m. IsNext sc.sizes sc.plan me i s.core.state m a.tick) (sym (e.1 ∙ had)) next_is);
       in_window = r.in_window;
-      behind = every-so (λ x. c.time ≤ x.time) (λ x. (m : ℕ) → core.had ≡ suc m → time_of clock m < x.time)
+      behind = every-to (λ x. c.time ≤ x.time) (λ x. (m : ℕ) → core.had ≡ suc m → time_of clock m < x.time)
           (λ x le m q. let hk : k ≡ suc m = sym (e.1 ∙ had) ∙ q in let lt : time_of clock m < c.time = is.least m (omega arith) in omega arith)
           (remove s.coming n) (every-without (λ x. c.time ≤ x.time) n s.coming due.least);
       passed = λ m q. let hk : k ≡ suc m = sym (e.1 ∙ had) ∙ q in let lt : time_of clock m < c.time = is.least m (omega arith) in omega arith;

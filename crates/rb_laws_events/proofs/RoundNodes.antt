@@ -1,16 +1,15 @@
 -- For the law that events are rounds: in every moment of the rounds each good node is in the moment's
 -- frame, and knows the middles of the windows passed.
-use Rattle.std.proofs.Common.{◌≡◌, ℕ, zero, suc, ◌+◌, ◌-◌, ◌*◌, ◌/◌, ◌<◌, ◌≤◌, ◌==◌, ◌&&◌, nat_lt, min, Bool, true, false, List, [], ◌∷◌, length, refl, subst, inl, inr, sym, ◌∙◌, ap, arith, Option, Some, None, get_or, slice_get, option_map, is_some}
+use Rattle.std.proofs.Common.{◌≡◌, ℕ, zero, suc, ◌+◌, ◌-◌, ◌*◌, ◌/◌, ◌<◌, ◌≤◌, ◌==◌, nat_lt, min, Bool, true, false, List, [], ◌∷◌, length, refl, subst, inl, inr, sym, ◌∙◌, ap, arith, Option, Some, None, slice_get, is_some}
 use Rattle.std.proofs.lemmas.Bool.{cases_lt}
 use Rattle.std.proofs.lemmas.Bool.Decides.{nat_tests}
-use Rattle.std.proofs.lemmas.List.FromFn.{length-map-range_with_len}
+use Rattle.std.proofs.lemmas.Option.{same_Some}
 use Rattle.rb_base.specs.Nodes.{Side}
-use Rattle.rb_base.specs.Nodes.Side.{Biu, Rmu}
 use Rattle.rb_base.specs.Sizes.{Sizes, sync_slot_of}
 use Rattle.rb_rules.specs.declared.plan.Plan.{Plan}
 use Rattle.rb_rules.specs.Book.{Book, of_kind, each_of}
 use Rattle.rb_rules.specs.Conviction.{turn}
-use Rattle.rb_rules.specs.Goodness.{Scenario, onsets_of, is_before, is_good}
+use Rattle.rb_rules.specs.Goodness.{Scenario, is_good}
 use Rattle.rb_rules.specs.Hearing.{window_numbered}
 use Rattle.rb_rules.specs.NodeState.{NodeState, first_state}
 use Rattle.rb_rules.specs.NodeSteps.{turn_if_known}
@@ -21,6 +20,9 @@ use Rattle.rb_rules.specs.SyncStage.{new_epoch_of}
 use Rattle.rb_rules.proofs.Books.{stepped}
 use Rattle.rb_rules.proofs.RoundStates.{state-after, state-turned, through-stays, Knows, knows-none, HasTicks, numbered-knows}
 use Rattle.rb_rules.proofs.WindowNumbers.{length-each, get-made, exact-numbered, sync-numbered}
+use Rattle.rb_laws_agreement.proofs.Goodnesses.{good_before, good_counts, good_earlier}
+use Rattle.rb_laws_agreement.proofs.FrameAgrees.{epoch-known}
+use Rattle.rb_laws_events.proofs.WorldNodes.{first-counts}
 
 -- Places.
 
@@ -50,42 +52,6 @@ slot-is sizes plan me st n =
           ∙ sym (min-second (n / 3) (sync_slot_of sizes) (omega arith))
     ]
 
-before-same : (o : Option (ℕ × ℕ)) (frame a b : ℕ) → a ≤ b → is_before o frame b ≡ true → is_before o frame a ≡ true
-before-same None frame a b h g = refl
-before-same (Some onset) frame a b h g = grind (arith, nat_tests)
-
-before-earlier : (o : Option (ℕ × ℕ)) (frame later a b : ℕ) → frame < later → is_before o later b ≡ true → is_before o frame a ≡ true
-before-earlier None frame later a b h g = refl
-before-earlier (Some onset) frame later a b h g = grind (arith, nat_tests)
-
-and-parts : (a b : Bool) → (a && b) ≡ true → (a ≡ true) × (b ≡ true)
-and-parts true b h = (refl, h)
-and-parts false b h = cc
-
-and-both : (a b : Bool) → a ≡ true → b ≡ true → (a && b) ≡ true
-and-both a b h k = rw (h, k) refl
-
--- a node that is good in a slot was good in the earlier ones of the frame
-pub good-same : (sc : Scenario) (me : Side) (i frame a b : ℕ) → a ≤ b → is_good sc me i frame b ≡ true → is_good sc me i frame a ≡ true
-good-same sc me i frame a b h g =
-    let parts = and-parts (nat_lt i (count_of me sc.sizes)) (is_before (get_or (onsets_of me sc) i None) frame b) g in
-    and-both (nat_lt i (count_of me sc.sizes)) (is_before (get_or (onsets_of me sc) i None) frame a) parts.0
-    (before-same (get_or (onsets_of me sc) i None) frame a b h parts.1)
-
--- and in every slot of the earlier frames
-pub good-earlier : (sc : Scenario) (me : Side) (i frame later a b : ℕ) → frame < later → is_good sc me i later b ≡ true → is_good sc me i frame a ≡ true
-good-earlier sc me i frame later a b h g =
-    let parts = and-parts (nat_lt i (count_of me sc.sizes)) (is_before (get_or (onsets_of me sc) i None) later b) g in
-    and-both (nat_lt i (count_of me sc.sizes)) (is_before (get_or (onsets_of me sc) i None) frame a) parts.0
-    (before-earlier (get_or (onsets_of me sc) i None) frame later a b h parts.1)
-
--- there is a node of this number
-pub good-counts : (sc : Scenario) (me : Side) (i frame slot : ℕ) → is_good sc me i frame slot ≡ true → i < count_of me sc.sizes
-good-counts sc me i frame slot g =
-    let parts = and-parts (nat_lt i (count_of me sc.sizes)) (is_before (get_or (onsets_of me sc) i None) frame slot) g in
-    let first : nat_lt i (count_of me sc.sizes) ≡ true = parts.0 in
-    grind (arith, nat_tests)
-
 -- Moments.
 
 -- what holds of a good node in its moment
@@ -100,18 +66,11 @@ pub record AllStand (sc : Scenario) (m : Moment) : Type 0 where
   pub stands : (me : Side) (i : ℕ) (st : NodeState) → slice_get (of_kind me m.nodes) i ≡ Some st
       → is_good sc me i m.frame (slot_numbered sc.sizes m.window) ≡ true → Stands sc m me st
 
-pub some-same : {X : Type 0} (a b : X) → Some a ≡ Some b → a ≡ b
-some-same a b h = cc
-
 -- there is an item at each number below the length
 pub item-at : {X : Type 0} (xs : List X) (i : ℕ) → i < length xs → (x : X) × (slice_get xs i ≡ Some x)
 item-at [] i h = absurd (omega arith)
 item-at (x ∷ xs) zero h = (x, refl)
 item-at (x ∷ xs) (suc i) h = item-at xs i (omega arith)
-
-counts-made : {X : Type 0} (sizes : Sizes) (make : Side → ℕ → X) (me : Side) → length (of_kind me (each_of sizes make)) ≡ count_of me sizes
-counts-made sizes make Biu = length-map-range_with_len (make Biu) 0 sizes.bius
-counts-made sizes make Rmu = length-map-range_with_len (make Rmu) 0 sizes.rmus
 
 first-knows : (sizes : Sizes) (me : Side) → Knows sizes me 0 (first_state sizes me)
 first-knows sizes me = record { k1 = sym (knows-none sizes me 1); k2 = sym (knows-none sizes me 2); k3 = sym (knows-none sizes me 3) }
@@ -120,11 +79,11 @@ first-stand : (sc : Scenario) (hands : List HandIn) → AllStand sc (first_momen
 unfolding begin_frame
 first-stand sc hands = record {
   window = omega arith;
-  counts = counts-made sc.sizes (λ me i. first_state sc.sizes me);
+  counts = first-counts sc.sizes (λ me i. first_state sc.sizes me);
   stands = λ me i st there good.
       let made : slice_get (of_kind me (each_of sc.sizes (λ me i. first_state sc.sizes me))) i ≡ Some (first_state sc.sizes me) =
-      get-made sc.sizes (λ me i. first_state sc.sizes me) me i (good-counts sc me i 0 (slot_numbered sc.sizes 0) good) in
-      let same : first_state sc.sizes me ≡ st = some-same (first_state sc.sizes me) st (sym made ∙ there) in
+      get-made sc.sizes (λ me i. first_state sc.sizes me) me i (good_counts sc me i 0 (slot_numbered sc.sizes 0) good) in
+      let same : first_state sc.sizes me ≡ st = same_Some (first_state sc.sizes me) st (sym made ∙ there) in
       subst (λ st. Stands sc (first_moment sc hands) me st) same (record { frame = refl; knows = first-knows sc.sizes me });
 }
 
@@ -137,13 +96,13 @@ window-stand sc m ticks below h = record {
       ∙ length-each (λ me i st. go_through sc m (sent_in sc m) me i st (window_in sc m me st)) m.nodes me ∙ h.counts me;
   stands = λ me i st there good.
       let long : length (of_kind me m.nodes) ≡ count_of me sc.sizes = h.counts me in
-      let counted : i < count_of me sc.sizes = good-counts sc me i m.frame (slot_numbered sc.sizes (m.window + 1)) good in
+      let counted : i < count_of me sc.sizes = good_counts sc me i m.frame (slot_numbered sc.sizes (m.window + 1)) good in
       let within : i < length (of_kind me m.nodes) = omega arith in
       let old = item-at (of_kind me m.nodes) i within in
       let now : NodeState = (go_through sc m (sent_in sc m) me i old.0 (window_in sc m me old.0)).state in
-      let same : now ≡ st = some-same now st (sym (state-after sc m me i old.0 old.1) ∙ there) in
+      let same : now ≡ st = same_Some now st (sym (state-after sc m me i old.0 old.1) ∙ there) in
       let before : is_good sc me i m.frame (slot_numbered sc.sizes m.window) ≡ true =
-      good-same sc me i m.frame (slot_numbered sc.sizes m.window) (slot_numbered sc.sizes (m.window + 1)) (omega arith) good in
+      good_earlier sc me i m.frame (slot_numbered sc.sizes m.window) (slot_numbered sc.sizes (m.window + 1)) (omega arith) good in
       let stood : Stands sc m me old.0 = h.stands me i old.0 old.1 before in
       let here : is_good sc me i m.frame (window_in sc m me old.0).slot ≡ true =
       ap (is_good sc me i m.frame) (slot-is sc.sizes sc.plan me old.0 m.window) ∙ before in
@@ -152,20 +111,6 @@ window-stand sc m ticks below h = record {
         knows = numbered-knows sc m (sent_in sc m) me i m.window old.0 ticks below here stood.knows;
       });
 }
-
-map-some : {X Y : Type 0} (f : X → Y) (o : Option X) → is_some (option_map f o) ≡ is_some o
-map-some f None = refl
-map-some f (Some x) = refl
-
-less-true : (a b : ℕ) → a < b → nat_lt a b ≡ true
-less-true a b h = grind (arith, nat_tests)
-
--- at the end of a frame a node knows its next epoch
-pub epoch-known : (sizes : Sizes) (plan : Plan) (me : Side) (st : NodeState) → Knows sizes me (windows_in sizes) st → is_some (new_epoch_of plan me st) ≡ true
-epoch-known sizes plan Biu st h =
-    map-some (λ k2. k2 + plan.v + plan.z + plan.c) st.k2 ∙ h.k2 ∙ less-true (3 * sync_slot_of sizes + 2 - 1) (windows_in sizes) (omega arith)
-epoch-known sizes plan Rmu st h =
-    map-some (λ k3. k3 + plan.z) st.k3 ∙ h.k3 ∙ less-true (3 * sync_slot_of sizes + 3 - 1) (windows_in sizes) (omega arith)
 
 turned-by : (sizes : Sizes) (probation : ℕ) (me : Side) (st : NodeState) (o : Option ℕ) → is_some o ≡ true
     → (e : ℕ) × ((elim o as (λ _. NodeState) [ None ↦ st | Some epoch ↦ turn sizes probation me epoch st ]) ≡ turn sizes probation me e st)
@@ -188,7 +133,7 @@ turned-stand : (sc : Scenario) (hands : List HandIn) (m : Moment) (me : Side) (i
 unfolding begin_frame
 turned-stand sc hands m me i old st full was is stood =
     let now : NodeState = turn_if_known sc.sizes sc.plan me old in
-    let same : now ≡ st = some-same now st (sym (state-turned sc hands m me i old was) ∙ is) in
+    let same : now ≡ st = same_Some now st (sym (state-turned sc hands m me i old was) ∙ is) in
     let known : is_some (new_epoch_of sc.plan me old) ≡ true =
     epoch-known sc.sizes sc.plan me old (subst (λ n. Knows sc.sizes me n old) full stood.knows) in
     let by = turned-by sc.sizes sc.plan.probation me old (new_epoch_of sc.plan me old) known in
@@ -208,11 +153,11 @@ frame-stand sc hands m over h =
       counts = λ me. length-each (λ me i st. turn_if_known sc.sizes sc.plan me st) m.nodes me ∙ h.counts me;
       stands = λ me i st there good.
           let long : length (of_kind me m.nodes) ≡ count_of me sc.sizes = h.counts me in
-          let counted : i < count_of me sc.sizes = good-counts sc me i (m.frame + 1) (slot_numbered sc.sizes 0) good in
+          let counted : i < count_of me sc.sizes = good_counts sc me i (m.frame + 1) (slot_numbered sc.sizes 0) good in
           let within : i < length (of_kind me m.nodes) = omega arith in
           let old = item-at (of_kind me m.nodes) i within in
           let before : is_good sc me i m.frame (slot_numbered sc.sizes m.window) ≡ true =
-          good-earlier sc me i m.frame (m.frame + 1) (slot_numbered sc.sizes m.window) (slot_numbered sc.sizes 0) (omega arith) good in
+          good_before sc me i m.frame (m.frame + 1) (slot_numbered sc.sizes m.window) (slot_numbered sc.sizes 0) (omega arith) good in
           turned-stand sc hands m me i old.0 st full old.1 there (h.stands me i old.0 old.1 before);
     }
 

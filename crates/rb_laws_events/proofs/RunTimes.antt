@@ -1,6 +1,7 @@
 -- For the law that events are rounds: in a run that has not ended good nodes are in time.
 use Rattle.std.proofs.Common.{◌≡◌, ℕ, suc, ◌+◌, ◌*◌, ◌≤◌, ◌<◌, true, List, refl, ap, sym, ◌∙◌, subst, arith, inl, inr, Some, slice_get}
 use Rattle.std.proofs.lemmas.Bool.{cases_lt}
+use Rattle.std.proofs.lemmas.Option.{same_Some}
 use Rattle.rb_base.specs.Nodes.{Side, other}
 use Rattle.rb_base.specs.Sizes.{Sizes, sync_slot_of}
 use Rattle.rb_rules.specs.declared.plan.Plan.{Plan}
@@ -21,16 +22,17 @@ use Rattle.rb_laws_synchrony.proofs.CallTicks.{all_know_next}
 use Rattle.rb_laws_synchrony.proofs.StageCalls.{clock_now}
 use Rattle.rb_laws_synchrony.proofs.SyncLaws.{all_timely}
 use Rattle.rb_laws_synchrony.proofs.Synchronous.{KnowsEpoch}
+use Rattle.rb_laws_agreement.proofs.ExactAgrees.{has_ticks}
 use Rattle.rb_laws_events.specs.Closing.{HaveBegunAFrame, stages_in}
-use Rattle.rb_laws_events.proofs.CloseOrder.{IsWindowLater, WasGood, has-ticks, was-good, window-later}
+use Rattle.rb_laws_events.proofs.CloseOrder.{IsWindowLater, WasGood, was-good, window-later}
 use Rattle.rb_laws_events.proofs.FrameTimes.{BegunWell, KnewEpoch, begun-well, good-node, knew-epoch, node-in}
 use Rattle.rb_laws_events.proofs.Invariant.{ComesInWindow, ComesLater, InTime, entry_of, is_good_at, last_tick, next_stage}
 use Rattle.rb_laws_events.proofs.MomentSteps.{NextIsStage, good-state, next-inner, next-is-stage, next-outer}
 use Rattle.rb_laws_events.proofs.NodeClosing.{good-in-sync}
 use Rattle.rb_laws_events.proofs.NodeTicks.{tail-first}
-use Rattle.rb_laws_events.proofs.Receiving.{every-so}
-use Rattle.rb_laws_events.proofs.RoundNodes.{Stands, moments-stand, some-same}
+use Rattle.rb_laws_events.proofs.RoundNodes.{Stands, moments-stand}
 use Rattle.rb_laws_events.proofs.SameHeard.{Every}
+use Rattle.rb_laws_events.proofs.SayLists.{every-to}
 use Rattle.rb_laws_events.proofs.StageOrder.{last_of}
 use Rattle.rb_laws_events.proofs.StageTimes.{keeps-exact, keeps-running, stage-room, tail-room}
 use Rattle.rb_laws_events.proofs.TickWindows.{Tiles, first_of, get-window, tiles, ends-before-later}
@@ -59,7 +61,7 @@ pub in-exact : (sc : Scenario) (hands : List HandIn) → IsLawful sc → (p : �
     → InTime sc (moment sc hands p) (moment sc hands (next_stage sc.sizes (moment sc hands p) p))
 in-exact sc hands lawful p well early =
     let m : Moment = moment sc hands p in
-    let ticks : HasTicks sc.plan = has-ticks sc lawful in
+    let ticks : HasTicks sc.plan = has_ticks sc lawful in
     let is : next_stage sc.sizes m p ≡ suc p = next-inner sc.sizes m p (omega arith) in
     subst (λ q. InTime sc m (moment sc hands q)) (sym is) (record {
       keeps = λ me i st there good.
@@ -77,7 +79,7 @@ pub exact-later : (sc : Scenario) (hands : List HandIn) → IsLawful sc → (p :
 exact-later sc hands lawful p well below =
     later-is sc hands p (suc p) (next-inner sc.sizes (moment sc hands p) p (omega arith))
     (λ me i j st there good source_good.
-    let source = good-state sc hands (suc p) (other me) j (has-ticks sc lawful) source_good in
+    let source = good-state sc hands (suc p) (other me) j (has_ticks sc lawful) source_good in
     later-exact sc hands lawful p well.together below me i j st source.0 there good source.1 source_good)
 
 -- In the sync slot.
@@ -88,7 +90,7 @@ pub heard-running : (sc : Scenario) (hands : List HandIn) → IsLawful sc → (p
     → is_good_at sc (moment sc hands p) (other me) j ≡ true → Every (ComesInWindow sc (moment sc hands p) me i st) (entry_of sc (moment sc hands p) me i j)
 heard-running sc hands lawful p running within me i j st there good source_good =
     let m : Moment = moment sc hands p in
-    let ticks : HasTicks sc.plan = has-ticks sc lawful in
+    let ticks : HasTicks sc.plan = has_ticks sc lawful in
     let source = good-state sc hands p (other me) j ticks source_good in
     let stood : Stands sc m me st = (moments-stand sc hands p ticks).stands me i st there good in
     timely-heard sc m me i j st source.0 (clock_now sc lawful m me i st (good-node sc m me i st there good)).moves (all_timely sc hands lawful p running (omega arith))
@@ -97,7 +99,7 @@ heard-running sc hands lawful p running within me i j st there good source_good 
 -- the window of a stage is that of every state
 same-window : (sizes : Sizes) (plan : Plan) (me : Side) (a b : NodeState) (n : ℕ) → n < stages_in sizes → window_numbered sizes plan me a n ≡ window_numbered sizes plan me b n
 same-window sizes plan me a b n h =
-    some-same (window_numbered sizes plan me a n) (window_numbered sizes plan me b n) (sym (get-window sizes plan me a n h) ∙ get-window sizes plan me b n h)
+    same_Some (window_numbered sizes plan me a n) (window_numbered sizes plan me b n) (sym (get-window sizes plan me a n h) ∙ get-window sizes plan me b n h)
 
 -- what is sent in the next stage comes after the window, as it comes in its own
 later-sync : (sc : Scenario) (hands : List HandIn) → IsLawful sc → (p : ℕ) → IsRunning (moment sc hands (suc p)) → 3 * sync_slot_of sc.sizes ≤ (moment sc hands p).window
@@ -109,20 +111,20 @@ later-sync sc hands lawful p running from below me i j st there good source_good
     let m : Moment = moment sc hands p in
     let m2 : Moment = moment sc hands (suc p) in
     let n : ℕ = m.window in
-    let ticks : HasTicks sc.plan = has-ticks sc lawful in
+    let ticks : HasTicks sc.plan = has_ticks sc lawful in
     let next : IsWindowLater sc m m2 = window-later sc hands m (omega arith) in
     let w : m2.window ≡ n + 1 = next.window in
     let good2 : is_good_at sc m2 me i ≡ true = good-in-sync sc hands me i p (omega arith) from good in
     let now = good-state sc hands (suc p) me i ticks good2 in
     let was : WasGood sc m me i now.0.epoch = was-good sc hands m me i now.0 (omega arith) (moments-stand sc hands p ticks) (good-in sc m2 me i now.0 now.1 good2) in
-    let same : was.st ≡ st = some-same was.st st (sym was.good.0 ∙ there) in
+    let same : was.st ≡ st = same_Some was.st st (sym was.good.0 ∙ there) in
     let epoch : now.0.epoch ≡ st.epoch = was.epoch_is ∙ ap (λ s. s.epoch) same in
     let first : first_of sc.sizes sc.plan me now.0 m2.window ≡ first_of sc.sizes sc.plan me st (n + 1) =
     ap (first_of sc.sizes sc.plan me now.0) w ∙ ap (λ (w : Window). w.first) (same-window sc.sizes sc.plan me now.0 st (n + 1) below) in
     let tile : Tiles sc.sizes sc.plan me st n = tiles sc.sizes sc.plan me st n ticks (omega arith) in
     let next_is : first_of sc.sizes sc.plan me st (n + 1) ≡ last_of sc.sizes sc.plan me st n + 1 = tile.next in
     let all : Every (ComesInWindow sc m2 me i now.0) (entry_of sc m2 me i j) = heard-running sc hands lawful (suc p) running (omega arith) me i j now.0 now.1 good2 source_good in
-    every-so (ComesInWindow sc m2 me i now.0) (λ c. time_of (clock_of sc me i) (last_tick sc m me st) < c.time)
+    every-to (ComesInWindow sc m2 me i now.0) (λ c. time_of (clock_of sc me i) (last_tick sc m me st) < c.time)
     (λ c h. h.0 (last_tick sc m me st) (omega (arith, epoch, first, next_is))) (entry_of sc m2 me i j) all
 
 in-sync : (sc : Scenario) (hands : List HandIn) → IsLawful sc → (p : ℕ) → IsRunning (moment sc hands (suc p)) → 3 * sync_slot_of sc.sizes ≤ (moment sc hands p).window
@@ -159,10 +161,10 @@ begins-frame sc hands lawful p last running me i before now good then_good =
     let turns : Turns sc hands (suc p) = turns-at sc hands lawful (suc p) (omega arith) running in
     let knew : KnewEpoch sc t me i now.epoch = knew-epoch sc hands lawful (suc p) turns.at running me i now (node-in sc (moment sc hands (suc (suc (suc p)))) me i now then_good) in
     let k : KnowsEpoch sc me i knew.st turns.next.0 = turns.next.1 me i knew.st knew.node in
-    let same : k.takes.epoch ≡ now.epoch = some-same k.takes.epoch now.epoch (sym k.takes.known ∙ knew.known) in
+    let same : k.takes.epoch ≡ now.epoch = same_Some k.takes.epoch now.epoch (sym k.takes.known ∙ knew.known) in
     let was : WasGood sc m me i knew.st.epoch =
-    was-good sc hands m me i knew.st (omega arith) (moments-stand sc hands p (has-ticks sc lawful)) (good-in sc t me i knew.st knew.node.there knew.node.good) in
-    let st_is : was.st ≡ before = some-same was.st before (sym was.good.0 ∙ good.0) in
+    was-good sc hands m me i knew.st (omega arith) (moments-stand sc hands p (has_ticks sc lawful)) (good-in sc t me i knew.st knew.node.there knew.node.good) in
+    let st_is : was.st ≡ before = same_Some was.st before (sym was.good.0 ∙ good.0) in
     let epoch : knew.st.epoch ≡ before.epoch = was.epoch_is ∙ ap (λ s. s.epoch) st_is in
     let least : knew.st.epoch + tail_start_of sc.sizes sc.plan ≤ k.takes.epoch = k.takes.least in
     omega (arith, same, epoch, least)
@@ -174,11 +176,11 @@ stage-ends : (sc : Scenario) (hands : List HandIn) → IsLawful sc → (p : ℕ)
 stage-ends sc hands lawful p last h me i st there good =
     let m : Moment = moment sc hands p in
     let t : Moment = moment sc hands (suc p) in
-    let ticks : HasTicks sc.plan = has-ticks sc lawful in
+    let ticks : HasTicks sc.plan = has_ticks sc lawful in
     let good2 : is_good_at sc t me i ≡ true = good-in-sync sc hands me i p (omega arith) (omega arith) good in
     let now = good-state sc hands (suc p) me i ticks good2 in
     let was : WasGood sc m me i now.0.epoch = was-good sc hands m me i now.0 (omega arith) (moments-stand sc hands p ticks) (good-in sc t me i now.0 now.1 good2) in
-    let same : was.st ≡ st = some-same was.st st (sym was.good.0 ∙ there) in
+    let same : was.st ≡ st = same_Some was.st st (sym was.good.0 ∙ there) in
     let epoch : now.0.epoch ≡ st.epoch = was.epoch_is ∙ ap (λ s. s.epoch) same in
     let k : KnowsEpoch sc me i now.0 h.next.0 = h.next.1 me i now.0 (good-node sc t me i now.0 now.1 good2) in
     let least : now.0.epoch + tail_start_of sc.sizes sc.plan ≤ k.takes.epoch = k.takes.least in
@@ -213,9 +215,9 @@ last-later sc hands lawful p last running =
     let turns : Turns sc hands (suc p) = turns-at sc hands lawful (suc p) (omega arith) running in
     later-is sc hands p (suc (suc (suc p))) is
     (λ me i j st there good source_good.
-    let source = good-state sc hands (suc (suc (suc p))) (other me) j (has-ticks sc lawful) source_good in
+    let source = good-state sc hands (suc (suc (suc p))) (other me) j (has_ticks sc lawful) source_good in
     let end : time_of (clock_of sc me i) (last_tick sc m me st) < turns.next.0 + sc.plan.p = stage-ends sc hands lawful p last turns me i st there good in
-    every-so (λ c. turns.next.0 + sc.plan.p ≤ c.time) (λ c. time_of (clock_of sc me i) (last_tick sc m me st) < c.time) (λ c le. omega arith)
+    every-to (λ c. turns.next.0 + sc.plan.p ≤ c.time) (λ c. time_of (clock_of sc me i) (last_tick sc m me st) < c.time) (λ c le. omega arith)
     (entry_of sc (moment sc hands (suc (suc (suc p)))) me i j) (sent-after-all sc hands lawful (suc p) turns me i j source.0 source.1 source_good))
 
 tail-later : (sc : Scenario) (hands : List HandIn) → IsLawful sc → (p : ℕ) → (moment sc hands p).window ≡ stages_in sc.sizes → IsRunning (moment sc hands (suc (suc p))) → AllLater sc hands p
@@ -225,9 +227,9 @@ tail-later sc hands lawful p at running =
     let turns : Turns sc hands p = turns-at sc hands lawful p at running in
     later-is sc hands p (suc (suc p)) is
     (λ me i j st there good source_good.
-    let source = good-state sc hands (suc (suc p)) (other me) j (has-ticks sc lawful) source_good in
+    let source = good-state sc hands (suc (suc p)) (other me) j (has_ticks sc lawful) source_good in
     let end : time_of (clock_of sc me i) (last_tick sc m me st) < turns.next.0 + sc.plan.p = tail-ends sc hands lawful p turns me i st there good in
-    every-so (λ c. turns.next.0 + sc.plan.p ≤ c.time) (λ c. time_of (clock_of sc me i) (last_tick sc m me st) < c.time) (λ c le. omega arith)
+    every-to (λ c. turns.next.0 + sc.plan.p ≤ c.time) (λ c. time_of (clock_of sc me i) (last_tick sc m me st) < c.time) (λ c le. omega arith)
     (entry_of sc (moment sc hands (suc (suc p))) me i j) (sent-after-all sc hands lawful p turns me i j source.0 source.1 source_good))
 
 in-tail : (sc : Scenario) (hands : List HandIn) → IsLawful sc → (p : ℕ) → (moment sc hands p).window ≡ stages_in sc.sizes → IsRunning (moment sc hands (suc (suc p)))

@@ -2,6 +2,7 @@
 use Rattle.std.proofs.Common.{◌≡◌, ℕ, zero, suc, ◌+◌, ◌*◌, ◌^◌, ◌<◌, ◌≤◌, ◌==◌, ◌&&◌, Bool, true, false, List, [], ◌∷◌, ◌++◌, length, map, refl, sym, ◌∙◌, subst, arith, Option, Some, None, slice_get}
 use Rattle.std.specs.List.{range_with_len}
 use Rattle.std.proofs.lemmas.Nat.{mul-le}
+use Rattle.std.proofs.lemmas.Option.{same_Some}
 use Rattle.rb_base.specs.Nodes.{Side}
 use Rattle.rb_base.specs.Nodes.Side.{Biu, Rmu}
 use Rattle.rb_rules.specs.Book.{of_kind}
@@ -21,7 +22,7 @@ use Rattle.rb_laws_events.proofs.OneEvent.{all-pend, up-there}
 use Rattle.rb_laws_events.proofs.OneTake.{StandsInRounds}
 use Rattle.rb_laws_events.proofs.Takes.{LeavesFew, all_left, arrival-left, enter-few, left_of, message-left, one-less, sum_left, tick-left, ticks_left}
 use Rattle.rb_laws_events.proofs.WorldNodes.{events-due, settle-sites}
-use Rattle.rb_laws_events.proofs.WorldStands.{AllPend, IsUp, sent_by, some-same}
+use Rattle.rb_laws_events.proofs.WorldStands.{AllPend, IsUp, sent_by}
 
 -- A take.
 
@@ -36,7 +37,7 @@ in-rounds-left sc w h = record {
   counts = h.stands.sites.counts;
   left = λ me i s a there pend first.
       let up : IsUp sc w.hands (sent_by sc w.hands h.at w.sites) h.now me i (h.at me i) s = up-there sc h.now h.at w me i s a h.stands.sites there pend in
-      let same : up.a ≡ a = some-same up.a a (sym up.stands.receives.pends ∙ pend) in
+      let same : up.a ≡ a = same_Some up.a a (sym up.stands.receives.pends ∙ pend) in
       subst (λ (a : Timed). (s.core.had ≤ a.tick) × (a.tick < 2 ^ 31)) same (up.stands.receives.is_next.later, up.stands.receives.is_next.below);
 }
 

@@ -1,8 +1,8 @@
 -- For the law that events are rounds: what nodes that are not good say in a window that opens: it comes in the
 -- window, and stands together with what good nodes have already sent for it.
-use Rattle.std.proofs.Common.{◌≡◌, ℕ, zero, suc, ◌+◌, ◌<◌, ◌≤◌, ◌==◌, ◌&&◌, ◌⊎◌, nat_le, nat_lt, Bool, true, false, cond, All, List, [], ◌∷◌, ◌++◌, filter, flat_map, map, length, refl, ap, sym, ◌∙◌, subst, arith, inl, inr}
+use Rattle.std.proofs.Common.{◌≡◌, ℕ, zero, suc, ◌+◌, ◌<◌, ◌≤◌, ◌==◌, ◌&&◌, ◌⊎◌, nat_le, Bool, true, false, cond, All, List, [], ◌∷◌, ◌++◌, filter, flat_map, map, length, refl, ap, sym, ◌∙◌, subst, arith, inl, inr}
 use Rattle.std.specs.List.{range_with_len}
-use Rattle.std.proofs.lemmas.Bool.{cases_lt, and_parts, leb-true}
+use Rattle.std.proofs.lemmas.Bool.{and_parts, cases_lt, eq-eqb, le-leb, le-ltb, leb-true}
 use Rattle.std.proofs.lemmas.Bool.Decides.{nat_tests}
 use Rattle.std.proofs.lemmas.List.{append-nil}
 use Rattle.std.proofs.lemmas.List.Elements.{filter-append, All-head, All-tail}
@@ -11,6 +11,7 @@ use Rattle.rb_base.specs.Nodes.Side.{Biu, Rmu}
 use Rattle.rb_base.specs.Sizes.{Sizes}
 use Rattle.rb_base.specs.declared.node.NodeName.{NodeName}
 use Rattle.rb_base.specs.declared.node.NodeName.TheVariants as node
+use Rattle.rb_base.proofs.Plain.{and-false}
 use Rattle.rb_rules.specs.declared.message.Version.{Version}
 use Rattle.rb_rules.specs.declared.say.Say.{Say}
 use Rattle.rb_rules.specs.Clock.{Timeline, tick_length, time_of}
@@ -104,11 +105,11 @@ said-from sc me i span j = map-from j (coming_said sc.plan.version (clock_of sc 
 
 -- Lists by source.
 
-filter-all : (q : Coming → Bool) (xs : List Coming) → Every (λ c. q c ≡ true) xs → filter q xs ≡ xs
+pub filter-all : (q : Coming → Bool) (xs : List Coming) → Every (λ c. q c ≡ true) xs → filter q xs ≡ xs
 filter-all q [] e = refl
 filter-all q (x ∷ xs) e = ap (λ b. cond b (x ∷ filter q xs) (filter q xs)) e.0 ∙ ap (λ l. x ∷ l) (filter-all q xs e.1)
 
-filter-no : (q : Coming → Bool) (xs : List Coming) → Every (λ c. q c ≡ false) xs → filter q xs ≡ []
+pub filter-no : (q : Coming → Bool) (xs : List Coming) → Every (λ c. q c ≡ false) xs → filter q xs ≡ []
 filter-no q [] e = refl
 filter-no q (x ∷ xs) e = ap (λ b. cond b (x ∷ filter q xs) (filter q xs)) e.0 ∙ filter-no q xs e.1
 
@@ -120,18 +121,9 @@ pub every-both : (P Q : Coming → Type 0) (xs : List Coming) → Every P xs →
 every-both P Q [] a b = tt
 every-both P Q (x ∷ xs) a b = ((a.0, b.0), every-both P Q xs a.1 b.1)
 
-same-true : (a b : ℕ) → a ≡ b → (a == b) ≡ true
-same-true a b h = grind (arith, nat_tests)
-
 not-same : (a j k : ℕ) → a ≡ k → (k < j) ⊎ (j < k) → (a == j) ≡ false
 not-same a j k e (inl lt) = grind (arith, nat_tests)
 not-same a j k e (inr gt) = grind (arith, nat_tests)
-
-le-true : (a b : ℕ) → a ≤ b → nat_le a b ≡ true
-le-true a b h = grind (arith, nat_tests)
-
-lt-false : (a b : ℕ) → b ≤ a → nat_lt a b ≡ false
-lt-false a b h = grind (arith, nat_tests)
 
 -- of another source nothing passes
 others-now : (j k u : ℕ) (xs : List Coming) → (k < j) ⊎ (j < k) → Every (λ c. c.from ≡ k) xs → filter (is_now j u) xs ≡ []
@@ -143,16 +135,12 @@ own-now : (j u : ℕ) (xs : List Coming) → Every (λ c. c.from ≡ j) xs → E
 own-now j u xs e times =
     filter-all (is_now j u) xs
     (every-to (λ c. (c.from ≡ j) × (c.time ≤ u)) (λ c. is_now j u c ≡ true)
-    (λ c h. ap (λ b. b && nat_le c.time u) (same-true c.from j h.0) ∙ le-true c.time u h.1) xs (every-both (λ c. c.from ≡ j) (λ c. c.time ≤ u) xs e times))
-
-and-none : (b : Bool) → (b && false) ≡ false
-and-none true = refl
-and-none false = refl
+    (λ c h. ap (λ b. b && nat_le c.time u) (eq-eqb c.from j h.0) ∙ le-leb c.time u h.1) xs (every-both (λ c. c.from ≡ j) (λ c. c.time ≤ u) xs e times))
 
 none-later : (j u : ℕ) (xs : List Coming) → Every (λ c. c.time ≤ u) xs → filter (is_later j u) xs ≡ []
 none-later j u xs times =
     filter-no (is_later j u) xs
-    (every-to (λ c. c.time ≤ u) (λ c. is_later j u c ≡ false) (λ c le. ap (λ b. (c.from == j) && b) (lt-false u c.time le) ∙ and-none (c.from == j)) xs times)
+    (every-to (λ c. c.time ≤ u) (λ c. is_later j u c ≡ false) (λ c le. ap (λ b. (c.from == j) && b) (le-ltb u c.time le) ∙ and-false (c.from == j)) xs times)
 
 flat-miss : (j u : ℕ) (f : ℕ → List Coming) (a n : ℕ) → ((k : ℕ) → Every (λ c. c.from ≡ k) (f k)) → (j < a) ⊎ (a + n ≤ j)
     → filter (is_now j u) (flat_map f (range_with_len a n)) ≡ []
@@ -236,7 +224,7 @@ says-now sc lawful me i span lengths j =
     none true ge = refl
     none false ge = none-said sc lawful me i j span ge
 
-each-itself : (xs ys : List Coming) → ((x : Coming) → IsOneOf x xs → IsOneOf x ys) → Every (λ c. IsOneOf c ys) xs
+pub each-itself : (xs ys : List Coming) → ((x : Coming) → IsOneOf x xs → IsOneOf x ys) → Every (λ c. IsOneOf c ys) xs
 each-itself [] ys f = tt
 each-itself (x ∷ xs) ys f = (f x (inl refl), each-itself xs ys (λ z h. f z (inr h)))
 

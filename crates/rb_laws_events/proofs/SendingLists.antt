@@ -1,12 +1,13 @@
 -- For the law that events are rounds: what was sent and what is pending stay together when a message
 -- goes out, and when a window opens.
-use Rattle.std.proofs.Common.{◌≡◌, ℕ, ◌+◌, ◌<◌, ◌≤◌, ◌==◌, nat_lt, nat_le, Bool, true, false, List, [], ◌∷◌, ◌++◌, filter, length, length-append, refl, sym, ◌∙◌, ap, subst, arith, inl, inr, cond}
+use Rattle.std.proofs.Common.{◌≡◌, ℕ, ◌+◌, ◌<◌, ◌≤◌, ◌==◌, nat_lt, nat_le, Bool, true, false, List, [], ◌∷◌, ◌++◌, filter, length, length-append, refl, sym, ◌∙◌, ap, subst, arith, inl, cond}
 use Rattle.std.proofs.lemmas.Bool.Decides.{nat_tests}
 use Rattle.std.proofs.lemmas.List.{append-nil}
 use Rattle.rb_rules.specs.Hearing.{Coming}
 use Rattle.rb_rules.specs.WorldStep.{coming_from}
 use Rattle.rb_laws_events.proofs.SameHeard.{IsOneOf, Every}
 use Rattle.rb_laws_events.proofs.PendingLists.{Hears, is_now, is_later, filter-last, each-append}
+use Rattle.rb_laws_events.proofs.SayLists.{each-itself}
 
 each-none : (P : Coming → Type 0) (xs : List Coming) → Every (λ c. IsOneOf c []) xs → Every P xs
 each-none P [] e = tt
@@ -86,10 +87,6 @@ none-later j t u (c ∷ cs) e =
       | false ↦ λ f. rw f refl
     ] in
     ap (λ b. cond b (c ∷ filter (is_later j u) cs) (filter (is_later j u) cs)) (go (c.from == j) refl) ∙ none-later j t u cs e.1
-
-each-itself : (xs ys : List Coming) → ((x : Coming) → IsOneOf x xs → IsOneOf x ys) → Every (λ c. IsOneOf c ys) xs
-each-itself [] ys f = tt
-each-itself (x ∷ xs) ys f = (f x (inl refl), each-itself xs ys (λ z h. f z (inr h)))
 
 -- a window opens: what was sent for the window to come is now for the open one
 pub opens : (j t u : ℕ) (got coming sent next : List Coming) → Every (OpensFor j t u) coming → Hears j t got coming sent next → Hears j u [] coming next []

@@ -1,9 +1,11 @@
 -- For the law that events are rounds: what a tick of a node changes of what it has sent in the rounds.
 use Rattle.std.proofs.Common.{◌≡◌, ℕ, zero, suc, ◌+◌, ◌*◌, ◌<◌, ◌≤◌, ◌==◌, ◌&&◌, ◌||◌, ◌⊎◌, nat_lt, Bool, true, false, List, [], ◌∷◌, refl, ap, sym, ◌∙◌, subst, arith, inl, inr, Option, Some, None, slice_get, option_map, get_or}
-use Rattle.std.proofs.lemmas.Bool.{cases_lt}
+use Rattle.std.proofs.lemmas.Bool.{cases_lt, eqb-true, le-ltb, lt-ltb}
 use Rattle.std.proofs.lemmas.Bool.Decides.{nat_tests}
+use Rattle.std.proofs.lemmas.Option.{get_or_from_slice_get}
 use Rattle.rb_base.specs.Nodes.{Side}
 use Rattle.rb_base.specs.Sizes.{Sizes, sync_slot_of}
+use Rattle.rb_base.proofs.Plain.{eq_self}
 use Rattle.rb_rules.specs.declared.message.Message.{Message}
 use Rattle.rb_rules.specs.declared.plan.Window.{Window}
 use Rattle.rb_rules.specs.Book.{of_kind, map_each}
@@ -26,17 +28,12 @@ past-end [] j d e = refl
 past-end (x ∷ xs) zero d e = cc
 past-end (x ∷ xs) (suc j) d e = past-end xs j d e
 
-there-is : {X : Type 0} (xs : List X) (j : ℕ) (x d : X) → slice_get xs j ≡ Some x → get_or xs j d ≡ x
-there-is [] j x d e = cc
-there-is (y ∷ ys) zero x d e = cc
-there-is (y ∷ ys) (suc j) x d e = there-is ys j x d e
-
 pub sending-of-is : (sc : Scenario) (m : Moment) (me : Side) (i : ℕ) (st : NodeState) → slice_get (of_kind me m.nodes) i ≡ Some st
     → sending_of sc m me i ≡ sending_at sc.sizes sc.plan me i st m.window (word_at sc m me i st)
 unfolding sent_in
 sending-of-is sc m me i st e =
     let make : Side → ℕ → NodeState → Option Sending = λ me i st. sending_in sc m me i st (window_in sc m me st) in
-    there-is (of_kind me (map_each make m.nodes)) i (make me i st) None (get-each make m.nodes me i ∙ ap (option_map (make me i)) e)
+    get_or_from_slice_get (of_kind me (map_each make m.nodes)) i (make me i st) None (get-each make m.nodes me i ∙ ap (option_map (make me i)) e)
 
 tail-numbered : (sizes : Sizes) (me : Side) (n : ℕ) → stages_in sizes ≤ n → n ≤ windows_in sizes → (n ≡ 3 * sync_slot_of sizes + 3) ⊎ (n ≡ 3 * sync_slot_of sizes + 4)
 tail-numbered sizes me n a b = elim (cases_lt n (3 * sync_slot_of sizes + 4)) [ inl lt ↦ inl (omega arith) | inr ge ↦ inr (omega arith) ]
@@ -92,15 +89,6 @@ pub record SaysNow (so : ℕ → Option Sending) (q k r : ℕ) (a : Timed) (b : 
   pub after : has_sent (so q) r b q ≡ true
   pub elsewhere : (p : ℕ) → (p == q) ≡ false → has_sent (so p) r b p ≡ has_sent (so p) q (Some a) p
 
-lt-is : (a b : ℕ) → a < b → nat_lt a b ≡ true
-lt-is a b h = grind (arith, nat_tests)
-
-lt-not : (a b : ℕ) → b ≤ a → nat_lt a b ≡ false
-lt-not a b h = grind (arith, nat_tests)
-
-itself : (a : ℕ) → (a == a) ≡ true
-itself a = grind (arith, nat_tests)
-
 differs : (a b : ℕ) → (a < b) ⊎ (b < a) → (a == b) ≡ false
 differs a b (inl h) = grind (arith, nat_tests)
 differs a b (inr h) = grind (arith, nat_tests)
@@ -108,23 +96,20 @@ differs a b (inr h) = grind (arith, nat_tests)
 other-than : (a b : ℕ) → (a == b) ≡ false → (a < b) ⊎ (b < a)
 other-than a b h = elim (cases_lt a b) [ inl lt ↦ inl lt | inr ge ↦ inr (grind (arith, nat_tests)) ]
 
-same-of : (a b : ℕ) → (a == b) ≡ true → a ≡ b
-same-of a b h = grind (arith, nat_tests)
-
 -- what has been sent in an earlier moment, in this one, in a later one
 pub sent-earlier : (o : Option Sending) (s : Sending) (q p : ℕ) (a : Option Timed) → o ≡ Some s → p < q → has_sent o q a p ≡ true
 sent-earlier None s q p a e h = cc
-sent-earlier (Some x) s q p a e h = ap (λ b. b || ((p == q) && is_past x.tick a)) (lt-is p q h)
+sent-earlier (Some x) s q p a e h = ap (λ b. b || ((p == q) && is_past x.tick a)) (lt-ltb p q h)
 
 pub sent-here : (o : Option Sending) (q : ℕ) (a : Option Timed) → has_sent o q a q ≡ past o a
 sent-here None q a = refl
 sent-here (Some s) q a =
-    ap (λ b. b || ((q == q) && is_past s.tick a)) (lt-not q q (omega arith)) ∙ ap (λ b. b && is_past s.tick a) (itself q)
+    ap (λ b. b || ((q == q) && is_past s.tick a)) (le-ltb q q (omega arith)) ∙ ap (λ b. b && is_past s.tick a) (eq_self q)
 
 pub sent-later : (o : Option Sending) (q p : ℕ) (a : Option Timed) → q < p → has_sent o q a p ≡ false
 sent-later None q p a h = refl
 sent-later (Some s) q p a h =
-    ap (λ b. b || ((p == q) && is_past s.tick a)) (lt-not p q (omega arith)) ∙ ap (λ b. b && is_past s.tick a) (differs p q (inr h))
+    ap (λ b. b || ((p == q) && is_past s.tick a)) (le-ltb p q (omega arith)) ∙ ap (λ b. b && is_past s.tick a) (differs p q (inr h))
 
 sent-before : (o : Option Sending) (q r p : ℕ) (a b : Option Timed) → p < q → p < r → has_sent o r b p ≡ has_sent o q a p
 sent-before None q r p a b h k = refl
@@ -160,8 +145,8 @@ if-some s k e = ap (λ b. elim b as (λ _. Option Message) [ true ↦ Some s.mes
 
 lt-same : (s : Sending) (k : ℕ) → (s.tick == k) ≡ false → nat_lt s.tick (k + 1) ≡ nat_lt s.tick k
 lt-same s k e = elim (other-than s.tick k e) [
-  | inl lt ↦ lt-is s.tick (k + 1) (omega arith) ∙ sym (lt-is s.tick k lt)
-  | inr gt ↦ lt-not s.tick (k + 1) (omega arith) ∙ sym (lt-not s.tick k (omega arith))
+  | inl lt ↦ lt-ltb s.tick (k + 1) (omega arith) ∙ sym (lt-ltb s.tick k lt)
+  | inr gt ↦ le-ltb s.tick (k + 1) (omega arith) ∙ sym (le-ltb s.tick k (omega arith))
 ]
 
 -- in its own moment
@@ -174,7 +159,7 @@ sent-own so q k r a b at steps None e =
           let go : (d : Bool) → (p == q) ≡ d → has_sent (so p) r b p ≡ has_sent (so p) q (Some a) p =
           λ d. elim d as (λ d. (p == q) ≡ d → has_sent (so p) r b p ≡ has_sent (so p) q (Some a) p) [
             | true ↦ λ f.
-                let none : so p ≡ None = ap so (same-of p q f) ∙ e in
+                let none : so p ≡ None = ap so (eqb-true p q f) ∙ e in
                 ap (λ o. has_sent o r b p) none ∙ sym (ap (λ o. has_sent o q (Some a) p) none)
             | false ↦ λ f. sent-elsewhere so q k r a b steps p f
           ] in
@@ -185,19 +170,19 @@ sent-own so q k r a b at steps (Some s) e =
     sent-here (so q) q (Some a) ∙ ap (λ o. past o (Some a)) e ∙ ap (nat_lt s.tick) at in
     let after : has_sent (so q) r b q ≡ nat_lt s.tick (k + 1) = elim steps.how [
       | inl stay ↦ ap (λ r. has_sent (so q) r b q) stay.0 ∙ sent-here (so q) q b ∙ sym stay.1 ∙ ap (λ o. gone o (k + 1)) e
-      | inr go ↦ let le : s.tick ≤ k = steps.all go.0 s e in sent-earlier (so q) s r q b e go.0 ∙ sym (lt-is s.tick (k + 1) (omega arith))
+      | inr go ↦ let le : s.tick ≤ k = steps.all go.0 s e in sent-earlier (so q) s r q b e go.0 ∙ sym (lt-ltb s.tick (k + 1) (omega arith))
     ] in
     let by : (d : Bool) → (s.tick == k) ≡ d → (SaysNothing so q k r a b) ⊎ (SaysNow so q k r a b) =
     λ d. elim d as (λ d. (s.tick == k) ≡ d → (SaysNothing so q k r a b) ⊎ (SaysNow so q k r a b)) [
       | true ↦ λ f.
-          let same : s.tick ≡ k = same-of s.tick k f in
+          let same : s.tick ≡ k = eqb-true s.tick k f in
           inr (record {
             message = s;
             is = e;
             tick = same;
             said = ap (if_at k) e ∙ if-some s k f;
-            before = before ∙ lt-not s.tick k (omega arith);
-            after = after ∙ lt-is s.tick (k + 1) (omega arith);
+            before = before ∙ le-ltb s.tick k (omega arith);
+            after = after ∙ lt-ltb s.tick (k + 1) (omega arith);
             elsewhere = λ p f. sent-elsewhere so q k r a b steps p f;
           })
       | false ↦ λ f.
@@ -207,7 +192,7 @@ sent-own so q k r a b at steps (Some s) e =
                 let go : (d : Bool) → (p == q) ≡ d → has_sent (so p) r b p ≡ has_sent (so p) q (Some a) p =
                 λ d. elim d as (λ d. (p == q) ≡ d → has_sent (so p) r b p ≡ has_sent (so p) q (Some a) p) [
                   | true ↦ λ g.
-                      let same : p ≡ q = same-of p q g in
+                      let same : p ≡ q = eqb-true p q g in
                       subst (λ p. has_sent (so p) r b p ≡ has_sent (so p) q (Some a) p) (sym same) (after ∙ lt-same s k f ∙ sym before)
                   | false ↦ λ g. sent-elsewhere so q k r a b steps p g
                 ] in

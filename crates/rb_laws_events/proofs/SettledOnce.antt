@@ -6,6 +6,7 @@ use Rattle.std.proofs.lemmas.List.{append-nil}
 use Rattle.rb_base.specs.Nodes.{Side}
 use Rattle.rb_base.specs.Sizes.{sync_slot_of}
 use Rattle.rb_base.specs.declared.values.Place.{Place}
+use Rattle.rb_base.proofs.Plain.{true-false}
 use Rattle.rb_rules.specs.declared.cause.Cause.{Cause}
 use Rattle.rb_rules.specs.Book.{Begun, Book, Each, Record, Row, after_verdict, frame_records, judged_of, of_kind, with_frame, with_stage}
 use Rattle.rb_rules.specs.Book.Milestone.{Begin, Stage, End}
@@ -16,16 +17,11 @@ use Rattle.rb_rules.specs.Ports.{HandIn}
 use Rattle.rb_rules.specs.Rounds.{windows_in}
 use Rattle.rb_rules.specs.WorldStep.{Site, Way, World, begun_for, book_with, comes_so, frame_in, is_complete, record_since, settle, settle_next}
 use Rattle.rb_rules.specs.WorldStep.Way.{ByAnEvent}
+use Rattle.rb_rules.proofs.Books.{record-same}
 use Rattle.rb_laws_events.proofs.Waiting.{AfterRecord, Waits, begun-there, good-told}
 use Rattle.rb_laws_events.proofs.WorldBooks.{last-one, next-on, none-past, settle_rest}
 
-true-false : {P : Type 0} → true ≡ false → P
-true-false e = absurd (cc)
-
 -- Settling.
-
-pub record-same : (w : World) → record_since w w ≡ None
-record-same w = none-past w.book.given w.book.given refl
 
 pub next-eta : (sc : Scenario) (way : Way) (w : World) → settle_next sc way w ≡ record w { book = (settle_next sc way w).book }
 next-eta sc way w = by (comes_so sc way w.book.upcoming && is_complete sc w.sites w.book.upcoming)

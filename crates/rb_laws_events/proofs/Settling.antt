@@ -2,9 +2,8 @@
 -- settles is settled as in the rounds.
 use Rattle.std.proofs.Common.{◌≡◌, ℕ, zero, suc, ◌+◌, ◌%◌, ◌<◌, ◌≤◌, ◌==◌, ◌&&◌, ◌||◌, not, nat_le, nat_lt, Bool, true, false, List, [], ◌∷◌, ◌++◌, length, refl, ap, sym, ◌∙◌, subst, arith, Option, Some, None, is_some, slice_get, option_map}
 use Rattle.std.specs.List.{list_all}
-use Rattle.std.proofs.lemmas.Bool.{lt-ltb}
-use Rattle.std.proofs.lemmas.Bool.Decides.{nat_tests}
-use Rattle.std.proofs.lemmas.Option.{slice_get_past}
+use Rattle.std.proofs.lemmas.Bool.{and_parts, eqb-true, lt-ltb}
+use Rattle.std.proofs.lemmas.Option.{same_Some, slice_get_past, slice_get_within}
 use Rattle.rb_base.specs.Nodes.{Side}
 use Rattle.rb_base.specs.Nodes.Side.{Biu, Rmu}
 use Rattle.rb_base.specs.declared.values.Place.{Place}
@@ -42,31 +41,22 @@ same-each {X = X} a b same =
     ap (λ xs. let z : Each X = record { bius = xs; rmus = a.rmus } in z) (same-list a.bius b.bius (same Biu))
     ∙ ap (λ xs. let z : Each X = record { bius = b.bius; rmus = xs } in z) (same-list a.rmus b.rmus (same Rmu))
 
-pub get-within : {X : Type 0} (xs : List X) (n : ℕ) (x : X) → slice_get xs n ≡ Some x → n < length xs
-get-within [] n x e = cc
-get-within (y ∷ ys) zero x e = omega arith
-get-within (y ∷ ys) (suc n) x e = let more : n < length ys = get-within ys n x e in omega arith
-
-pub and-true : (a b : Bool) → (a && b) ≡ true → (a ≡ true) × (b ≡ true)
-and-true true b h = (refl, h)
-and-true false b h = cc
-
 all-front : (xs ys : List Bool) → list_all (λ b. b) (xs ++ ys) ≡ true → list_all (λ b. b) xs ≡ true
 all-front [] ys h = refl
 all-front (x ∷ xs) ys h =
-    let parts = and-true x (list_all (λ b. b) (xs ++ ys)) h in
+    let parts = and_parts x (list_all (λ b. b) (xs ++ ys)) h in
     ap (λ a. a && list_all (λ b. b) xs) parts.0 ∙ all-front xs ys parts.1
 
 all-back : (xs ys : List Bool) → list_all (λ b. b) (xs ++ ys) ≡ true → list_all (λ b. b) ys ≡ true
 all-back [] ys h = h
-all-back (x ∷ xs) ys h = all-back xs ys (and-true x (list_all (λ b. b) (xs ++ ys)) h).1
+all-back (x ∷ xs) ys h = all-back xs ys (and_parts x (list_all (λ b. b) (xs ++ ys)) h).1
 
 all-at : (xs : List Bool) (i : ℕ) (b : Bool) → list_all (λ b. b) xs ≡ true → slice_get xs i ≡ Some b → b ≡ true
 all-at [] i b h e = cc
 all-at (x ∷ xs) zero b h e =
     let same : x ≡ b = cc in
-    sym same ∙ (and-true x (list_all (λ b. b) xs) h).0
-all-at (x ∷ xs) (suc i) b h e = all-at xs i b (and-true x (list_all (λ b. b) xs) h).1 e
+    sym same ∙ (and_parts x (list_all (λ b. b) xs) h).0
+all-at (x ∷ xs) (suc i) b h e = all-at xs i b (and_parts x (list_all (λ b. b) xs) h).1 e
 
 pub each-at : (a : Each Bool) (me : Side) (i : ℕ) (b : Bool) → list_all (λ b. b) (in_order a) ≡ true → slice_get (of_kind me a) i ≡ Some b → b ≡ true
 each-at a Biu i b h e = all-at a.bius i b (all-front a.bius a.rmus h) e
@@ -86,12 +76,6 @@ pub record RowOfRounds (sc : Scenario) (hands : List HandIn) (me : Side) (i : �
 unfoldable pub RowsOfRounds : Scenario → List HandIn → Each Site → Type 0
 RowsOfRounds sc hands sites =
     (me : Side) (i : ℕ) (s : Site) (row : Row) → slice_get (of_kind me sites) i ≡ Some s → s.row ≡ Some row → RowOfRounds sc hands me i row
-
-pub same-number : (a b : ℕ) → (a == b) ≡ true → a ≡ b
-same-number a b h = grind (arith, nat_tests)
-
-pub some-same : {X : Type 0} (a b : X) → Some a ≡ Some b → a ≡ b
-some-same a b e = cc
 
 not-good-row : (sc : Scenario) (m : Moment) (me : Side) (i : ℕ) (st : NodeState) → is_good_at sc m me i ≡ false
     → (go_through sc m (sent_in sc m) me i st (window_in sc m me st)).row ≡ None
@@ -120,16 +104,16 @@ told-row sc hands g me i st (Some row) stage there rounds h = by (same_place row
         let r : RowOfRounds sc hands me i row = rounds row refl in
         let mq : Moment = moment sc hands r.q in
         let mg : Moment = moment sc hands g in
-        let a = and-true ((row.place.frame == mg.frame) && (row.place.slot == slot_numbered sc.sizes mg.window)) (row.place.stage == mg.window % 3 + 1) e in
-        let b = and-true (row.place.frame == mg.frame) (row.place.slot == slot_numbered sc.sizes mg.window) a.0 in
-        let frame : mq.frame ≡ mg.frame = sym (ap (λ (p : Place). p.frame) r.place) ∙ same-number row.place.frame mg.frame b.0 in
+        let a = and_parts ((row.place.frame == mg.frame) && (row.place.slot == slot_numbered sc.sizes mg.window)) (row.place.stage == mg.window % 3 + 1) e in
+        let b = and_parts (row.place.frame == mg.frame) (row.place.slot == slot_numbered sc.sizes mg.window) a.0 in
+        let frame : mq.frame ≡ mg.frame = sym (ap (λ (p : Place). p.frame) r.place) ∙ eqb-true row.place.frame mg.frame b.0 in
         let slot : slot_numbered sc.sizes mq.window ≡ slot_numbered sc.sizes mg.window =
-        sym (ap (λ (p : Place). p.slot) r.place) ∙ same-number row.place.slot (slot_numbered sc.sizes mg.window) b.1 in
-        let stage_is : mq.window % 3 + 1 ≡ mg.window % 3 + 1 = sym (ap (λ (p : Place). p.stage) r.place) ∙ same-number row.place.stage (mg.window % 3 + 1) a.1 in
+        sym (ap (λ (p : Place). p.slot) r.place) ∙ eqb-true row.place.slot (slot_numbered sc.sizes mg.window) b.1 in
+        let stage_is : mq.window % 3 + 1 ≡ mg.window % 3 + 1 = sym (ap (λ (p : Place). p.stage) r.place) ∙ eqb-true row.place.stage (mg.window % 3 + 1) a.1 in
         let window : mq.window ≡ mg.window = one-place sc.sizes mq mg r.stage stage slot stage_is in
         let same : r.q ≡ g = one-number sc hands r.q g frame window in
         let state : slice_get (of_kind me mg.nodes) i ≡ Some r.st = subst (λ q. slice_get (of_kind me (moment sc hands q).nodes) i ≡ Some r.st) same r.state in
-        let st_is : r.st ≡ st = some-same r.st st (sym state ∙ there) in
+        let st_is : r.st ≡ st = same_Some r.st st (sym state ∙ there) in
         let is : (go_through sc mg (sent_in sc mg) me i r.st (window_in sc mg me r.st)).row ≡ Some row =
         subst (λ q. (go_through sc (moment sc hands q) (sent_in sc (moment sc hands q)) me i r.st (window_in sc (moment sc hands q) me r.st)).row ≡ Some row) same r.is in
         sym (subst (λ z. (go_through sc mg (sent_in sc mg) me i z (window_in sc mg me z)).row ≡ Some row) st_is is)
@@ -156,7 +140,7 @@ rows-are sc hands g sites ticks stage counts rounds complete =
     let one : (me : Side) (i : ℕ) (s : Site) → slice_get (of_kind me sites) i ≡ Some s
     → option_map (tells me i) (slice_get (of_kind me sites) i) ≡ option_map (λ (r : Result). r.row) (option_map (go me i) (slice_get (of_kind me m.nodes) i)) =
     λ me i s there.
-    let within : i < length (of_kind me sites) = get-within (of_kind me sites) i s there in
+    let within : i < length (of_kind me sites) = slice_get_within (of_kind me sites) i s there in
     let long : length (of_kind me sites) ≡ count_of me sc.sizes = counts me in
     let nodes : length (of_kind me m.nodes) ≡ count_of me sc.sizes = stand.counts me in
     let state = item-at (of_kind me m.nodes) i (omega arith) in

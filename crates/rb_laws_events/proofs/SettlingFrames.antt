@@ -1,11 +1,11 @@
 -- For the law that events are rounds: where each node has told what it tells in the rounds, the begin of a frame that
 -- the world settles is settled as in the rounds, and so whatever is settled makes the book one of the rounds'.
 use Rattle.std.proofs.Common.{◌≡◌, ℕ, zero, suc, ◌+◌, ◌<◌, ◌≤◌, ◌==◌, ◌&&◌, ◌||◌, ◌⊎◌, not, nat_lt, Bool, true, false, List, [], ◌∷◌, length, map, refl, ap, sym, ◌∙◌, subst, arith, inl, inr, Option, Some, None, is_some, slice_get, option_map, if◌then◌else◌}
-use Rattle.std.proofs.lemmas.Bool.{cases_lt, lt-ltb, le-ltb}
-use Rattle.std.proofs.lemmas.Bool.Decides.{nat_tests}
-use Rattle.std.proofs.lemmas.Option.{slice_get_past}
+use Rattle.std.proofs.lemmas.Bool.{and_parts, cases_lt, eqb-true, le-ltb, lt-ltb}
+use Rattle.std.proofs.lemmas.Option.{same_Some, slice_get_past, slice_get_within}
 use Rattle.rb_base.specs.Counting.{numbers}
 use Rattle.rb_base.specs.Nodes.{Side}
+use Rattle.rb_base.proofs.Plain.{less-from_differs, true-false}
 use Rattle.rb_rules.specs.Book.{Begun, Book, Each, Milestone, Record, fresh_book, in_order, map_each, of_kind, with_frame}
 use Rattle.rb_rules.specs.Book.Milestone.{Begin, Stage, End}
 use Rattle.rb_rules.specs.ExactStage.{present}
@@ -19,11 +19,12 @@ use Rattle.rb_rules.specs.WorldStep.{Site, Way, World, begun_for, book_with, com
 use Rattle.rb_rules.proofs.Books.{GoesOn, moments-on, stepped}
 use Rattle.rb_rules.proofs.RoundStates.{HasTicks}
 use Rattle.rb_rules.proofs.WindowNumbers.{get-each}
+use Rattle.rb_laws_agreement.proofs.Agreement.{ended-end}
 use Rattle.rb_laws_events.specs.Closing.{stages_in}
 use Rattle.rb_laws_events.proofs.CloseOrder.{IsFrameLater, IsWindowLater, frame-later, window-later}
-use Rattle.rb_laws_events.proofs.MomentBooks.{SettlesNext, end-ended, next_of, no-window, number-of, one-number, place_at, settles-next}
+use Rattle.rb_laws_events.proofs.MomentBooks.{SettlesNext, next_of, no-window, number-of, one-number, place_at, settles-next}
 use Rattle.rb_laws_events.proofs.RoundNodes.{AllStand, item-at, moments-stand}
-use Rattle.rb_laws_events.proofs.Settling.{RowsOfRounds, and-true, each-at, end-settled, get-within, or-told, same-each, same-number, some-same, stage-settled}
+use Rattle.rb_laws_events.proofs.Settling.{RowsOfRounds, each-at, end-settled, or-told, same-each, stage-settled}
 use Rattle.rb_laws_events.proofs.WorldBooks.{settle-on}
 use Rattle.rb_laws_events.proofs.WorldNodes.{next-sites}
 
@@ -57,9 +58,9 @@ told-begun sc hands g me i st (Some b) first there rounds h = by (b.frame == (mo
     by false e h = cc
     by true e h =
         let r : BegunInRounds sc hands me i b = rounds b refl in
-        let same : r.q ≡ g = one-number sc hands r.q g (sym r.frame ∙ same-number b.frame (moment sc hands g).frame e) (r.first ∙ sym first) in
+        let same : r.q ≡ g = one-number sc hands r.q g (sym r.frame ∙ eqb-true b.frame (moment sc hands g).frame e) (r.first ∙ sym first) in
         let state : slice_get (of_kind me (moment sc hands g).nodes) i ≡ Some r.st = subst (λ q. slice_get (of_kind me (moment sc hands q).nodes) i ≡ Some r.st) same r.state in
-        let st_is : r.st ≡ st = some-same r.st st (sym state ∙ there) in
+        let st_is : r.st ≡ st = same_Some r.st st (sym state ∙ there) in
         ap Some (r.is ∙ ap (λ q. begun_of sc (ports_before sc hands q) me i (epoch_of sc.sizes me r.st)) same
         ∙ ap (λ z. begun_of sc (ports_before sc hands g) me i (epoch_of sc.sizes me z)) st_is)
 
@@ -89,7 +90,7 @@ begun-are sc hands g sites ticks first counts rounds complete =
     let one : (me : Side) (i : ℕ) (s : Site) → slice_get (of_kind me sites) i ≡ Some s
     → option_map (tells me i) (slice_get (of_kind me sites) i) ≡ option_map (make me i) (slice_get (of_kind me m.nodes) i) =
     λ me i s there.
-    let within : i < length (of_kind me sites) = get-within (of_kind me sites) i s there in
+    let within : i < length (of_kind me sites) = slice_get_within (of_kind me sites) i s there in
     let long : length (of_kind me sites) ≡ count_of me sc.sizes = counts me in
     let nodes : length (of_kind me m.nodes) ≡ count_of me sc.sizes = stand.counts me in
     let state = item-at (of_kind me m.nodes) i (omega arith) in
@@ -167,13 +168,7 @@ still-running sc hands p h = by (moment sc hands p).book.ended refl
 ended-at : (sc : Scenario) (hands : List HandIn) (p : ℕ) → ((moment sc hands p).frame == sc.frames) ≡ true → (moment sc hands (suc p)).book.ended ≡ true
 unfolding step
 ended-at sc hands p e =
-    ap (λ b. (stepped sc hands (moment sc hands p) b (nat_lt (moment sc hands p).window (windows_in sc.sizes))).book.ended) e ∙ end-ended (moment sc hands p).book
-
-true-false : {P : Type 0} → true ≡ false → P
-true-false e = absurd (cc)
-
-differs : (a b : ℕ) → (a == b) ≡ false → a ≤ b → a < b
-differs a b h le = grind (arith, nat_tests)
+    ap (λ b. (stepped sc hands (moment sc hands p) b (nat_lt (moment sc hands p).window (windows_in sc.sizes))).book.ended) e ∙ ended-end (moment sc hands p).book
 
 pub runs-in : (sc : Scenario) (hands : List HandIn) (p : ℕ) → (moment sc hands p).book.ended ≡ false → RunsIn sc (moment sc hands p)
 unfolding begin_frame
@@ -185,7 +180,7 @@ runs-in sc hands (suc p) h =
     λ b. elim b as (λ b. (m.frame == sc.frames) ≡ b → RunsIn sc (moment sc hands (suc p))) [
       | true ↦ λ e. true-false (sym (ended-at sc hands p e) ∙ h)
       | false ↦ λ e.
-          let less : m.frame < sc.frames = differs m.frame sc.frames e before.bound in
+          let less : m.frame < sc.frames = less-from_differs m.frame sc.frames e before.bound in
           elim (cases_lt m.window (windows_in sc.sizes)) [
             | inl lt ↦
                 let next : IsWindowLater sc m (moment sc hands (suc p)) = window-later sc hands m lt in
@@ -274,7 +269,7 @@ milestone-settled sc hands g sites ticks going tell complete =
     before-last a b le never = by (a == b) refl
       where
         by : (t : Bool) → (a == b) ≡ t → (a == b) ≡ false
-        by true e = absurd (never (same-number a b e))
+        by true e = absurd (never (eqb-true a b e))
         by false e = e
 
 -- whatever is settled next, the book is one of the rounds'
@@ -301,7 +296,7 @@ next-settled sc way w ticks going tell is = by (comes_so sc way w.book.upcoming 
 
     by : (b : Bool) → (comes_so sc way w.book.upcoming && is_complete sc w.sites w.book.upcoming) ≡ b
         → IsOfMoment sc w.hands (elim b as (λ _. World) [ true ↦ record w { book = book_with sc w.sites w.book w.book.upcoming } | false ↦ w ]).book
-    by true e = settled (and-true (comes_so sc way w.book.upcoming) (is_complete sc w.sites w.book.upcoming) e).1 is
+    by true e = settled (and_parts (comes_so sc way w.book.upcoming) (is_complete sc w.sites w.book.upcoming) e).1 is
     by false e = is
 
 pub next-hands : (sc : Scenario) (way : Way) (w : World) → (settle_next sc way w).hands ≡ w.hands

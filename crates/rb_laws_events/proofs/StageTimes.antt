@@ -1,13 +1,12 @@
 -- For the law that events are rounds: where a run has not ended, the calls and the epochs of good nodes come where they must, and no
 -- window ends too late for a clock.
-use Rattle.std.proofs.Common.{◌≡◌, ℕ, ◌+◌, ◌*◌, ◌-◌, ◌^◌, ◌≤◌, ◌<◌, ◌&&◌, nat_lt, Bool, true, false, List, refl, ap, sym, ◌∙◌, subst, arith, inl, inr, Option, Some, None, is_some, slice_get, option_map}
+use Rattle.std.proofs.Common.{◌≡◌, ℕ, ◌+◌, ◌*◌, ◌-◌, ◌^◌, ◌≤◌, ◌<◌, true, List, ap, sym, ◌∙◌, subst, arith, inl, inr, Some, slice_get}
 use Rattle.std.proofs.lemmas.Bool.{cases_lt}
-use Rattle.std.proofs.lemmas.Bool.Decides.{nat_tests}
 use Rattle.rb_base.specs.Nodes.{Side}
 use Rattle.rb_base.specs.Nodes.Side.{Biu, Rmu}
 use Rattle.rb_base.specs.Sizes.{Sizes, sync_slot_of}
+use Rattle.rb_base.proofs.Plain.{none_and_known, option_map-back}
 use Rattle.rb_rules.specs.declared.plan.Plan.{Plan}
-use Rattle.rb_rules.specs.declared.role.Role.TheVariants.{Sync}
 use Rattle.rb_rules.specs.Book.{of_kind}
 use Rattle.rb_rules.specs.Goodness.{Scenario}
 use Rattle.rb_rules.specs.Lawful.{IsLawful}
@@ -16,15 +15,14 @@ use Rattle.rb_rules.specs.NodeState.{NodeState}
 use Rattle.rb_rules.specs.Plan.{f0_of, tail_start_of}
 use Rattle.rb_rules.specs.Ports.{HandIn}
 use Rattle.rb_rules.specs.Rounds.{Moment, moment}
-use Rattle.rb_rules.specs.Slots.{listens}
 use Rattle.rb_rules.specs.SyncStage.{new_epoch_of}
 use Rattle.rb_rules.proofs.RoundStates.{Knows, knows}
 use Rattle.rb_rules.proofs.WindowNumbers.{sync-numbered}
-use Rattle.rb_laws_synchrony.proofs.CallTicks.{KeepsTicks, all_keep_ticks, all_know_next}
+use Rattle.rb_laws_synchrony.proofs.CallTicks.{KeepsTicks, all_keep_ticks, all_know_next, not-yet}
 use Rattle.rb_laws_synchrony.proofs.EpochTicks.{frame_ticks}
 use Rattle.rb_laws_synchrony.proofs.Synchronous.{KnowNext, KnowsEpoch}
+use Rattle.rb_laws_agreement.proofs.ExactAgrees.{has_ticks}
 use Rattle.rb_laws_events.specs.Closing.{stages_in}
-use Rattle.rb_laws_events.proofs.CloseOrder.{has-ticks}
 use Rattle.rb_laws_events.proofs.FrameTimes.{BegunWell, begun-well, good-node}
 use Rattle.rb_laws_events.proofs.Invariant.{is_good_at, last_tick}
 use Rattle.rb_laws_events.proofs.NodeSends.{KeepsTime}
@@ -35,35 +33,17 @@ use Rattle.rb_laws_events.proofs.TickWindows.{first_of}
 
 -- Calls and epochs.
 
-back-from : (f : ℕ → ℕ) (o : Option ℕ) (y : ℕ) → option_map f o ≡ Some y → (x : ℕ) × ((o ≡ Some x) × (f x ≡ y))
-back-from f None y e = cc
-back-from f (Some x) y e = let same : f x ≡ y = cc in (x, (refl, same))
-
-none-known : {P : Type 0} (o : Option ℕ) (k : ℕ) → is_some o ≡ false → o ≡ Some k → P
-none-known None k e h = cc
-none-known (Some x) k e h = cc
-
-not-yet : (sizes : Sizes) (me : Side) (stage n : ℕ) → n ≤ 3 * sync_slot_of sizes + stage - 1 → knows sizes me stage n ≡ false
-not-yet sizes me stage n early = go (listens me Sync stage) (nat_lt (3 * sync_slot_of sizes + stage - 1) n) (less-false (3 * sync_slot_of sizes + stage - 1) n early)
-  where
-    less-false : (a b : ℕ) → b ≤ a → nat_lt a b ≡ false
-    less-false a b h = grind (arith, nat_tests)
-
-    go : (a b : Bool) → b ≡ false → (a && b) ≡ false
-    go true b e = e
-    go false b e = refl
-
 -- up to stage 1 of the sync slot a node knows no middles
 pub keeps-exact : (sizes : Sizes) (plan : Plan) (me : Side) (st : NodeState) (n : ℕ) → n ≤ 3 * sync_slot_of sizes → Knows sizes me n st → KeepsTime sizes plan me st
 keeps-exact sizes plan me st n early known = record {
-  second = λ x is. none-known st.k1 x (known.k1 ∙ not-yet sizes me 1 n (omega arith)) is;
-  third = λ x is. none-known st.k2 x (known.k2 ∙ not-yet sizes me 2 n (omega arith)) is;
+  second = λ x is. none_and_known st.k1 x (known.k1 ∙ not-yet sizes me 1 n (omega arith)) is;
+  third = λ x is. none_and_known st.k2 x (known.k2 ∙ not-yet sizes me 2 n (omega arith)) is;
   next = λ x is. no-next me known x is;
 }
   where
     no-next : (me : Side) → Knows sizes me n st → (x : ℕ) → new_epoch_of plan me st ≡ Some x → st.epoch + tail_start_of sizes plan ≤ x
-    no-next Biu known x is = let k = back-from (λ k2. k2 + plan.v + plan.z + plan.c) st.k2 x is in none-known st.k2 k.0 (known.k2 ∙ not-yet sizes Biu 2 n (omega arith)) k.1.0
-    no-next Rmu known x is = let k = back-from (λ k3. k3 + plan.z) st.k3 x is in none-known st.k3 k.0 (known.k3 ∙ not-yet sizes Rmu 3 n (omega arith)) k.1.0
+    no-next Biu known x is = let k = option_map-back (λ k2. k2 + plan.v + plan.z + plan.c) st.k2 x is in none_and_known st.k2 k.0 (known.k2 ∙ not-yet sizes Biu 2 n (omega arith)) k.1.0
+    no-next Rmu known x is = let k = option_map-back (λ k3. k3 + plan.z) st.k3 x is in none_and_known st.k3 k.0 (known.k3 ∙ not-yet sizes Rmu 3 n (omega arith)) k.1.0
 
 -- in every window of a run that has not ended
 pub keeps-running : (sc : Scenario) (hands : List HandIn) → IsLawful sc → (p : ℕ) → IsRunning (moment sc hands p) → (me : Side) (i : ℕ) (st : NodeState)
@@ -77,7 +57,7 @@ keeps-running sc hands lawful p running me i st there good =
     let last2 : last_of sc.sizes sc.plan me st (3 * sync_slot_of sc.sizes + 1) ≡ f0_of sc.sizes sc.plan + sc.plan.l + sc.plan.v - 1 = last-second-call sc.sizes sc.plan me st in
     let last3 : last_of sc.sizes sc.plan me st (3 * sync_slot_of sc.sizes + 2) ≡ f0_of sc.sizes sc.plan + sc.plan.l + sc.plan.v + sc.plan.z - 1 =
     last-third-call sc.sizes sc.plan me st in
-    let stood : Stands sc m me st = (moments-stand sc hands p (has-ticks sc lawful)).stands me i st there good in
+    let stood : Stands sc m me st = (moments-stand sc hands p (has_ticks sc lawful)).stands me i st there good in
     record {
       second = λ x is. let b = ticks.second x is in record { from = omega (arith, first2, b.0); to = omega (arith, last2, b.1) };
       third = λ x is. let b = ticks.third x is in record { from = omega (arith, first3, b.0); to = omega (arith, last3, b.1) };
@@ -90,14 +70,14 @@ keeps-running sc hands lawful p running me i st there good =
     next-late : (me : Side) → slice_get (of_kind me (moment sc hands p).nodes) i ≡ Some st → is_good_at sc (moment sc hands p) me i ≡ true → KeepsTicks sc st
         → Knows sc.sizes me (moment sc hands p).window st → (x : ℕ) → new_epoch_of sc.plan me st ≡ Some x → st.epoch + tail_start_of sc.sizes sc.plan ≤ x
     next-late Biu there good ticks known x is =
-        let k = back-from (λ k2. k2 + sc.plan.v + sc.plan.z + sc.plan.c) st.k2 x is in
+        let k = option_map-back (λ k2. k2 + sc.plan.v + sc.plan.z + sc.plan.c) st.k2 x is in
         let b = ticks.third k.0 k.1.0 in
         omega (arith, b.0, k.1.1)
     next-late Rmu there good ticks known x is =
         elim (cases_lt (moment sc hands p).window (3 * sync_slot_of sc.sizes + 3)) [
           | inl early ↦
-              let k = back-from (λ k3. k3 + sc.plan.z) st.k3 x is in
-              none-known st.k3 k.0 (known.k3 ∙ not-yet sc.sizes Rmu 3 (moment sc hands p).window (omega arith)) k.1.0
+              let k = option_map-back (λ k3. k3 + sc.plan.z) st.k3 x is in
+              none_and_known st.k3 k.0 (known.k3 ∙ not-yet sc.sizes Rmu 3 (moment sc hands p).window (omega arith)) k.1.0
           | inr late ↦
               let next : KnowNext sc (moment sc hands p) = all_know_next sc hands lawful p running late in
               let k : KnowsEpoch sc Rmu i st next.0 = next.1 Rmu i st (good-node sc (moment sc hands p) Rmu i st there good) in
@@ -113,7 +93,7 @@ pub stage-room : (sc : Scenario) (hands : List HandIn) → IsLawful sc → (p : 
     → last_tick sc (moment sc hands p) me st < 2 ^ 31
 stage-room sc hands lawful p well below me i st there good =
     below-all sc lawful (moment sc hands p).frame st.epoch (last_of sc.sizes sc.plan me st (moment sc hands p).window) well.within
-    (well.by_then me i st (good-node sc (moment sc hands p) me i st there good)) (ends-by-then sc.sizes sc.plan me st (moment sc hands p).window (has-ticks sc lawful) below)
+    (well.by_then me i st (good-node sc (moment sc hands p) me i st there good)) (ends-by-then sc.sizes sc.plan me st (moment sc hands p).window (has_ticks sc lawful) below)
 
 pub tail-room : (sc : Scenario) (hands : List HandIn) → IsLawful sc → (p : ℕ) → IsRunning (moment sc hands p) → (moment sc hands p).window ≡ stages_in sc.sizes
     → (me : Side) (i : ℕ) (st : NodeState) → slice_get (of_kind me (moment sc hands p).nodes) i ≡ Some st → is_good_at sc (moment sc hands p) me i ≡ true

@@ -2,10 +2,12 @@
 -- closed the last stage of its frame. It goes through the tail and begins the next frame, and closes no stage before the end of that one's
 -- first window.
 use Rattle.std.proofs.Common.{◌≡◌, ℕ, ◌+◌, ◌*◌, ◌-◌, ◌<◌, ◌≤◌, ◌==◌, ◌&&◌, ◌⊎◌, if◌then◌else◌, Bool, true, false, List, [], refl, ap, sym, ◌∙◌, subst, arith, inl, inr, Option, Some, None, is_some, option_map, unwrap_or, slice_get}
+use Rattle.std.proofs.lemmas.Bool.{eqb-true}
 use Rattle.std.proofs.lemmas.Bool.Decides.{nat_tests}
 use Rattle.rb_base.specs.Nodes.{Side, other}
 use Rattle.rb_base.specs.Nodes.Side.{Biu, Rmu}
 use Rattle.rb_base.specs.Sizes.{Sizes, sync_slot_of}
+use Rattle.rb_base.proofs.Plain.{less-differs}
 use Rattle.rb_rules.specs.declared.closing.Closed.{Closed as Shown}
 use Rattle.rb_rules.specs.declared.message.Message.{Message}
 use Rattle.rb_rules.specs.declared.plan.Plan.{Plan}
@@ -142,13 +144,7 @@ pub record GoesOn (sizes : Sizes) (plan : Plan) (me : Side) (frame e x k : ℕ) 
   pub message : listens me Sync 3 ≡ false → (m : Message) → a.message ≡ Some m → x + plan.h ≤ k
   pub begun : x ≤ k → (m : Message) → a.message ≡ Some m → x + plan.h ≡ k
 
-differs : (a b : ℕ) → a < b → (a == b) ≡ false
-differs a b h = grind (arith, nat_tests)
-
-same-of : (a b : ℕ) → (a == b) ≡ true → a ≡ b
-same-of a b h = grind (arith, nat_tests)
-
-none-some : {X P : Type 0} (o : Option X) (x : X) → o ≡ None → o ≡ Some x → P
+pub none-some : {X P : Type 0} (o : Option X) (x : X) → o ≡ None → o ≡ Some x → P
 none-some None x e f = cc
 none-some (Some y) x e f = cc
 
@@ -174,7 +170,7 @@ first-window sizes plan me y x k epoch from before =
 turned-last : (sizes : Sizes) (plan : Plan) (me : Side) (y : NodeState) (x k : ℕ) → HasRoom plan → y.epoch ≡ x → x ≤ k → k + 1 < x + plan.l → is_last sizes plan me y k ≡ false
 turned-last sizes plan me y x k room epoch from before =
     let last : last_of sizes plan me y 0 ≡ 0 * plan.l + plan.l - 1 = last-same sizes plan me y 0 (omega arith) in
-    last-is sizes plan me y 0 k room.ticks (omega arith) (first-window sizes plan me y x k epoch from before) ∙ differs k (y.epoch + last_of sizes plan me y 0) (omega (arith, last, epoch, before))
+    last-is sizes plan me y 0 k room.ticks (omega arith) (first-window sizes plan me y x k epoch from before) ∙ less-differs k (y.epoch + last_of sizes plan me y 0) (omega (arith, last, epoch, before))
 
 turned-says : (sizes : Sizes) (plan : Plan) (me : Side) (i : ℕ) (y : NodeState) (frame x word k : ℕ) → HasRoom plan → HasTurned frame x y (k + 1) → x ≤ k → k + 1 < x + plan.l
     → (m : Message) → said_at sizes plan me i y word k ≡ Some m → x + plan.h ≡ k
@@ -185,7 +181,7 @@ turned-says sizes plan me i y frame x word k room h from before m e =
     at : (s : Sending) → sending_at sizes plan me i y 0 word ≡ Some s → (b : Bool) → (s.tick == k) ≡ b → (elim b as (λ _. Option Message) [ true ↦ Some s.message | false ↦ None ]) ≡ Some m → x + plan.h ≡ k
     at s is true f g =
         let tick : s.tick ≡ y.epoch + 0 * plan.l + plan.h = sent-exactly sizes plan me i y 0 word s (omega arith) is in
-        let same : s.tick ≡ k = same-of s.tick k f in
+        let same : s.tick ≡ k = eqb-true s.tick k f in
         let epoch : y.epoch ≡ x = h.epoch in
         omega (arith, tick, same, epoch)
     at s is false f g = cc

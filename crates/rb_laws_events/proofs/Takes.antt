@@ -1,6 +1,6 @@
 -- For the law that every run ends: each event that is taken leaves fewer ticks before 2^31, or fewer messages on their
 -- way, so only so many are taken.
-use Rattle.std.proofs.Common.{◌≡◌, ℕ, zero, suc, ◌+◌, ◌-◌, ◌*◌, ◌^◌, ◌<◌, ◌≤◌, ◌==◌, ◌&&◌, Bool, true, false, List, [], ◌∷◌, ◌++◌, cond, filter, flat_map, length, map, refl, ap, sym, ◌∙◌, subst, arith, Option, Some, None, option_map, remove, slice_get}
+use Rattle.std.proofs.Common.{◌≡◌, ℕ, zero, suc, ◌+◌, ◌-◌, ◌*◌, ◌^◌, ◌<◌, ◌≤◌, ◌==◌, ◌&&◌, Bool, true, false, List, [], ◌∷◌, ◌++◌, cond, filter, flat_map, length, refl, ap, sym, ◌∙◌, subst, arith, Option, Some, None, option_map, remove, slice_get}
 use Rattle.std.specs.List.{range_with_len}
 use Rattle.std.proofs.lemmas.Bool.Decides.{nat_tests}
 use Rattle.std.proofs.lemmas.Nat.{mul-le}
@@ -20,6 +20,7 @@ use Rattle.rb_rules.specs.Ports.{PortState}
 use Rattle.rb_rules.specs.Slots.{count_of, same_side}
 use Rattle.rb_rules.specs.WorldStep.{Site, Timed, after_act, after_arrival, at_node, await, enter, pass_and_tick, proceed, says_in, sent_to, span_from, stop, with_close, with_epoch, with_message}
 use Rattle.rb_laws_events.specs.Laws.{most_at_once, nodes_of}
+use Rattle.rb_laws_events.proofs.FewThere.{length-mapped}
 use Rattle.rb_laws_events.proofs.PendingLists.{StandsAt}
 
 -- What is left of a node: its ticks, each with all that it may make pending, and what is on its way to it.
@@ -128,10 +129,6 @@ length-both : {X : Type 0} (xs ys : List X) → length (xs ++ ys) ≡ length xs 
 length-both [] ys = omega arith
 length-both (x ∷ xs) ys = let rest = length-both xs ys in omega (arith, rest)
 
-length-mapped : {X Y : Type 0} (f : X → Y) (xs : List X) → length (map f xs) ≡ length xs
-length-mapped f [] = refl
-length-mapped f (x ∷ xs) = ap suc (length-mapped f xs)
-
 length-passed : {X : Type 0} (q : X → Bool) (xs : List X) → length (filter q xs) ≤ length xs
 length-passed q [] = omega arith
 length-passed q (x ∷ xs) = by (q x) (length-passed q xs)
@@ -239,11 +236,11 @@ enter-few sc me i (Some span) s = by (is_good sc me i span.place.frame span.plac
     by true = await-few sc me i (says_in sc me i span) s (says-few sc me i span)
     by false = record { ticks = omega arith; coming = omega arith }
 
-close-same : (me : Side) (i : ℕ) (st : NodeState) (c : Option Closed) (s : Site) → ((with_close me i st c s).core ≡ s.core) × ((with_close me i st c s).coming ≡ s.coming)
+pub close-same : (me : Side) (i : ℕ) (st : NodeState) (c : Option Closed) (s : Site) → ((with_close me i st c s).core ≡ s.core) × ((with_close me i st c s).coming ≡ s.coming)
 close-same me i st None s = (refl, refl)
 close-same me i st (Some c) s = (refl, refl)
 
-epoch-same : (sc : Scenario) (ports : List PortState) (me : Side) (i : ℕ) (e : Option Epoch) (s : Site) → ((with_epoch sc ports me i e s).core ≡ s.core) × ((with_epoch sc ports me i e s).coming ≡ s.coming)
+pub epoch-same : (sc : Scenario) (ports : List PortState) (me : Side) (i : ℕ) (e : Option Epoch) (s : Site) → ((with_epoch sc ports me i e s).core ≡ s.core) × ((with_epoch sc ports me i e s).coming ≡ s.coming)
 epoch-same sc ports me i None s = (refl, refl)
 epoch-same sc ports me i (Some e) s = (refl, refl)
 

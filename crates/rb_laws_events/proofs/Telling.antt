@@ -2,9 +2,11 @@
 use Rattle.std.proofs.Common.{◌≡◌, ℕ, zero, suc, ◌+◌, ◌<◌, ◌≤◌, ◌==◌, ◌&&◌, nat_le, Bool, true, false, List, [], ◌∷◌, ◌++◌, map, refl, ap, sym, ◌∙◌, subst, arith, inl, inr, Option, Some, None, slice_get}
 use Rattle.std.proofs.lemmas.Bool.{cases_lt}
 use Rattle.std.proofs.lemmas.Bool.Decides.{nat_tests}
+use Rattle.std.proofs.lemmas.Option.{same_Some}
 use Rattle.rb_base.specs.Nodes.{Side, other}
 use Rattle.rb_base.specs.Sizes.{Sizes, sync_slot_of}
 use Rattle.rb_base.specs.declared.values.Place.{Place}
+use Rattle.rb_base.proofs.Plain.{option_map-back}
 use Rattle.rb_rules.specs.declared.message.Message.{Message}
 use Rattle.rb_rules.specs.declared.plan.Plan.{Plan}
 use Rattle.rb_rules.specs.declared.plan.Window.{Window}
@@ -36,9 +38,9 @@ use Rattle.rb_laws_events.proofs.StageOrder.{last_of}
 use Rattle.rb_laws_events.proofs.TickWindows.{IsTickIn, ends-before-later, first_of}
 use Rattle.rb_rules.specs.Slots.{same_side}
 use Rattle.rb_laws_events.proofs.RoundNodes.{slot-is, slot_numbered}
-use Rattle.rb_laws_events.proofs.Settling.{RowOfRounds, RowsOfRounds, some-same}
+use Rattle.rb_laws_events.proofs.Settling.{RowOfRounds, RowsOfRounds}
 use Rattle.rb_laws_events.proofs.SettlingFrames.{BegunInRounds, BegunOfRounds, TellRounds, ports_before}
-use Rattle.rb_laws_events.proofs.WorldStands.{back-from, is_node, node-is}
+use Rattle.rb_laws_events.proofs.WorldStands.{is_node, node-is}
 use Rattle.rb_laws_events.proofs.WorldTicks.{after_tick, get-after, length-after, reached}
 
 -- The row of a window has the window's place.
@@ -68,7 +70,7 @@ row-place sc m me i st w row = by (is_good sc me i m.frame w.slot && nat_le w.fi
     by true e =
         let k : NodeState = keep_sent sc.sizes me i st w.slot w.stage (word_for_window sc m i w) in
         let sense : ℕ → Sense = λ j. sense_of (expect_of sc.sizes sc.plan.version k w.slot w.stage) (map (arrival_of (clock_of sc me i)) (heard_at sc me i st w (sent_in sc m) j)) in
-        sym (ap (λ (r : Row). r.place) (some-same _ row e))
+        sym (ap (λ (r : Row). r.place) (same_Some _ row e))
         ∙ close-place sc.sizes me i k w.slot w.stage (k.epoch + w.first) sense (w.slot == sync_slot_of sc.sizes) refl
         ∙ ap (λ f. let p : Place = record { frame = f; slot = w.slot; stage = w.stage } in p) (keeping-stays sc.sizes me i st w.slot w.stage (word_for_window sc m i w)).frame
 
@@ -152,7 +154,7 @@ begun-then sc hands ports me i p k st x old b room there frame le keeps at epoch
           let y_is : y ≡ st = ap (λ g. by_said g st (kept_in sc.sizes sc.plan me i st m.window word)) fresh in
           let began : x.epoch ≡ Some (epoch_of sc.sizes me st) =
           epoch ∙ ap (λ t. elim t as (λ _. Option Epoch) [ true ↦ Some (epoch_of sc.sizes me y) | false ↦ None ]) f ∙ ap (λ z. Some (epoch_of sc.sizes me z)) y_is in
-          let told : begun_of sc ports me i (epoch_of sc.sizes me st) ≡ b = some-same _ b (sym (ap (λ o. begun_after sc ports me i o old) began) ∙ e) in
+          let told : begun_of sc ports me i (epoch_of sc.sizes me st) ≡ b = same_Some _ b (sym (ap (λ o. begun_after sc ports me i o old) began) ∙ e) in
           let rounds : begun_of sc ports me i (epoch_of sc.sizes me st) ≡ begun_of sc (ports_before sc hands p) me i (epoch_of sc.sizes me st) =
           ap (λ l. record (begun_of sc ports me i (epoch_of sc.sizes me st)) { port = l }) (same_port zero_window at_epoch) in
           record {
@@ -200,13 +202,13 @@ pub still-tell : (sc : Scenario) (hands : List HandIn) (sites : Each Site) (me :
 unfolding RowsOfRounds BegunOfRounds
 still-tell sc hands sites me i frame k m change s there rows begun h = record {
   rows = λ side j z row e its.
-      let was = back-from (after_tick sc me i frame k m change side j) (slice_get (of_kind side sites) j) z (sym (get-after sc me i frame k m change sites side j) ∙ e) in
+      let was = option_map-back (after_tick sc me i frame k m change side j) (slice_get (of_kind side sites) j) z (sym (get-after sc me i frame k m change sites side j) ∙ e) in
       let go : (d : Bool) → is_node me i side j ≡ d → reached sc me i frame k m side j (elim d as (λ _. Site) [ true ↦ change was.0 | false ↦ was.0 ]) ≡ z → RowOfRounds sc hands side j row =
       λ d. elim d as (λ d. is_node me i side j ≡ d → reached sc me i frame k m side j (elim d as (λ _. Site) [ true ↦ change was.0 | false ↦ was.0 ]) ≡ z → RowOfRounds sc hands side j row) [
         | true ↦ λ f g.
             let is = node-is me side i j f in
             let here : slice_get (of_kind me sites) i ≡ Some was.0 = sym (ap (λ y. slice_get (of_kind y sites) j) is.0 ∙ ap (slice_get (of_kind me sites)) is.1) ∙ was.1.0 in
-            let s_is : s ≡ was.0 = some-same s was.0 (sym there ∙ here) in
+            let s_is : s ≡ was.0 = same_Some s was.0 (sym there ∙ here) in
             let its_row : (change s).row ≡ Some row =
             ap (λ z. (change z).row) s_is ∙ sym (reached-tells sc me i frame k m side j (change was.0)).0 ∙ ap (λ (z : Site). z.row) g ∙ its in
             subst (λ y. RowOfRounds sc hands y j row) (sym is.0) (subst (λ n. RowOfRounds sc hands me n row) (sym is.1) (rows row its_row))
@@ -214,13 +216,13 @@ still-tell sc hands sites me i frame k m change s there rows begun h = record {
       ] in
       go (is_node me i side j) refl was.1.1;
   begun = λ side j z b e its.
-      let was = back-from (after_tick sc me i frame k m change side j) (slice_get (of_kind side sites) j) z (sym (get-after sc me i frame k m change sites side j) ∙ e) in
+      let was = option_map-back (after_tick sc me i frame k m change side j) (slice_get (of_kind side sites) j) z (sym (get-after sc me i frame k m change sites side j) ∙ e) in
       let go : (d : Bool) → is_node me i side j ≡ d → reached sc me i frame k m side j (elim d as (λ _. Site) [ true ↦ change was.0 | false ↦ was.0 ]) ≡ z → BegunInRounds sc hands side j b =
       λ d. elim d as (λ d. is_node me i side j ≡ d → reached sc me i frame k m side j (elim d as (λ _. Site) [ true ↦ change was.0 | false ↦ was.0 ]) ≡ z → BegunInRounds sc hands side j b) [
         | true ↦ λ f g.
             let is = node-is me side i j f in
             let here : slice_get (of_kind me sites) i ≡ Some was.0 = sym (ap (λ y. slice_get (of_kind y sites) j) is.0 ∙ ap (slice_get (of_kind me sites)) is.1) ∙ was.1.0 in
-            let s_is : s ≡ was.0 = some-same s was.0 (sym there ∙ here) in
+            let s_is : s ≡ was.0 = same_Some s was.0 (sym there ∙ here) in
             let its_begun : (change s).begun ≡ Some b =
             ap (λ z. (change z).begun) s_is ∙ sym (reached-tells sc me i frame k m side j (change was.0)).1 ∙ ap (λ (z : Site). z.begun) g ∙ its in
             subst (λ y. BegunInRounds sc hands y j b) (sym is.0) (subst (λ n. BegunInRounds sc hands me n b) (sym is.1) (begun b its_begun))

@@ -13,15 +13,15 @@ use Rattle.rb_rules.proofs.Lawfulness.{sends_inside_all}
 use Rattle.rb_rules.proofs.RoundStates.{HasTicks}
 use Rattle.rb_rules.proofs.WindowNumbers.{sync-numbered}
 use Rattle.rb_laws_synchrony.proofs.EpochTicks.{frame_ticks}
+use Rattle.rb_laws_agreement.proofs.ExactAgrees.{has_ticks}
 use Rattle.rb_laws_events.specs.Closing.{stages_in}
-use Rattle.rb_laws_events.proofs.CloseOrder.{has-ticks}
 use Rattle.rb_laws_events.proofs.NodeActs.{HasRoom}
 use Rattle.rb_laws_events.proofs.NodeTicks.{tail-last}
 use Rattle.rb_laws_events.proofs.StageOrder.{last_of}
 use Rattle.rb_laws_events.proofs.TickWindows.{ends-before-later, first_of}
 
 pub has-room : (sc : Scenario) → IsLawful sc → HasRoom sc.plan
-has-room sc lawful = record { ticks = has-ticks sc lawful; inside = sends_inside_all sc.sizes sc.plan lawful.plan lawful.feasible }
+has-room sc lawful = record { ticks = has_ticks sc lawful; inside = sends_inside_all sc.sizes sc.plan lawful.plan lawful.feasible }
 
 -- a frame has at most 341,000 ticks
 pub few-ticks : (sizes : Sizes) (plan : Plan) → IsShape sizes → IsPlan plan → frame_ticks sizes plan ≤ 341000

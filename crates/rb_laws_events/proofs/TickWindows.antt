@@ -1,9 +1,9 @@
 -- For the law that events are rounds: which window of its frame a tick lies in, as the core finds it.
-use Rattle.std.proofs.Common.{◌≡◌, ℕ, zero, suc, ◌+◌, ◌*◌, ◌-◌, ◌<◌, ◌≤◌, ◌==◌, ◌&&◌, nat_le, Bool, true, false, List, [], ◌∷◌, length, map, refl, ap, sym, ◌∙◌, subst, arith, inl, inr, Some, None, slice_get, get_or, unwrap_or, find, cond, length-append}
-use Rattle.std.proofs.lemmas.Bool.{cases_lt}
+use Rattle.std.proofs.Common.{◌≡◌, ℕ, zero, suc, ◌+◌, ◌*◌, ◌-◌, ◌<◌, ◌≤◌, ◌==◌, nat_le, Bool, true, false, List, [], ◌∷◌, length, map, refl, ap, sym, ◌∙◌, subst, arith, inl, inr, Some, None, slice_get, get_or, unwrap_or, find, cond, length-append}
+use Rattle.std.proofs.lemmas.Bool.{and_from, and_right, cases_lt}
 use Rattle.std.proofs.lemmas.Bool.Decides.{nat_tests}
 use Rattle.std.proofs.lemmas.List.FromFn.{length-map-range_with_len}
-use Rattle.std.proofs.lemmas.Option.{slice_get-get_or}
+use Rattle.std.proofs.lemmas.Option.{same_Some, slice_get-get_or, slice_get_within}
 use Rattle.std.proofs.Math.Nat.{add-mul}
 use Rattle.rb_base.specs.Nodes.{Side}
 use Rattle.rb_base.specs.Sizes.{Sizes, sync_slot_of}
@@ -138,33 +138,18 @@ get-window sizes plan me st n h =
     slice_get-get_or (windows_of_frame sizes plan) n (tail_at sizes plan me st) (omega arith) in
     there ∙ ap (λ o. Some (unwrap_or o (tail_at sizes plan me st))) (sym there)
 
-get-within : {X : Type 0} (xs : List X) (n : ℕ) (x : X) → slice_get xs n ≡ Some x → n < length xs
-get-within [] n x e = cc
-get-within (y ∷ ys) zero x e = omega arith
-get-within (y ∷ ys) (suc n) x e = let more : n < length ys = get-within ys n x e in omega arith
-
-some-is : {X : Type 0} (a b : X) → Some a ≡ Some b → a ≡ b
-some-is a b e = cc
-
-and-true : (a b : Bool) → a ≡ true → b ≡ true → (a && b) ≡ true
-and-true a b h k = rw (h, k) refl
-
-and-second : (a b : Bool) → b ≡ false → (a && b) ≡ false
-and-second true b h = h
-and-second false b h = refl
-
 holds : (offset : ℕ) (w : Window) → w.first ≤ offset → offset ≤ w.last → holds_offset offset w ≡ true
-holds offset w low high = and-true (nat_le w.first offset) (nat_le offset w.last) (grind (arith, nat_tests)) (grind (arith, nat_tests))
+holds offset w low high = and_from (nat_le w.first offset) (nat_le offset w.last) (grind (arith, nat_tests)) (grind (arith, nat_tests))
 
 holds-not : (offset : ℕ) (w : Window) → w.last < offset → holds_offset offset w ≡ false
-holds-not offset w high = and-second (nat_le w.first offset) (nat_le offset w.last) (grind (arith, nat_tests))
+holds-not offset w high = and_right (nat_le w.first offset) (nat_le offset w.last) (grind (arith, nat_tests))
 
 -- the windows before the one that begins with an offset, or with an earlier one, don't hold it
 none-before : (sizes : Sizes) (plan : Plan) (me : Side) (st : NodeState) (n offset : ℕ) → HasTicks plan → n ≤ stages_in sizes
     → first_of sizes plan me st n ≤ offset → (m : ℕ) (w : Window) → m < n → slice_get (windows_of_frame sizes plan) m ≡ Some w
     → holds_offset offset w ≡ false
 none-before sizes plan me st n offset ticks h low m w lt there =
-    let same : window_numbered sizes plan me st m ≡ w = some-is _ _ (sym (get-window sizes plan me st m (omega arith)) ∙ there) in
+    let same : window_numbered sizes plan me st m ≡ w = same_Some _ _ (sym (get-window sizes plan me st m (omega arith)) ∙ there) in
     let before : last_of sizes plan me st m < first_of sizes plan me st n = ends-before-later sizes plan me st m n ticks lt h in
     subst (λ w. holds_offset offset w ≡ false) same (holds-not offset (window_numbered sizes plan me st m) (omega arith))
 
@@ -190,7 +175,7 @@ tail-here sizes plan me st k ticks from =
     let long : length (windows_of_frame sizes plan) ≡ stages_in sizes = how-many sizes plan in
     ap (λ o. unwrap_or o (tail_at sizes plan me st))
     (find-none (holds_offset (k - st.epoch)) (windows_of_frame sizes plan)
-    (λ m y there. let within : m < length (windows_of_frame sizes plan) = get-within (windows_of_frame sizes plan) m y there in
+    (λ m y there. let within : m < length (windows_of_frame sizes plan) = slice_get_within (windows_of_frame sizes plan) m y there in
     none-before sizes plan me st (stages_in sizes) (k - st.epoch) ticks (omega arith) (omega arith) m y (omega arith) there))
     ∙ sym (sync-numbered sizes plan me st 3)
 

@@ -15,7 +15,7 @@ use Rattle.rb_rules.specs.Rounds.{IsGoodIn, IsTickOf, IsTimely, Moment, heard_at
 use Rattle.rb_rules.proofs.Drift.{times_rise_to, HasLengths, drift}
 use Rattle.rb_rules.proofs.Stamps.{Moves, stamp_of-is}
 use Rattle.rb_laws_events.specs.Closing.{CloseInOrder, HaveBegunAFrame, HaveBegunTogether, stages_in}
-use Rattle.rb_laws_events.proofs.CloseOrder.{next-in-order, turn-in-order, IsWindowLater, WasGood, good-clock, has-ticks, shortest-some, was-good, window-later}
+use Rattle.rb_laws_events.proofs.CloseOrder.{next-in-order, turn-in-order, IsWindowLater, WasGood, shortest-some, was-good, window-later}
 use Rattle.rb_laws_events.proofs.Invariant.{ComesInWindow, entry_of, is_good_at, last_tick, word_at, sending_of}
 use Rattle.rb_laws_events.proofs.NodeCloses.{heard-all}
 use Rattle.rb_laws_events.proofs.RoundNodes.{slot-is, moments-stand, slot_numbered}
@@ -25,11 +25,14 @@ use Rattle.rb_laws_events.proofs.StageOrder.{last_of, last-same}
 use Rattle.rb_laws_events.proofs.NodeSends.{sending_at, sent-exactly}
 use Rattle.rb_laws_events.proofs.SentChanges.{sending-of-is}
 use Rattle.rb_laws_events.proofs.ReceiverHears.{way-least, way-most}
+use Rattle.rb_laws_events.proofs.SayLists.{every-to}
 use Rattle.rb_rules.specs.Links.{delay_of, name_of}
 use Rattle.rb_base.specs.declared.values.Place.{Place}
 use Rattle.rb_base.specs.Sizes.{sync_slot_of}
 use Rattle.rb_rules.specs.Plan.{f0_of, longest_of, shortest_of, skew_of}
 use Rattle.std.proofs.lemmas.Nat.{mul-le}
+use Rattle.rb_laws_agreement.proofs.FrameTimes.{good-clock}
+use Rattle.rb_laws_agreement.proofs.ExactAgrees.{has_ticks}
 use Rattle.rb_laws_events.proofs.TickWindows.{first-same, first_of}
 
 -- Good nodes.
@@ -42,10 +45,6 @@ good-in sc m me i st there good = (there, ap (is_good sc me i m.frame) (slot-is 
 every-of-all : (P : Coming → Type 0) (xs : List Coming) → All P xs → Every P xs
 every-of-all P [] all = tt
 every-of-all P (x ∷ xs) all = (All-head P x xs all, every-of-all P xs (All-tail P x xs all))
-
-every-map : (P Q : Coming → Type 0) → ((c : Coming) → P c → Q c) → (xs : List Coming) → Every P xs → Every Q xs
-every-map P Q f [] e = tt
-every-map P Q f (x ∷ xs) e = (f x e.0, every-map P Q f xs e.1)
 
 -- what good sources send in a timely window comes in it
 pub timely-heard : (sc : Scenario) (m : Moment) (me : Side) (i j : ℕ) (st source : NodeState) → Moves (clock_of sc me i) → IsTimely sc m
@@ -61,7 +60,7 @@ timely-heard sc m me i j st source moves timely there good frame source_there so
     every-of-all (λ c. IsTickOf (span_of st w) (stamp_of clock c.time)) (heard_at sc me i st w (sent_in sc m) j)
     (timely.heard me i j st source (good-in sc m me i st there good) (good-in sc m (other me) j source source_there source_good)) in
     subst (Every (ComesInWindow sc m me i st)) (sym entry)
-    (every-map (λ c. IsTickOf (span_of st w) (stamp_of clock c.time)) (ComesInWindow sc m me i st)
+    (every-to (λ c. IsTickOf (span_of st w) (stamp_of clock c.time)) (ComesInWindow sc m me i st)
     (λ c tick.
     let is : IsStamp clock c.time (stamp_of clock c.time) = stamp_of-is clock moves c.time in
     let up : time_of clock (stamp_of clock c.time) ≤ time_of clock (last_tick sc m me st) = times_rise_to clock (stamp_of clock c.time) (last_tick sc m me st) tick.1 in
@@ -121,7 +120,7 @@ later-exact sc hands lawful p together below me i j st source there good source_
     let next : IsWindowLater sc m m2 = window-later sc hands m (omega arith) in
     let w : m2.window ≡ n + 1 = next.window in
     let was : WasGood sc m (other me) j source.epoch =
-    was-good sc hands m (other me) j source (omega arith) (moments-stand sc hands p (has-ticks sc lawful)) (good-in sc m2 (other me) j source source_there source_good) in
+    was-good sc hands m (other me) j source (omega arith) (moments-stand sc hands p (has_ticks sc lawful)) (good-in sc m2 (other me) j source source_there source_good) in
     let lengths_i : HasLengths u (longest_of sc.plan) (clock_of sc me i) = good-clock sc lawful me i m.frame (slot_numbered sc.sizes n) good in
     let lengths_j : HasLengths u (longest_of sc.plan) (clock_of sc (other me) j) = good-clock sc lawful (other me) j m2.frame (slot_numbered sc.sizes m2.window) source_good in
     let epoch : source.epoch ≡ was.st.epoch = was.epoch_is in

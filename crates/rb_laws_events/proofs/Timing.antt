@@ -1,8 +1,8 @@
 -- For the law that events are rounds: where all good nodes are in time, each message lands in the window that it is
 -- for, and a node that closes a window has been sent all that is sent for it.
-use Rattle.std.proofs.Common.{◌≡◌, ℕ, zero, suc, ◌<◌, ◌≤◌, ◌⊎◌, nat_lt, Bool, true, false, List, [], ◌∷◌, length, refl, ap, sym, ◌∙◌, subst, arith, inl, inr, Option, Some, None, slice_get, option_and_then, option_map, option_to_list}
-use Rattle.std.proofs.lemmas.Bool.{cases_lt}
-use Rattle.std.proofs.lemmas.Bool.Decides.{nat_tests}
+use Rattle.std.proofs.Common.{◌≡◌, ℕ, ◌<◌, ◌≤◌, ◌⊎◌, Bool, true, false, List, [], ◌∷◌, length, refl, ap, sym, ◌∙◌, subst, arith, inl, inr, Option, Some, None, slice_get, option_and_then, option_map, option_to_list}
+use Rattle.std.proofs.lemmas.Bool.{cases_lt, lt-ltb, true≢false}
+use Rattle.std.proofs.lemmas.Option.{same_Some, slice_get_within}
 use Rattle.rb_base.specs.Nodes.{Side, other}
 use Rattle.rb_rules.specs.Book.{Each, of_kind}
 use Rattle.rb_rules.specs.Clock.{Timeline, time_of}
@@ -16,15 +16,17 @@ use Rattle.rb_rules.specs.Slots.{count_of}
 use Rattle.rb_rules.specs.WorldStep.{Timed, Site}
 use Rattle.rb_rules.proofs.Drift.{times_rise_to}
 use Rattle.rb_rules.proofs.RoundStates.{HasTicks}
+use Rattle.rb_rules.proofs.Slots.{other_twice}
+use Rattle.rb_laws_agreement.proofs.Goodnesses.{good_counts}
 use Rattle.rb_laws_events.specs.Closing.{stages_in}
 use Rattle.rb_laws_events.proofs.Invariant.{ComesInWindow, ComesLater, InTime, NodeStands, entry_of, has_sent, is_good_at, is_past, last_tick, next_stage, sending_of}
 use Rattle.rb_laws_events.proofs.MomentSteps.{NextIsStage, good-back, good-state, next-is-stage}
 use Rattle.rb_laws_events.proofs.NodeClosing.{OthersKeepUp}
 use Rattle.rb_laws_events.proofs.ReceiverHears.{comes-after}
-use Rattle.rb_laws_events.proofs.RoundNodes.{good-counts, item-at, slot_numbered}
+use Rattle.rb_laws_events.proofs.RoundNodes.{item-at, slot_numbered}
 use Rattle.rb_laws_events.proofs.SameHeard.{Every}
 use Rattle.rb_laws_events.proofs.SentChanges.{none-of-tail, past, sent-earlier, sent-here, sent-later}
-use Rattle.rb_laws_events.proofs.WorldStands.{IsDown, IsUp, SitesStand, ahead_in, other-twice, sent_by, some-same}
+use Rattle.rb_laws_events.proofs.WorldStands.{IsDown, IsUp, SitesStand, ahead_in, sent_by}
 use Rattle.rb_laws_events.proofs.WorldTicks.{AllLand, on_way}
 
 -- the nodes have passed the windows before those in which they stand
@@ -42,11 +44,6 @@ pub record AreInTime (sc : Scenario) (hands : List HandIn) (at : Side → ℕ �
       → at (other me) j ≡ next_stage sc.sizes (moment sc hands (at me i)) (at me i)
       → is_good_at sc (moment sc hands (next_stage sc.sizes (moment sc hands (at me i)) (at me i))) (other me) j ≡ true
       → ComesLater sc (moment sc hands (at me i)) (moment sc hands (next_stage sc.sizes (moment sc hands (at me i)) (at me i))) me i j st
-
-get-within : {X : Type 0} (xs : List X) (n : ℕ) (x : X) → slice_get xs n ≡ Some x → n < length xs
-get-within [] n x e = cc
-get-within (y ∷ ys) zero x e = omega arith
-get-within (y ∷ ys) (suc n) x e = let more : n < length ys = get-within ys n x e in omega arith
 
 -- the pending tick of a node that runs comes no later than the last of its window
 ends-later : (sc : Scenario) (hands : List HandIn) (sent : Side → ℕ → ℕ → Bool) (now : ℕ) (me : Side) (i p : ℕ) (s : Site) (st : NodeState) (a : Timed)
@@ -66,7 +63,7 @@ entry-is : (sc : Scenario) (m : Moment) (me : Side) (i frame k : ℕ) (j : ℕ) 
     → entry_of sc m (other me) j i ≡ on_way sc me i frame k x.message j ∷ []
 entry-is sc m me i frame k j x is tick in_frame =
     let x_is : x ≡ record { tick = k; message = x.message } = ap (λ t. let y : Sending = record { tick = t; message = x.message } in y) tick in
-    ap (λ y. option_to_list (option_map (coming_of sc (other me) j i m.frame) (sending_of sc m y i))) (other-twice me)
+    ap (λ y. option_to_list (option_map (coming_of sc (other me) j i m.frame) (sending_of sc m y i))) (other_twice me)
     ∙ ap (λ o. option_to_list (option_map (coming_of sc (other me) j i m.frame) o)) is
     ∙ ap (λ y. coming_of sc (other me) j i m.frame y ∷ []) x_is
     ∙ ap (λ f. coming_of sc (other me) j i f (record { tick = k; message = x.message }) ∷ []) (sym in_frame)
@@ -89,13 +86,13 @@ all-land sc hands now at sites me i frame k t lawful ticks later time counted go
     let clock : Timeline = clock_of sc (other me) j in
     let entry : entry_of sc mq (other me) j i ≡ e ∷ [] = entry-is sc mq me i frame k j x is tick in_frame in
     let after : t < e.time =
-    subst (λ u. u < e.time) (ap (λ y. time_of (clock_of sc y i) k) (other-twice me) ∙ sym time)
+    subst (λ u. u < e.time) (ap (λ y. time_of (clock_of sc y i) k) (other_twice me) ∙ sym time)
     (comes-after sc lawful (other me) j i frame (record { tick = k; message = x.message })) in
-    let within : j < length (of_kind (other me) sites) = get-within (of_kind (other me) sites) j z there in
+    let within : j < length (of_kind (other me) sites) = slice_get_within (of_kind (other me) sites) j z there in
     let long : length (of_kind (other me) sites) ≡ count_of (other me) sc.sizes = counts (other me) in
     let here : InTime sc mp (moment sc hands (next_stage sc.sizes mp p)) = times.each (other me) j stands.good in
     let source : InTime sc mq (moment sc hands (next_stage sc.sizes mq q)) = times.each me i good in
-    let twice : is_good_at sc mq (other (other me)) i ≡ true = ap (λ y. is_good_at sc mq y i) (other-twice me) ∙ good in
+    let twice : is_good_at sc mq (other (other me)) i ≡ true = ap (λ y. is_good_at sc mq y i) (other_twice me) ∙ good in
     let next : NextIsStage sc hands p = next-is-stage sc hands p stands.stands.window in
     let stage : mq.window < stages_in sc.sizes = elim (cases_lt mq.window (stages_in sc.sizes)) [
       | inl lt ↦ lt
@@ -126,7 +123,7 @@ all-land sc hands now at sites me i frame k t lawful ticks later time counted go
                 let same : q ≡ next_stage sc.sizes mp p = omega arith in
                 let all : Every (λ c. time_of clock (last_tick sc mp (other me) st) < c.time) (e ∷ []) =
                 subst (Every (λ c. time_of clock (last_tick sc mp (other me) st) < c.time)) (ap (λ q. entry_of sc (moment sc hands q) (other me) j i) (sym same) ∙ entry)
-                (times.later (other me) j i st stands.state stands.good (ap (λ y. at y i) (other-twice me) ∙ same)
+                (times.later (other me) j i st stands.state stands.good (ap (λ y. at y i) (other_twice me) ∙ same)
                 (ap (λ q. is_good_at sc (moment sc hands q) (other (other me)) i) (sym same) ∙ twice)) in
                 inr (same, all.0)
             | inl beyond ↦
@@ -144,12 +141,6 @@ all-land sc hands now at sites me i frame k t lawful ticks later time counted go
     ]
 
 -- The others keep up.
-
-true-false : true ≡ false → ⊥
-true-false e = cc
-
-lt-is : (a b : ℕ) → a < b → nat_lt a b ≡ true
-lt-is a b h = grind (arith, nat_tests)
 
 -- a source that is good in the closing node's window has sent what it sends for it
 source-sent : (sc : Scenario) (hands : List HandIn) (t : ℕ) (at : Side → ℕ → ℕ) (sites : Each Site) (me : Side) (i j : ℕ) (st : NodeState) (z : Site)
@@ -177,7 +168,7 @@ source-sent sc hands t at sites me i j st z lawful ticks there good time within 
       | inr not_past ↦ elim node [
         | inr off ↦
             let good_q : is_good_at sc mq (other me) j ≡ true = good-back sc hands q p (other me) j not_past good_j in
-            absurd (true-false (sym good_q ∙ off.1.not_good))
+            absurd (true≢false (sym good_q ∙ off.1.not_good))
         | inl on ↦
             let up : IsUp sc hands (sent_by sc hands at sites) t (other me) j q z = on.1 in
             let source : InTime sc mq (moment sc hands (next_stage sc.sizes mq q)) = times.each (other me) j up.stands.good in
@@ -201,7 +192,7 @@ source-sent sc hands t at sites me i j st z lawful ticks there good time within 
                   ap (λ r. has_sent (sending_of sc m (other me) j) r (ahead_in (of_kind (other me) sites) j) p) same
                   ∙ sent-here (sending_of sc m (other me) j) p (ahead_in (of_kind (other me) sites) j)
                   ∙ ap (λ o. past o (ahead_in (of_kind (other me) sites) j)) is
-                  ∙ ap (is_past x.tick) (pend ∙ up.stands.receives.pends) ∙ lt-is x.tick a.tick before
+                  ∙ ap (is_past x.tick) (pend ∙ up.stands.receives.pends) ∙ lt-ltb x.tick a.tick before
               | inl behind ↦
                   let next : NextIsStage sc hands q = next-is-stage sc hands q up.stands.stands.window in
                   let y : ℕ = next_stage sc.sizes mq q in
@@ -220,7 +211,7 @@ source-sent sc hands t at sites me i j st z lawful ticks there good time within 
                           | inr ge ↦
                               let same : y ≡ p = omega arith in
                               let st_is : was.0 ≡ st =
-                              some-same was.0 st (sym was.1 ∙ ap (λ y. slice_get (of_kind me (moment sc hands y).nodes) i) same ∙ there) in
+                              same_Some was.0 st (sym was.1 ∙ ap (λ y. slice_get (of_kind me (moment sc hands y).nodes) i) same ∙ there) in
                               let last : time_of (clock_of sc me i) (last_tick sc (moment sc hands y) me was.0) ≡ t =
                               ap (λ y. time_of (clock_of sc me i) (last_tick sc (moment sc hands y) me was.0)) same
                               ∙ ap (λ z. time_of (clock_of sc me i) (last_tick sc m me z)) st_is ∙ sym time in
@@ -253,7 +244,7 @@ keep-up sc hands t at sites me i st lawful ticks there good time within passed t
     let next : NextIsStage sc hands p = next-is-stage sc hands p within in
     record {
       all_sent = λ j good_j.
-          let counted_j : j < count_of (other me) sc.sizes = good-counts sc (other me) j m.frame (slot_numbered sc.sizes m.window) good_j in
+          let counted_j : j < count_of (other me) sc.sizes = good_counts sc (other me) j m.frame (slot_numbered sc.sizes m.window) good_j in
           let long : length (of_kind (other me) sites) ≡ count_of (other me) sc.sizes = h.counts (other me) in
           let site = item-at (of_kind (other me) sites) j (omega arith) in
           let go : (o : Option Sending) → sending_of sc m (other me) j ≡ o → (sent_by sc hands at sites (other me) j p ≡ true) ⊎ (entry_of sc m me i j ≡ []) =

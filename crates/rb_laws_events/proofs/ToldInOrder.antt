@@ -3,9 +3,11 @@
 use Rattle.std.proofs.Common.{◌≡◌, ℕ, suc, ◌+◌, ◌-◌, ◌*◌, ◌%◌, ◌<◌, ◌≤◌, ◌==◌, ◌⊎◌, Bool, true, false, List, refl, ap, sym, ◌∙◌, subst, arith, inl, inr, Option, Some, None, slice_get, if◌then◌else◌}
 use Rattle.std.proofs.lemmas.Bool.{cases_lt, lt-ltb, le-ltb}
 use Rattle.std.proofs.lemmas.Bool.Decides.{nat_tests}
+use Rattle.std.proofs.lemmas.Option.{same_Some}
 use Rattle.rb_base.specs.Nodes.{Side}
 use Rattle.rb_base.specs.Sizes.{Sizes, sync_slot_of}
 use Rattle.rb_base.specs.declared.values.Place.{Place}
+use Rattle.rb_base.proofs.Plain.{option_map-back}
 use Rattle.rb_rules.specs.declared.message.Message.{Message}
 use Rattle.rb_rules.specs.declared.record.Epoch.{Epoch}
 use Rattle.rb_rules.specs.Book.{Begun, Each, Row, of_kind}
@@ -31,7 +33,7 @@ use Rattle.rb_laws_events.proofs.RoundNodes.{slot_numbered}
 use Rattle.rb_laws_events.proofs.Telling.{place-is, reached-tells, row-place, tail-stage}
 use Rattle.rb_laws_events.proofs.Timing.{AreInTime, HavePassed}
 use Rattle.rb_laws_events.proofs.WorldEvents.{AfterTick, state-frame}
-use Rattle.rb_laws_events.proofs.WorldStands.{IsUp, SitesStand, back-from, is_node, node-is, sent_by, some-same}
+use Rattle.rb_laws_events.proofs.WorldStands.{IsUp, SitesStand, is_node, node-is, sent_by}
 use Rattle.rb_laws_events.proofs.WorldTicks.{after_tick, get-after, moved, reached, reached-same}
 
 -- Numbers.
@@ -67,7 +69,7 @@ begun-then sc ports me i k y o b = by (y.epoch == k) refl
     by : (t : Bool) → (y.epoch == k) ≡ t
         → begun_after sc ports me i (elim t as (λ _. Option Epoch) [ true ↦ Some (epoch_of sc.sizes me y) | false ↦ None ]) o ≡ Some b
         → ((b.frame ≡ y.frame) × (y.epoch ≡ k)) ⊎ (o ≡ Some b)
-    by true f e = inl (sym (ap (λ (b : Begun). b.frame) (some-same (begun_of sc ports me i (epoch_of sc.sizes me y)) b e)), same-number y.epoch k f)
+    by true f e = inl (sym (ap (λ (b : Begun). b.frame) (same_Some (begun_of sc ports me i (epoch_of sc.sizes me y)) b e)), same-number y.epoch k f)
     by false f e = inr e
 
 -- the state of a tick has the frame and the first tick of the window's
@@ -175,8 +177,8 @@ told-open sc hands sent ports me i p s st a x there frame pend stays h =
         | inr old ↦ h.begun b old
       ];
       fresh = λ b a2 st2 e same first pend2 there2.
-          let st_is : st ≡ st2 = some-same st st2 (sym there ∙ there2) in
-          let a_is : stays.a ≡ a2 = some-same stays.a a2 (sym ahead_is ∙ pend2) in
+          let st_is : st ≡ st2 = same_Some st st2 (sym there ∙ there2) in
+          let a_is : stays.a ≡ a2 = same_Some stays.a a2 (sym ahead_is ∙ pend2) in
           let tick : stays.a.tick ≡ a2.tick = ap (λ (a : Timed). a.tick) a_is in
           let epoch : st.epoch ≡ st2.epoch = ap (λ (z : NodeState). z.epoch) st_is in
           elim (begun-at sc hands ports me i p a.tick word st x.epoch s.begun b stays.act.epoch frame (sym begun_is ∙ e)) [
@@ -239,7 +241,7 @@ pub one-changes : (P : Side → ℕ → ℕ → Site → Type 0) (sc : Scenario)
     → ((side : Side) (j : ℕ) (z : Site) → is_node me i side j ≡ false → slice_get (of_kind side sites) j ≡ Some z → P side j (at side j) z)
     → (side : Side) (j : ℕ) (z : Site) → slice_get (of_kind side (with_message sc me i frame k m (at_node me i change sites))) j ≡ Some z → P side j (moved me i r at side j) z
 one-changes P sc at sites me i frame k r m change s on there new all side j z e =
-    let was = back-from (after_tick sc me i frame k m change side j) (slice_get (of_kind side sites) j) z (sym (get-after sc me i frame k m change sites side j) ∙ e) in
+    let was = option_map-back (after_tick sc me i frame k m change side j) (slice_get (of_kind side sites) j) z (sym (get-after sc me i frame k m change sites side j) ∙ e) in
     let go : (d : Bool) → is_node me i side j ≡ d → reached sc me i frame k m side j (elim d as (λ _. Site) [ true ↦ change was.0 | false ↦ was.0 ]) ≡ z
     → P side j (elim d as (λ _. ℕ) [ true ↦ r | false ↦ at side j ]) z =
     λ d. elim d as (λ d. is_node me i side j ≡ d → reached sc me i frame k m side j (elim d as (λ _. Site) [ true ↦ change was.0 | false ↦ was.0 ]) ≡ z
@@ -247,7 +249,7 @@ one-changes P sc at sites me i frame k r m change s on there new all side j z e 
       | true ↦ λ f g.
           let is = node-is me side i j f in
           let here : slice_get (of_kind me sites) i ≡ Some was.0 = sym (ap (λ y. slice_get (of_kind y sites) j) is.0 ∙ ap (slice_get (of_kind me sites)) is.1) ∙ was.1.0 in
-          let s_is : s ≡ was.0 = some-same s was.0 (sym there ∙ here) in
+          let s_is : s ≡ was.0 = same_Some s was.0 (sym there ∙ here) in
           let own : P side j r (change was.0) =
           subst (λ z. P side j r (change z)) s_is (subst (λ y. P y j r (change s)) (sym is.0) (subst (λ n. P me n r (change s)) (sym is.1) new)) in
           subst (P side j r) g (on side j r (change was.0) own)

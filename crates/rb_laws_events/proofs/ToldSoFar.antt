@@ -1,10 +1,11 @@
 -- For the law that events are rounds: each node has told of all windows that it has closed and, but for a first tick that pends, of the
 -- begin of its frame.
 use Rattle.std.proofs.Common.{◌≡◌, ℕ, ◌+◌, ◌*◌, ◌<◌, ◌≤◌, ◌==◌, ◌%◌, ◌⊎◌, Bool, true, false, List, [], ◌∷◌, ◌++◌, length, refl, ap, sym, ◌∙◌, subst, arith, inl, inr, Option, Some, None, slice_get}
-use Rattle.std.proofs.lemmas.Bool.{cases_lt}
+use Rattle.std.proofs.lemmas.Bool.{cases_lt, eq-eqb, eqb-true}
 use Rattle.std.proofs.lemmas.Bool.Decides.{nat_tests}
 use Rattle.rb_base.specs.Nodes.{Side}
 use Rattle.rb_base.specs.Sizes.{Sizes}
+use Rattle.rb_base.proofs.Plain.{option_map-back}
 use Rattle.rb_rules.specs.declared.message.Message.{Message}
 use Rattle.rb_rules.specs.declared.plan.Plan.{Plan}
 use Rattle.rb_rules.specs.declared.record.Epoch.{Epoch}
@@ -19,7 +20,7 @@ use Rattle.rb_rules.specs.Rounds.{Moment, go_through, moment, sent_in, window_in
 use Rattle.rb_rules.specs.SyncStage.{new_epoch_of}
 use Rattle.rb_rules.specs.WorldStep.{Site, Timed, after_act, after_arrival, at_node, await, enter, first_world, fresh_site, proceed, says_in, span_from, stop, with_message}
 use Rattle.rb_rules.specs.Slots.{count_of}
-use Rattle.std.proofs.lemmas.Option.{slice_get_within}
+use Rattle.std.proofs.lemmas.Option.{same_Some, slice_get_within}
 use Rattle.rb_rules.proofs.WindowNumbers.{get-made}
 use Rattle.rb_laws_events.proofs.FirstWorld.{at_begin}
 use Rattle.rb_laws_events.proofs.HandedIn.{AreEarly}
@@ -33,12 +34,11 @@ use Rattle.rb_laws_events.proofs.MomentSteps.{NextIsStage, next-is-stage}
 use Rattle.rb_laws_events.proofs.NodeClosing.{ClosesWindow}
 use Rattle.rb_laws_events.proofs.NodeEvents.{StaysOpen, begun_after}
 use Rattle.rb_laws_events.proofs.NodeTicks.{Like, like-in, state_in}
-use Rattle.rb_laws_events.proofs.Settling.{some-same}
 use Rattle.rb_laws_events.proofs.Telling.{place-is, reached-tells, row-place, tail-stage}
 use Rattle.rb_laws_events.proofs.TickWindows.{first-same, first_of}
 use Rattle.rb_laws_events.proofs.ToldInOrder.{one-changes}
 use Rattle.rb_laws_events.proofs.WorldEvents.{AfterTick, state-frame}
-use Rattle.rb_laws_events.proofs.WorldStands.{IsUp, SitesStand, back-from, get-at, is_node, sent_by}
+use Rattle.rb_laws_events.proofs.WorldStands.{IsUp, SitesStand, get-at, is_node, sent_by}
 use Rattle.rb_laws_events.proofs.WorldTicks.{moved, reached, reached-same}
 
 -- the pending tick of a node in moment p is the frame's first
@@ -58,12 +58,6 @@ pub record HasTold (sc : Scenario) (hands : List HandIn) (me : Side) (i p : ℕ)
 
 -- Begins.
 
-same-is : (a b : ℕ) → a ≡ b → (a == b) ≡ true
-same-is a b h = grind (arith, nat_tests)
-
-same-number : (a b : ℕ) → (a == b) ≡ true → a ≡ b
-same-number a b h = grind (arith, nat_tests)
-
 -- what is told of a begin stays, or is told again
 begun-stays : (sc : Scenario) (ports : List PortState) (me : Side) (i k : ℕ) (y : NodeState) (b : Begun) → y.frame ≡ b.frame
     → (c : Begun) × ((begun_after sc ports me i (epoch_at sc.sizes me y k) (Some b) ≡ Some c) × (c.frame ≡ b.frame))
@@ -78,7 +72,7 @@ begun-now : (sc : Scenario) (ports : List PortState) (me : Side) (i k : ℕ) (y 
     → (c : Begun) × ((begun_after sc ports me i (epoch_at sc.sizes me y k) o ≡ Some c) × (c.frame ≡ y.frame))
 begun-now sc ports me i k y o at = (
   begun_of sc ports me i (epoch_of sc.sizes me y),
-  (ap (λ t. begun_after sc ports me i (elim t as (λ _. Option Epoch) [ true ↦ Some (epoch_of sc.sizes me y) | false ↦ None ]) o) (same-is y.epoch k at), refl),
+  (ap (λ t. begun_after sc ports me i (elim t as (λ _. Option Epoch) [ true ↦ Some (epoch_of sc.sizes me y) | false ↦ None ]) o) (eq-eqb y.epoch k at), refl),
 )
 
 told-begun : (sc : Scenario) (hands : List HandIn) (ports : List PortState) (me : Side) (i p k : ℕ) (st : NodeState) (s z : Site) (x : Act)
@@ -97,7 +91,7 @@ told-begun sc hands ports me i p k st s z x there frame pend epoch is (inr first
     let word : ℕ = word_at sc (moment sc hands p) me i st in
     let y : NodeState = state_in sc.sizes sc.plan me i st n word k in
     let like : Like sc.sizes sc.plan me i st y = like-in sc.sizes sc.plan me i st n word k in
-    let st_is : first.st ≡ st = some-same first.st st (sym first.state ∙ there) in
+    let st_is : first.st ≡ st = same_Some first.st st (sym first.state ∙ there) in
     let at : y.epoch ≡ k = like.epoch ∙ sym (ap (λ (z : NodeState). z.epoch) st_is) ∙ sym first.first ∙ pend first.a first.ahead in
     let c = begun-now sc ports me i k y s.begun at in
     (c.0, (is ∙ ap (λ e. begun_after sc ports me i e s.begun) epoch ∙ c.1.0, c.1.1 ∙ state-frame sc me i st n word k ∙ frame))
@@ -109,7 +103,7 @@ state-epoch sizes plan me st k = by (new_epoch_of plan me st)
   where
     turned : (e : ℕ) (b : Bool) → (e == k) ≡ b → ((elim b as (λ _. NodeState) [ true ↦ turn sizes plan.probation me e st | false ↦ st ]) ≡ st)
         ⊎ ((elim b as (λ _. NodeState) [ true ↦ turn sizes plan.probation me e st | false ↦ st ]).epoch ≡ k)
-    turned e true h = inr (same-number e k h)
+    turned e true h = inr (eqb-true e k h)
     turned e false h = inl refl
 
     by : (o : Option ℕ) → ((elim (is_tick o k) as (λ _. NodeState) [ true ↦ elim o as (λ _. NodeState) [ None ↦ st | Some e ↦ turn sizes plan.probation me e st ] | false ↦ st ]) ≡ st)
@@ -133,7 +127,7 @@ first-pends sc hands sent now me i p s st a h had =
           elim (state-epoch sc.sizes sc.plan me s.core.state a.tick) [
             | inl same ↦
                 let at : s.core.state.epoch ≡ s.core.had = ap (λ (z : NodeState). z.epoch) (sym same) ∙ then_epoch ∙ sym had in
-                absurd (true-false (sym (same-is s.core.state.epoch s.core.had at) ∙ quiet.no_begin))
+                absurd (true-false (sym (eq-eqb s.core.state.epoch s.core.had at) ∙ quiet.no_begin))
             | inr turned ↦ absurd (omega (arith, lt, had, then_epoch, turned))
           ]
     ] in
@@ -153,7 +147,7 @@ told-open sc hands sent ports me i p s st a x there frame pend stays h = record 
       (old.0, (ap (λ (z : Site). z.row) stays.site ∙ old.1.0, old.1.1));
   begun = λ first runs.
       inl (told-begun sc hands ports me i p a.tick st s (after_act sc ports me i x s) x there frame
-      (λ b e. sym (ap (λ (a : Timed). a.tick) (some-same a b (sym pend ∙ e)))) stays.act.epoch (ap (λ (z : Site). z.begun) stays.site)
+      (λ b e. sym (ap (λ (a : Timed). a.tick) (same_Some a b (sym pend ∙ e)))) stays.act.epoch (ap (λ (z : Site). z.begun) stays.site)
       (h.begun first (sym (ap (λ (z : Site). z.runs) stays.site) ∙ runs)));
 }
 
@@ -282,19 +276,23 @@ pub arrival-keeps : (sc : Scenario) (me : Side) (i n : ℕ) (c : Coming) (s : Si
 unfolding after_arrival
 arrival-keeps sc me i n c s = (refl, (refl, (refl, refl)))
 
-entered-had : (sc : Scenario) (me : Side) (i : ℕ) (o : Option Span) (s : Site) → (enter sc me i o s).core ≡ s.core
-entered-had sc me i None s = refl
-entered-had sc me i (Some span) s = by (is_good sc me i span.place.frame span.place.slot)
+pub entered-core : (sc : Scenario) (me : Side) (i : ℕ) (o : Option Span) (s : Site) → (enter sc me i o s).core ≡ s.core
+entered-core sc me i None s = refl
+entered-core sc me i (Some span) s = by (is_good sc me i span.place.frame span.place.slot)
   where
     by : (b : Bool) → (elim b as (λ _. Site) [ true ↦ await sc me i (says_in sc me i span) s | false ↦ stop s ]).core ≡ s.core
     by true = refl
     by false = refl
 
+pub proceed-core : (sc : Scenario) (me : Side) (i : ℕ) (s : Site) → (proceed sc me i s).core ≡ s.core
+unfolding proceed
+proceed-core sc me i s = entered-core sc me i (span_from sc.sizes sc.plan me s.core.state s.core.had) s
+
 proceed-had : (sc : Scenario) (me : Side) (i : ℕ) → (proceed sc me i (fresh_site sc.sizes me)).core ≡ (fresh_site sc.sizes me).core
 unfolding proceed
 proceed-had sc me i =
     let s : Site = fresh_site sc.sizes me in
-    entered-had sc me i (span_from sc.sizes sc.plan me s.core.state s.core.had) s
+    entered-core sc me i (span_from sc.sizes sc.plan me s.core.state s.core.had) s
 
 first-had : (sc : Scenario) (me : Side) (i : ℕ) (s : Site) → slice_get (of_kind me (first_world sc).sites) i ≡ Some s → s.core.had ≡ 0
 unfolding first_world
@@ -302,14 +300,14 @@ first-had sc me i s e =
     let make : Side → ℕ → Site = λ me i. proceed sc me i (fresh_site sc.sizes me) in
     let within : i < length (of_kind me (each_of sc.sizes make)) = slice_get_within (of_kind me (each_of sc.sizes make)) i s e in
     let long : length (of_kind me (each_of sc.sizes make)) ≡ count_of me sc.sizes = first-counts sc.sizes make me in
-    let same : make me i ≡ s = some-same (make me i) s (sym (get-made sc.sizes make me i (omega arith)) ∙ e) in
+    let same : make me i ≡ s = same_Some (make me i) s (sym (get-made sc.sizes make me i (omega arith)) ∙ e) in
     ap (λ (z : Site). z.core.had) (sym same) ∙ ap (λ (c : Core). c.had) (proceed-had sc me i)
 
 pub so-far-arrival : (sc : Scenario) (hands : List HandIn) (at : Side → ℕ → ℕ) (sites : Each Site) (me : Side) (i n : ℕ) (c : Coming)
     → AllHaveTold sc hands at sites → AllHaveTold sc hands at (at_node me i (after_arrival sc me i n c) sites)
 so-far-arrival sc hands at sites me i n c all side j z e =
     let change : Site → Site = after_arrival sc me i n c in
-    let was = back-from (λ s. elim (is_node me i side j) as (λ _. Site) [ true ↦ change s | false ↦ s ]) (slice_get (of_kind side sites) j) z (sym (get-at me side i j change sites) ∙ e) in
+    let was = option_map-back (λ s. elim (is_node me i side j) as (λ _. Site) [ true ↦ change s | false ↦ s ]) (slice_get (of_kind side sites) j) z (sym (get-at me side i j change sites) ∙ e) in
     subst (HasTold sc hands side j (at side j)) was.1.1 (by (is_node me i side j) was.0 (all side j was.0 was.1.0))
   where
     same : (s : Site) → ((after_arrival sc me i n c s).row ≡ s.row) × (((after_arrival sc me i n c s).begun ≡ s.begun) × (((after_arrival sc me i n c s).ahead ≡ s.ahead) × ((after_arrival sc me i n c s).runs ≡ s.runs)))

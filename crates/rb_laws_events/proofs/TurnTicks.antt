@@ -5,6 +5,7 @@ use Rattle.std.proofs.lemmas.Bool.{cases_lt}
 use Rattle.std.proofs.lemmas.Bool.Decides.{nat_tests}
 use Rattle.rb_base.specs.Nodes.{Side}
 use Rattle.rb_base.specs.Sizes.{Sizes}
+use Rattle.rb_base.proofs.Plain.{eq_self, more-differs}
 use Rattle.rb_rules.specs.declared.plan.Plan.{Plan}
 use Rattle.rb_rules.specs.Conviction.{turn}
 use Rattle.rb_rules.specs.Core.{Act, Core, act_at, act_on, busy_among, is_busy, is_last, is_spent, is_tick, next_tick, said_at, state_at, state_kept, tick}
@@ -14,12 +15,6 @@ use Rattle.rb_rules.specs.Plan.{tail_start_of}
 use Rattle.rb_rules.specs.SyncStage.{new_epoch_of}
 use Rattle.rb_laws_events.proofs.NodeActs.{HasRoom}
 use Rattle.rb_laws_events.proofs.TailTicks.{GoesOn, HasTurned, IsAfter, IsInTail, tail-act, turned-act, turned-epoch}
-
-equal-itself : (n : ℕ) → (n == n) ≡ true
-equal-itself n = grind (arith, nat_tests)
-
-above-differs : (a b : ℕ) → b < a → (a == b) ≡ false
-above-differs a b h = grind (arith, nat_tests)
 
 -- The state at a tick.
 
@@ -31,13 +26,13 @@ turns-at : (sizes : Sizes) (plan : Plan) (me : Side) (st : NodeState) (x : ℕ) 
 unfolding state_at
 turns-at sizes plan me st x known =
     ap (λ o. elim (is_tick o x) as (λ _. NodeState) [ true ↦ elim o as (λ _. NodeState) [ None ↦ st | Some e ↦ turn sizes plan.probation me e st ] | false ↦ st ]) known
-    ∙ ap (λ b. elim b as (λ _. NodeState) [ true ↦ turn sizes plan.probation me x st | false ↦ st ]) (equal-itself x)
+    ∙ ap (λ b. elim b as (λ _. NodeState) [ true ↦ turn sizes plan.probation me x st | false ↦ st ]) (eq_self x)
 
 pub not-yet : (sizes : Sizes) (plan : Plan) (me : Side) (st : NodeState) (x k : ℕ) → new_epoch_of plan me st ≡ Some x → k < x → state_at sizes plan me st k ≡ st
 unfolding state_at
 not-yet sizes plan me st x k known lt =
     ap (λ o. elim (is_tick o k) as (λ _. NodeState) [ true ↦ turn_if_known sizes plan me st | false ↦ st ]) known
-    ∙ ap (λ b. elim b as (λ _. NodeState) [ true ↦ turn_if_known sizes plan me st | false ↦ st ]) (above-differs x k lt)
+    ∙ ap (λ b. elim b as (λ _. NodeState) [ true ↦ turn_if_known sizes plan me st | false ↦ st ]) (more-differs x k lt)
 
 pub no-next : (sizes : Sizes) (plan : Plan) (me : Side) (st : NodeState) (k : ℕ) → new_epoch_of plan me st ≡ None → state_at sizes plan me st k ≡ st
 unfolding state_at
@@ -125,7 +120,7 @@ begin-busy sizes plan me i st x known =
     let epoch : y.epoch ≡ x = (turn-is sizes plan.probation me x st).epoch in
     ap (λ (z : NodeState). (z.epoch == x) || is_last sizes plan me z x || is_some (said_at sizes plan me i z 0 x)) (turns-at sizes plan me st x known)
     ∙ ap (λ n. (n == x) || is_last sizes plan me y x || is_some (said_at sizes plan me i y 0 x)) epoch
-    ∙ ap (λ b. b || is_last sizes plan me y x || is_some (said_at sizes plan me i y 0 x)) (equal-itself x)
+    ∙ ap (λ b. b || is_last sizes plan me y x || is_some (said_at sizes plan me i y 0 x)) (eq_self x)
 
 -- so in the tail it is no later than the begin of the next frame
 pub awaits-next : (sizes : Sizes) (plan : Plan) (me : Side) (i frame e x : ℕ) (c : Core) (k : ℕ) → (IsInTail sizes plan me frame e x c.state c.had × (c.had ≤ x)) ⊎ HasTurned frame x c.state c.had

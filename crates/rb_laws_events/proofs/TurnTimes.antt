@@ -1,6 +1,7 @@
 -- For the law that events are rounds: over the turn of a run that has not ended, what good nodes send in the next frame comes after all
 -- windows of this one, and no good node closes its first window before all good nodes have begun the frame.
 use Rattle.std.proofs.Common.{◌≡◌, ℕ, zero, suc, ◌+◌, ◌*◌, ◌-◌, ◌≤◌, ◌<◌, true, List, refl, ap, sym, ◌∙◌, subst, arith, Option, Some, None, slice_get, option_map, option_to_list, unwrap_or}
+use Rattle.std.proofs.lemmas.Option.{same_Some}
 use Rattle.rb_base.specs.Nodes.{Side, other}
 use Rattle.rb_base.specs.declared.values.Place.{Place}
 use Rattle.rb_rules.specs.Book.{of_kind}
@@ -26,7 +27,6 @@ use Rattle.rb_laws_events.proofs.Invariant.{entry_of, is_good_at, last_tick, sen
 use Rattle.rb_laws_events.proofs.NodeSends.{sending_at, sent-exactly}
 use Rattle.rb_laws_events.proofs.NodeTicks.{tail-last}
 use Rattle.rb_laws_events.proofs.ReceiverHears.{way-least}
-use Rattle.rb_laws_events.proofs.RoundNodes.{some-same}
 use Rattle.rb_laws_events.proofs.SameHeard.{Every}
 use Rattle.rb_laws_events.proofs.SentChanges.{sending-of-is}
 use Rattle.rb_laws_events.proofs.StageOrder.{last_of, last-same}
@@ -45,7 +45,7 @@ begins-between sc hands lawful t h me i now there good =
     let knew : KnewEpoch sc (moment sc hands t) me i now.epoch =
     knew-epoch sc hands lawful t h.at h.running me i now (good-node sc (moment sc hands (suc (suc t))) me i now there good) in
     let k : KnowsEpoch sc me i knew.st h.next.0 = h.next.1 me i knew.st knew.node in
-    let same : k.takes.epoch ≡ now.epoch = some-same k.takes.epoch now.epoch (sym k.takes.known ∙ knew.known) in
+    let same : k.takes.epoch ≡ now.epoch = same_Some k.takes.epoch now.epoch (sym k.takes.known ∙ knew.known) in
     subst (λ e. IsBetween h.next.0 (h.next.0 + sc.plan.p) (time_of (clock_of sc me i) e)) same k.between
 
 in-first : (sc : Scenario) (hands : List HandIn) (t : ℕ) → (moment sc hands t).window ≡ stages_in sc.sizes → (moment sc hands (suc (suc t))).window ≡ 0

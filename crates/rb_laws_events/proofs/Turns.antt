@@ -1,11 +1,11 @@
 -- For the law that a turn is a record: where events are rounds, each call gives no record or the next of the rounds.
 use Rattle.std.proofs.Common.{◌≡◌, ℕ, ◌+◌, List, [], ◌∷◌, ◌++◌, length, append_assoc, refl, ap, sym, ◌∙◌, subst, arith, inl, inr, Some, slice_get}
+use Rattle.rb_base.proofs.Plain.{slice_get-back}
 use Rattle.rb_rules.specs.Book.{Record}
 use Rattle.rb_rules.specs.Goodness.{Scenario}
 use Rattle.rb_rules.specs.Rounds.{records_of}
 use Rattle.rb_rules.specs.WorldStep.{Choice, Due, EventsAreRounds, IsPrefix, World, choose, due_of, go_on, take, take_if_due, world_after}
 use Rattle.rb_rules.specs.WorldStep.Choice.{Take, GoOn}
-use Rattle.rb_rules.proofs.WindowNumbers.{get-back}
 use Rattle.rb_laws_events.specs.Laws.{IsNextTurn, OneTurnARecord}
 use Rattle.rb_laws_events.proofs.EveryWorld.{after-more}
 use Rattle.rb_laws_events.proofs.WorldBooks.{IsTurn, go-on-turn, take-turn}
@@ -14,7 +14,7 @@ use Rattle.rb_laws_events.proofs.WorldBooks.{IsTurn, go-on-turn, take-turn}
 next-of : (xs ys : List Record) (r : Record) → IsPrefix (xs ++ r ∷ []) ys → slice_get ys (length xs) ≡ Some r
 next-of xs ys r more =
     let z : length xs + 0 ≡ length xs = omega arith in
-    ap (λ l. slice_get l (length xs)) (more.1 ∙ append_assoc xs (r ∷ []) more.0) ∙ ap (slice_get (xs ++ r ∷ more.0)) (sym z) ∙ get-back xs (r ∷ more.0) 0
+    ap (λ l. slice_get l (length xs)) (more.1 ∙ append_assoc xs (r ∷ []) more.0) ∙ ap (slice_get (xs ++ r ∷ more.0)) (sym z) ∙ slice_get-back xs (r ∷ more.0) 0
 
 next-turn : (sc : Scenario) (before after : World) → IsPrefix after.book.given (records_of sc after.hands) → IsTurn before.book.given after → IsNextTurn sc before after
 next-turn sc before after first (inl none) = inl (none.1, none.0)

@@ -1,13 +1,14 @@
 -- For the law that events are rounds: where a milestone is not complete, some good node has not told of it; and where nobody has closed
 -- a stage, it is not complete.
-use Rattle.std.proofs.Common.{◌≡◌, ℕ, zero, suc, ◌+◌, ◌*◌, ◌-◌, ◌<◌, ◌==◌, ◌&&◌, ◌||◌, ◌⊎◌, not, Bool, true, false, List, [], ◌∷◌, ◌++◌, refl, ap, sym, ◌∙◌, subst, arith, inl, inr, Option, Some, None, is_some, slice_get, option_map}
+use Rattle.std.proofs.Common.{◌≡◌, ℕ, zero, suc, ◌+◌, ◌*◌, ◌-◌, ◌<◌, ◌==◌, ◌&&◌, ◌||◌, ◌⊎◌, not, Bool, true, false, List, [], ◌∷◌, ◌++◌, refl, ap, sym, ◌∙◌, subst, arith, inl, inr, Option, Some, None, is_some, slice_get}
 use Rattle.std.specs.List.{list_all}
-use Rattle.std.proofs.lemmas.Bool.{cases_lt}
+use Rattle.std.proofs.lemmas.Bool.{and_parts, cases_lt, eqb-true, true≢false}
 use Rattle.std.proofs.lemmas.Bool.Decides.{nat_tests}
 use Rattle.rb_base.specs.Nodes.{Side, has}
 use Rattle.rb_base.specs.Nodes.Side.{Biu, Rmu}
 use Rattle.rb_base.specs.Sizes.{IsShape, Sizes}
 use Rattle.rb_base.specs.declared.values.Place.{Place}
+use Rattle.rb_base.proofs.Plain.{option_map-back}
 use Rattle.rb_base.proofs.Sets.{has-set_of, has_none, is_set_of}
 use Rattle.rb_rules.specs.Book.{Each, Row, in_order, map_each, of_kind}
 use Rattle.rb_rules.specs.Goodness.{Scenario, good_at, is_good}
@@ -15,9 +16,7 @@ use Rattle.rb_rules.specs.Rounds.{windows_in}
 use Rattle.rb_rules.specs.WorldStep.{Site, all_have_told, nobody_good, row_for, same_place}
 use Rattle.rb_rules.proofs.WindowNumbers.{get-each}
 use Rattle.rb_laws_agreement.proofs.Goodnesses.{good_below_16}
-use Rattle.rb_laws_events.proofs.Settling.{and-true, each-at, same-number}
 use Rattle.rb_laws_events.proofs.ToldInOrder.{number_at}
-use Rattle.rb_laws_events.proofs.WorldStands.{back-from}
 
 -- Who is good.
 
@@ -37,9 +36,6 @@ search_below p (suc n) = elim (search_below p n) [
           | inr ge ↦ let same : n ≡ i = omega arith in subst (λ i. p i ≡ false) same e
         ])
 
-true-false : true ≡ false → ⊥
-true-false e = cc
-
 zero-is : (n : ℕ) → n ≡ 0 → (n == 0) ≡ true
 zero-is n e = grind (arith, nat_tests)
 
@@ -56,7 +52,7 @@ somebody sc frame slot h =
         | inr no_rmu ↦
             let a : (good_at sc Biu frame slot == 0) ≡ true = zero-is (good_at sc Biu frame slot) (kind-empty sc Biu frame slot no_biu) in
             let b : (good_at sc Rmu frame slot == 0) ≡ true = zero-is (good_at sc Rmu frame slot) (kind-empty sc Rmu frame slot no_rmu) in
-            absurd (true-false (sym (both-true (good_at sc Biu frame slot == 0) (good_at sc Rmu frame slot == 0) a b) ∙ h))
+            absurd (true≢false (sym (both-true (good_at sc Biu frame slot == 0) (good_at sc Rmu frame slot == 0) a b) ∙ h))
       ]
     ]
   where
@@ -66,15 +62,15 @@ somebody sc frame slot h =
 -- and where nobody is, there is none
 pub nobody : (sc : Scenario) → IsShape sc.sizes → (frame slot : ℕ) → nobody_good sc frame slot ≡ true → (me : Side) (i : ℕ) → is_good sc me i frame slot ≡ true → ⊥
 nobody sc shape frame slot h me i good =
-    let parts = and-true (good_at sc Biu frame slot == 0) (good_at sc Rmu frame slot == 0) h in
+    let parts = and_parts (good_at sc Biu frame slot == 0) (good_at sc Rmu frame slot == 0) h in
     let none : good_at sc me frame slot ≡ 0 = of me parts.0 parts.1 in
     let below : i < 16 = good_below_16 sc shape me i frame slot good in
     let inside : has (good_at sc me frame slot) i ≡ is_good sc me i frame slot = has-set_of i (λ i. is_good sc me i frame slot) below in
-    true-false (sym good ∙ sym inside ∙ ap (λ s. has s i) none ∙ has_none i)
+    true≢false (sym good ∙ sym inside ∙ ap (λ s. has s i) none ∙ has_none i)
   where
     of : (me : Side) → (good_at sc Biu frame slot == 0) ≡ true → (good_at sc Rmu frame slot == 0) ≡ true → good_at sc me frame slot ≡ 0
-    of Biu a b = same-number (good_at sc Biu frame slot) 0 a
-    of Rmu a b = same-number (good_at sc Rmu frame slot) 0 b
+    of Biu a b = eqb-true (good_at sc Biu frame slot) 0 a
+    of Rmu a b = eqb-true (good_at sc Rmu frame slot) 0 b
 
 -- Who has not told.
 
@@ -114,36 +110,18 @@ not-told sc frame slot tells sites h =
     let found = each-false (map_each has_told sites) h in
     let me : Side = found.0 in
     let i : ℕ = found.1.0 in
-    let was = back-from (has_told me i) (slice_get (of_kind me sites) i) false (sym (get-each has_told sites me i) ∙ found.1.1) in
+    let was = option_map-back (has_told me i) (slice_get (of_kind me sites) i) false (sym (get-each has_told sites me i) ∙ found.1.1) in
     let parts = or-false (is_good sc me i frame slot) (is_some (tells was.0)) was.1.1 in
     record { me = me; i = i; s = was.0; there = was.1.0; good = parts.0; untold = parts.1 }
-
--- a good node that has not told makes it incomplete
-pub one-not-told : {X : Type 0} (sc : Scenario) (frame slot : ℕ) (tells : Site → Option X) (sites : Each Site) (me : Side) (i : ℕ) (s : Site)
-    → slice_get (of_kind me sites) i ≡ Some s → is_good sc me i frame slot ≡ true → is_some (tells s) ≡ false → all_have_told sc frame slot tells sites ≡ false
-one-not-told sc frame slot tells sites me i s there good untold =
-    by (all_have_told sc frame slot tells sites) refl
-  where
-    has_told : Side → ℕ → Site → Bool
-    has_told me i s = not (is_good sc me i frame slot) || is_some (tells s)
-
-    no : (a b : Bool) → a ≡ true → b ≡ false → (not a || b) ≡ false
-    no a b h k = rw (h, k) refl
-
-    by : (b : Bool) → all_have_told sc frame slot tells sites ≡ b → b ≡ false
-    by false e = refl
-    by true e =
-        let told : has_told me i s ≡ true = each-at (map_each has_told sites) me i (has_told me i s) e (get-each has_told sites me i ∙ ap (option_map (has_told me i)) there) in
-        absurd (true-false (sym told ∙ no (is_good sc me i frame slot) (is_some (tells s)) good untold))
 
 -- a row of another place tells nothing of a stage
 places-same : (sizes : Sizes) (a b : Place) → same_place a b ≡ true → number_at sizes a ≡ number_at sizes b
 places-same sizes a b h =
-    let outer = and-true ((a.frame == b.frame) && (a.slot == b.slot)) (a.stage == b.stage) h in
-    let inner = and-true (a.frame == b.frame) (a.slot == b.slot) outer.0 in
-    let stage : a.stage ≡ b.stage = same-number a.stage b.stage outer.1 in
-    let slot : a.slot ≡ b.slot = same-number a.slot b.slot inner.1 in
-    ap (λ f. f * (windows_in sizes + 1) + (3 * a.slot + a.stage - 1)) (same-number a.frame b.frame inner.0) ∙ ap (λ s. b.frame * (windows_in sizes + 1) + (3 * s + a.stage - 1)) slot ∙ ap (λ g. b.frame * (windows_in sizes + 1) + (3 * b.slot + g - 1)) stage
+    let outer = and_parts ((a.frame == b.frame) && (a.slot == b.slot)) (a.stage == b.stage) h in
+    let inner = and_parts (a.frame == b.frame) (a.slot == b.slot) outer.0 in
+    let stage : a.stage ≡ b.stage = eqb-true a.stage b.stage outer.1 in
+    let slot : a.slot ≡ b.slot = eqb-true a.slot b.slot inner.1 in
+    ap (λ f. f * (windows_in sizes + 1) + (3 * a.slot + a.stage - 1)) (eqb-true a.frame b.frame inner.0) ∙ ap (λ s. b.frame * (windows_in sizes + 1) + (3 * s + a.stage - 1)) slot ∙ ap (λ g. b.frame * (windows_in sizes + 1) + (3 * b.slot + g - 1)) stage
 
 pub no-row : (sizes : Sizes) (place : Place) (o : Option Row) → ((row : Row) → o ≡ Some row → number_at sizes row.place < number_at sizes place) → is_some (row_for place o) ≡ false
 no-row sizes place None before = refl

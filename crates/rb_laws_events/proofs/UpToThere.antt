@@ -1,14 +1,13 @@
 -- For the law that events are rounds: all nodes are in time in each moment up to where the book waits.
 use Rattle.std.proofs.Common.{◌≡◌, ℕ, suc, ◌+◌, ◌*◌, ◌-◌, ◌<◌, ◌≤◌, ◌==◌, ◌⊎◌, nat_lt, Bool, true, false, List, refl, ap, sym, ◌∙◌, subst, arith, inl, inr}
-use Rattle.std.proofs.lemmas.Bool.{cases_lt, le-ltb}
+use Rattle.std.proofs.lemmas.Bool.{cases_lt, eqb-true, le-ltb}
 use Rattle.rb_base.specs.Sizes.{sync_slot_of}
-use Rattle.rb_rules.specs.Book.{Begun, Book, with_frame}
 use Rattle.rb_rules.specs.Goodness.{Scenario}
 use Rattle.rb_rules.specs.Lawful.{IsLawful}
 use Rattle.rb_rules.specs.Moments.{IsRunning}
 use Rattle.rb_rules.specs.Ports.{HandIn}
 use Rattle.rb_rules.specs.Rounds.{Moment, begin_frame, moment, step, windows_in}
-use Rattle.rb_rules.proofs.Books.{stepped}
+use Rattle.rb_rules.proofs.Books.{begun-open, stepped}
 use Rattle.rb_laws_agreement.proofs.Places.{running_earlier}
 use Rattle.rb_laws_agreement.proofs.FrameBegins.{reached}
 use Rattle.rb_laws_events.specs.Closing.{stages_in}
@@ -20,7 +19,6 @@ use Rattle.rb_laws_events.proofs.Invariant.{InTime, next_stage}
 use Rattle.rb_laws_events.proofs.MomentBooks.{number-of}
 use Rattle.rb_laws_events.proofs.MomentSteps.{NextIsStage, next-inner, next-is-stage, next-outer}
 use Rattle.rb_laws_events.proofs.NodeClosing.{NextInTime}
-use Rattle.rb_laws_events.proofs.Settling.{same-number}
 use Rattle.rb_laws_events.proofs.SettlingFrames.{RunsIn, runs-in}
 use Rattle.rb_laws_events.proofs.RunTimes.{AllLater, Running, exact-later, first-running, in-exact, in-running}
 
@@ -54,10 +52,6 @@ last-on sc hands lawful g last running =
     let e : (moment sc hands (suc g)).window ≡ (moment sc hands g).window + 1 = w.window in
     runs-on sc hands lawful (suc g) (omega arith) running
 
-begun-open : (sc : Scenario) (frame : ℕ) (begun : List Begun) (b : Book) → b.ended ≡ false → (with_frame sc frame begun b).ended ≡ false
-unfolding with_frame
-begun-open sc frame begun b h = rw (h, with_frame) refl
-
 turned-open : (sc : Scenario) (hands : List HandIn) (m : Moment) (over in_frame : Bool) → over ≡ false → in_frame ≡ false → IsRunning m → IsRunning (stepped sc hands m over in_frame)
 unfolding begin_frame
 turned-open sc hands m true in_frame e f h = cc
@@ -71,7 +65,7 @@ end-on sc hands g running at_end =
     let m : Moment = moment sc hands g in
     let runs : RunsIn sc m = runs-in sc hands g running in
     turned-open sc hands m (m.frame == sc.frames) (nat_lt m.window (windows_in sc.sizes))
-    (differs (m.frame == sc.frames) (λ e. let first : m.window ≡ 0 = runs.at_first (same-number m.frame sc.frames e) in omega arith)) (le-ltb m.window (windows_in sc.sizes) at_end) running
+    (differs (m.frame == sc.frames) (λ e. let first : m.window ≡ 0 = runs.at_first (eqb-true m.frame sc.frames e) in omega arith)) (le-ltb m.window (windows_in sc.sizes) at_end) running
   where
     differs : (b : Bool) → (b ≡ true → ⊥) → b ≡ false
     differs true h = absurd (h refl)

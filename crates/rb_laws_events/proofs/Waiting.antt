@@ -2,10 +2,13 @@
 -- node of the event that completes a milestone stands at that milestone, and no other is far ahead.
 use Rattle.std.proofs.Common.{◌≡◌, ℕ, suc, ◌+◌, ◌*◌, ◌<◌, ◌≤◌, ◌==◌, ◌&&◌, ◌||◌, not, Bool, true, false, List, [], ◌∷◌, ◌++◌, length, refl, ap, sym, ◌∙◌, arith, Option, Some, None, is_some, slice_get, option_map, if◌then◌else◌, lit≤}
 use Rattle.std.specs.List.{list_all}
+use Rattle.std.proofs.lemmas.Bool.{and_parts}
 use Rattle.std.proofs.lemmas.Bool.Decides.{nat_tests}
+use Rattle.std.proofs.lemmas.Option.{same_Some}
 use Rattle.rb_base.specs.Nodes.{Side}
 use Rattle.rb_base.specs.Nodes.Side.{Biu, Rmu}
 use Rattle.rb_base.specs.declared.values.Place.{Place}
+use Rattle.rb_base.proofs.Plain.{option_map-back}
 use Rattle.rb_base.proofs.Sets.{has_none, is_set_of, same_set_of}
 use Rattle.rb_rules.specs.declared.message.Message.{Message}
 use Rattle.rb_rules.specs.Book.{Begun, Each, Milestone, Row, map_each, of_kind}
@@ -17,10 +20,11 @@ use Rattle.rb_rules.specs.Slots.{count_of}
 use Rattle.rb_rules.specs.WorldStep.{Site, World, all_have_told, at_node, begun_for, comes_so, is_complete, nobody_good, row_for, same_place, with_message}
 use Rattle.rb_rules.specs.WorldStep.Way.{ByAnEvent}
 use Rattle.rb_rules.proofs.WindowNumbers.{get-each}
-use Rattle.rb_laws_events.proofs.RoundNodes.{good-counts, item-at}
-use Rattle.rb_laws_events.proofs.Settling.{and-true, each-at}
+use Rattle.rb_laws_agreement.proofs.Goodnesses.{good_counts}
+use Rattle.rb_laws_events.proofs.RoundNodes.{item-at}
+use Rattle.rb_laws_events.proofs.Settling.{each-at}
 use Rattle.rb_laws_events.proofs.ToldInOrder.{AllTold, number_at}
-use Rattle.rb_laws_events.proofs.WorldStands.{back-from, is_node, node-is, node-itself, some-same}
+use Rattle.rb_laws_events.proofs.WorldStands.{is_node, node-is, node-itself}
 use Rattle.rb_laws_events.proofs.WorldTicks.{after_tick, get-after, reached}
 
 -- What waits.
@@ -54,7 +58,7 @@ list-all (x ∷ xs) all = ap (λ b. b && list_all (λ b. b) xs) (all 0 x refl) �
 list-both : (xs ys : List Bool) → list_all (λ b. b) xs ≡ true → list_all (λ b. b) ys ≡ true → list_all (λ b. b) (xs ++ ys) ≡ true
 list-both [] ys a b = b
 list-both (x ∷ xs) ys a b =
-    let parts = and-true x (list_all (λ b. b) xs) a in
+    let parts = and_parts x (list_all (λ b. b) xs) a in
     ap (λ b. b && list_all (λ b. b) (xs ++ ys)) parts.0 ∙ list-both xs ys parts.1 b
 
 -- whether a node has told, or need not
@@ -67,7 +71,7 @@ told-all sc frame slot tells sites all =
     let has : Side → ℕ → Site → Bool = has_told sc frame slot tells in
     let each : Each Bool = map_each has sites in
     let one : (me : Side) (i : ℕ) (b : Bool) → slice_get (of_kind me each) i ≡ Some b → b ≡ true = λ me i b e.
-    let was = back-from (has me i) (slice_get (of_kind me sites) i) b (sym (get-each has sites me i) ∙ e) in
+    let was = option_map-back (has me i) (slice_get (of_kind me sites) i) b (sym (get-each has sites me i) ∙ e) in
     sym was.1.1 ∙ all me i was.0 was.1.0 in
     list-both each.bius each.rmus (list-all each.bius (one Biu)) (list-all each.rmus (one Rmu))
 
@@ -123,7 +127,7 @@ none-told sc frame slot tells sites counts none = by (all_have_told sc frame slo
         λ b. elim b as (λ b. is_good sc me i frame slot ≡ b → is_good sc me i frame slot ≡ false) [
           | false ↦ λ f. f
           | true ↦ λ f.
-              let counted : i < count_of me sc.sizes = good-counts sc me i frame slot f in
+              let counted : i < count_of me sc.sizes = good_counts sc me i frame slot f in
               let long : length (of_kind me sites) ≡ count_of me sc.sizes = counts me in
               let site = item-at (of_kind me sites) i (omega arith) in
               true-false (sym (good-told sc frame slot tells sites e me i site.0 site.1 f) ∙ none me i site.0 site.1 f)
@@ -174,7 +178,7 @@ completes {X = X} sc frame slot tells sites me i frame_sent k m change s same th
           | true ↦ λ f h.
               let is = node-is me side i j f in
               let here : slice_get (of_kind me sites) i ≡ Some z = sym (ap (λ y. slice_get (of_kind y sites) j) is.0 ∙ ap (slice_get (of_kind me sites)) is.1) ∙ at in
-              let s_is : s ≡ z = some-same s z (sym there ∙ here) in
+              let s_is : s ≡ z = same_Some s z (sym there ∙ here) in
               ap (λ y. has_told sc frame slot tells y j z) is.0 ∙ ap (λ n. has_told sc frame slot tells me n z) is.1 ∙ sym (ap (has_told sc frame slot tells me i) s_is) ∙ e
         ] in
         go (is_node me i side j) refl (told2 side j z at) in
@@ -192,8 +196,8 @@ completes {X = X} sc frame slot tells sites me i frame_sent k m change s same th
 
 pub place-same : (a b : Place) → same_place a b ≡ true → a ≡ b
 place-same a b e =
-    let p = and-true ((a.frame == b.frame) && (a.slot == b.slot)) (a.stage == b.stage) e in
-    let q = and-true (a.frame == b.frame) (a.slot == b.slot) p.0 in
+    let p = and_parts ((a.frame == b.frame) && (a.slot == b.slot)) (a.stage == b.stage) e in
+    let q = and_parts (a.frame == b.frame) (a.slot == b.slot) p.0 in
     ap (λ f. let x : Place = record { frame = f; slot = a.slot; stage = a.stage } in x) (same-number a.frame b.frame q.0)
     ∙ ap (λ s. let x : Place = record { frame = b.frame; slot = s; stage = a.stage } in x) (same-number a.slot b.slot q.1)
     ∙ ap (λ s. let x : Place = record { frame = b.frame; slot = b.slot; stage = s } in x) (same-number a.stage b.stage p.1)

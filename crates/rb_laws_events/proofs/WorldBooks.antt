@@ -6,6 +6,7 @@ use Rattle.rb_base.specs.Nodes.{Side}
 use Rattle.rb_base.specs.Nodes.Side.{Biu}
 use Rattle.rb_base.specs.Sizes.{Sizes, sync_slot_of}
 use Rattle.rb_base.specs.declared.values.Place.{Place}
+use Rattle.rb_base.proofs.Plain.{slice_get-back}
 use Rattle.rb_rules.specs.declared.cause.Cause.{Cause}
 use Rattle.rb_rules.specs.Book.{Each, Record, Row, Begun, Milestone, Book, judged_of, after_verdict, with_stage, frame_records, with_frame, with_end}
 use Rattle.rb_rules.specs.Book.Milestone.{Begin, Stage, End}
@@ -18,7 +19,6 @@ use Rattle.rb_rules.specs.WorldStep.Choice.{Take, GoOn, Hand}
 use Rattle.rb_rules.specs.WorldStep.Pending.{Tick, Arrival}
 use Rattle.rb_rules.specs.WorldStep.Way.{ByAnEvent, ByItself}
 use Rattle.rb_rules.proofs.Books.{GoesOn, on-refl, on-trans, stage-on, frame-on, end-on}
-use Rattle.rb_rules.proofs.WindowNumbers.{get-back}
 
 -- ys is xs, or xs and one record more
 abbrev pub AtMostOneMore : List Record → List Record → Type 0
@@ -134,7 +134,7 @@ none-past xs ys e = ap (λ l. slice_get l (length xs)) e ∙ slice_get_past xs (
 pub last-one : (xs ys : List Record) (r : Record) → ys ≡ xs ++ r ∷ [] → slice_get ys (length xs) ≡ Some r
 last-one xs ys r e =
     let z : length xs + 0 ≡ length xs = omega arith in
-    ap (λ l. slice_get l (length xs)) e ∙ ap (slice_get (xs ++ r ∷ [])) (sym z) ∙ get-back xs (r ∷ []) 0
+    ap (λ l. slice_get l (length xs)) e ∙ ap (slice_get (xs ++ r ∷ [])) (sym z) ∙ slice_get-back xs (r ∷ []) 0
 
 -- what is settled gives one record at most, which is the turn
 settle-turn : (sc : Scenario) (way : Way) (n : ℕ) (w : World) → IsTurn w.book.given (settle sc way n w)

@@ -2,6 +2,7 @@
 -- moment, and has passed the windows before.
 use Rattle.std.proofs.Common.{◌≡◌, ℕ, ◌+◌, ◌^◌, ◌<◌, ◌≤◌, ◌⊎◌, Bool, true, false, List, refl, ap, sym, ◌∙◌, subst, arith, inl, inr, Option, Some, None, slice_get}
 use Rattle.std.proofs.lemmas.Bool.{cases_lt}
+use Rattle.std.proofs.lemmas.Option.{same_Some}
 use Rattle.rb_base.specs.Nodes.{Side}
 use Rattle.rb_rules.specs.Book.{Each, of_kind}
 use Rattle.rb_rules.specs.Clock.{time_of}
@@ -17,8 +18,9 @@ use Rattle.rb_rules.specs.Slots.{count_of}
 use Rattle.rb_rules.specs.WorldStep.{Timed, Site, after_act, at_node, pass_and_tick, with_message}
 use Rattle.rb_rules.proofs.Drift.{HasLengths}
 use Rattle.rb_rules.proofs.RoundStates.{close-stays, keeping-stays}
+use Rattle.rb_laws_agreement.proofs.FrameTimes.{good-clock}
+use Rattle.rb_laws_agreement.proofs.Goodnesses.{good_counts}
 use Rattle.rb_laws_events.specs.Closing.{stages_in}
-use Rattle.rb_laws_events.proofs.CloseOrder.{good-clock}
 use Rattle.rb_laws_events.proofs.Invariant.{InTime, NodeStands, is_good_at, last_tick, next_stage, sending_of, word_at}
 use Rattle.rb_laws_events.proofs.MomentSteps.{NextIsStage, next-is-stage}
 use Rattle.rb_laws_events.proofs.NodeActs.{HasRoom, HasWord, IsInWindow}
@@ -26,13 +28,13 @@ use Rattle.rb_laws_events.proofs.NodeClosing.{ClosesWindow, NextInTime, OthersKe
 use Rattle.rb_laws_events.proofs.NodeEvents.{StaysOpen, stands-on, stays-open}
 use Rattle.rb_laws_events.proofs.NodeSends.{sending_at, sent-in}
 use Rattle.rb_laws_events.proofs.NodeTicks.{by_said, gone, kept_in, state_in}
-use Rattle.rb_laws_events.proofs.RoundNodes.{AllStand, Stands, good-counts, moments-stand, slot_numbered}
+use Rattle.rb_laws_events.proofs.RoundNodes.{AllStand, Stands, moments-stand, slot_numbered}
 use Rattle.rb_laws_events.proofs.SameHeard.{Every}
 use Rattle.rb_laws_events.proofs.SentChanges.{Steps, none-of-tail, past, sending-of-is}
 use Rattle.rb_laws_events.proofs.StageOrder.{last_of}
 use Rattle.rb_laws_events.proofs.TickWindows.{IsTickIn}
 use Rattle.rb_laws_events.proofs.Timing.{AreInTime, HavePassed, all-land, keep-up}
-use Rattle.rb_laws_events.proofs.WorldStands.{AllPend, IsUp, SitesStand, is_node, node-is, sent_by, some-same}
+use Rattle.rb_laws_events.proofs.WorldStands.{AllPend, IsUp, SitesStand, is_node, node-is, sent_by}
 use Rattle.rb_laws_events.proofs.WorldTicks.{AllLand, TicksNow, moved, tick-keeps-world}
 
 -- Time passes.
@@ -123,7 +125,7 @@ has-passed sc hands now t at me i r st le h there how between = record {
                   | inl stays ↦ absurd (omega (arith, stays, lt))
                   | inr moves ↦
                       let same : at me i ≡ q = omega arith in
-                      let st_is : st ≡ other_st = some-same st other_st (sym there ∙ ap (λ q. slice_get (of_kind me (moment sc hands q).nodes) i) same ∙ its) in
+                      let st_is : st ≡ other_st = same_Some st other_st (sym there ∙ ap (λ q. slice_get (of_kind me (moment sc hands q).nodes) i) same ∙ its) in
                       subst (λ z. time_of (clock_of sc me i) (last_tick sc (moment sc hands q) me z) ≤ t) st_is
                       (subst (λ q. time_of (clock_of sc me i) (last_tick sc (moment sc hands q) me st) ≤ t) same moves.1)
                 ]
@@ -149,9 +151,9 @@ tick-event sc hands now at sites ports me i s a lawful room times passed h due =
     let pt : HavePassed sc hands a.time at = passed-on sc hands now a.time at due.later passed in
     let up : IsUp sc hands old a.time me i p s = ht.up me i s due.there due.runs in
     let st : NodeState = up.st in
-    let same : up.a ≡ a = some-same up.a a (sym up.stands.receives.pends ∙ due.pend) in
+    let same : up.a ≡ a = same_Some up.a a (sym up.stands.receives.pends ∙ due.pend) in
     let node : NodeStands sc hands old a.time me i p s st a = subst (NodeStands sc hands old a.time me i p s st) same up.stands in
-    let counted : i < count_of me sc.sizes = good-counts sc me i m.frame (slot_numbered sc.sizes m.window) node.good in
+    let counted : i < count_of me sc.sizes = good_counts sc me i m.frame (slot_numbered sc.sizes m.window) node.good in
     let here : InTime sc m (moment sc hands (next_stage sc.sizes m p)) = times.each me i node.good in
     let stand : AllStand sc m = moments-stand sc hands p room.ticks in
     let known : Stands sc m me st = stand.stands me i st node.state node.good in

@@ -1,13 +1,14 @@
 -- For the law that events are rounds: in every world there are as many nodes as the bus has, and what
 -- comes to a node comes from nodes that there are.
-use Rattle.std.proofs.Common.{◌≡◌, ℕ, zero, suc, ◌+◌, ◌<◌, ◌==◌, ◌&&◌, Bool, true, false, List, [], ◌∷◌, ◌++◌, length, remove, refl, sym, ◌∙◌, subst, arith, Option, Some, None, slice_get, option_map, map, filter, fold}
+use Rattle.std.proofs.Common.{◌≡◌, ℕ, zero, suc, ◌+◌, ◌<◌, ◌==◌, ◌&&◌, Bool, true, false, List, [], ◌∷◌, ◌++◌, length, remove, refl, sym, ◌∙◌, subst, arith, Option, Some, None, slice_get, map, filter, fold}
 use Rattle.std.specs.Prelude.{flat_map}
 use Rattle.std.specs.List.{range_with_len}
 use Rattle.std.proofs.lemmas.List.FromFn.{length-map-range_with_len}
-use Rattle.std.proofs.lemmas.Option.{slice_get_within}
+use Rattle.std.proofs.lemmas.Option.{same_Some, slice_get_within}
 use Rattle.rb_base.specs.Nodes.{Side, other}
 use Rattle.rb_base.specs.Nodes.Side.{Biu, Rmu}
 use Rattle.rb_base.specs.Sizes.{Sizes}
+use Rattle.rb_base.proofs.Plain.{option_map-back}
 use Rattle.rb_rules.specs.declared.closing.Closed.{Closed}
 use Rattle.rb_rules.specs.declared.message.Message.{Message}
 use Rattle.rb_rules.specs.declared.record.Epoch.{Epoch}
@@ -84,11 +85,11 @@ proceed-known : (sc : Scenario) (me : Side) (i : ℕ) (s : Site) → Known sc.si
 unfolding proceed
 proceed-known sc me i s h = enter-known sc me i (span_from sc.sizes sc.plan me s.core.state s.core.had) s h
 
-close-coming : (me : Side) (i : ℕ) (st : NodeState) (c : Option Closed) (s : Site) → (with_close me i st c s).coming ≡ s.coming
+pub close-coming : (me : Side) (i : ℕ) (st : NodeState) (c : Option Closed) (s : Site) → (with_close me i st c s).coming ≡ s.coming
 close-coming me i st None s = refl
 close-coming me i st (Some c) s = refl
 
-epoch-coming : (sc : Scenario) (ports : List PortState) (me : Side) (i : ℕ) (e : Option Epoch) (s : Site) → (with_epoch sc ports me i e s).coming ≡ s.coming
+pub epoch-coming : (sc : Scenario) (ports : List PortState) (me : Side) (i : ℕ) (e : Option Epoch) (s : Site) → (with_epoch sc ports me i e s).coming ≡ s.coming
 epoch-coming sc ports me i None s = refl
 epoch-coming sc ports me i (Some e) s = refl
 
@@ -111,13 +112,6 @@ pub record NodesKnown (sc : Scenario) (sites : Each Site) : Type 0 where
   pub counts : (me : Side) → length (of_kind me sites) ≡ count_of me sc.sizes
   pub known : (me : Side) (i : ℕ) (s : Site) → slice_get (of_kind me sites) i ≡ Some s → Known sc.sizes me s.coming
 
-back-from : {X Y : Type 0} (f : X → Y) (o : Option X) (y : Y) → option_map f o ≡ Some y → (x : X) × ((o ≡ Some x) × (f x ≡ y))
-back-from f None y e = cc
-back-from f (Some x) y e = (x, (refl, let same : f x ≡ y = cc in same))
-
-some-same : {X : Type 0} (a b : X) → Some a ≡ Some b → a ≡ b
-some-same a b e = cc
-
 -- where each node keeps it, all do
 each-known : (sc : Scenario) (f : Side → ℕ → Site → Site) (sites : Each Site)
     → ((me : Side) (i : ℕ) (s : Site) → slice_get (of_kind me sites) i ≡ Some s → Known sc.sizes me s.coming → Known sc.sizes me (f me i s).coming)
@@ -125,7 +119,7 @@ each-known : (sc : Scenario) (f : Side → ℕ → Site → Site) (sites : Each 
 each-known sc f sites go h = record {
   counts = λ me. length-each f sites me ∙ h.counts me;
   known = λ me i s e.
-      let was = back-from (f me i) (slice_get (of_kind me sites) i) s (sym (get-each f sites me i) ∙ e) in
+      let was = option_map-back (f me i) (slice_get (of_kind me sites) i) s (sym (get-each f sites me i) ∙ e) in
       subst (λ x. Known sc.sizes me x.coming) was.1.1 (go me i was.0 was.1.0 (h.known me i was.0 was.1.0));
 }
 
@@ -251,7 +245,7 @@ first-known sc = record {
       let within : i < length (of_kind me (each_of sc.sizes make)) = slice_get_within (of_kind me (each_of sc.sizes make)) i s e in
       let long : length (of_kind me (each_of sc.sizes make)) ≡ count_of me sc.sizes = first-counts sc.sizes make me in
       let made : slice_get (of_kind me (each_of sc.sizes make)) i ≡ Some (make me i) = get-made sc.sizes make me i (omega arith) in
-      let same : make me i ≡ s = some-same (make me i) s (sym made ∙ e) in
+      let same : make me i ≡ s = same_Some (make me i) s (sym made ∙ e) in
       subst (λ x. Known sc.sizes me x.coming) same (proceed-known sc me i (fresh_site sc.sizes me) tt);
 }
 

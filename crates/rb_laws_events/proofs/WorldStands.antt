@@ -1,10 +1,11 @@
 -- For the law that events are rounds: all nodes of a world, each in its own moment of the rounds. One arrival, and
 -- one tick of a node that goes on or stops, keep it.
-use Rattle.std.proofs.Common.{◌≡◌, ℕ, ◌≤◌, ◌==◌, ◌&&◌, Bool, true, false, List, [], length, refl, ap, sym, ◌∙◌, subst, arith, Option, Some, None, slice_get, option_and_then, option_map}
-use Rattle.std.proofs.lemmas.Bool.Decides.{nat_tests}
+use Rattle.std.proofs.Common.{◌≡◌, ℕ, ◌≤◌, ◌==◌, ◌&&◌, Bool, true, false, List, [], length, refl, ap, sym, ◌∙◌, subst, Option, Some, None, slice_get, option_and_then, option_map}
+use Rattle.std.proofs.lemmas.Bool.{and_parts, eqb-true}
+use Rattle.std.proofs.lemmas.Option.{same_Some}
 use Rattle.std.proofs.Math.Path.{fun_ext}
 use Rattle.rb_base.specs.Nodes.{Side, other}
-use Rattle.rb_base.specs.Nodes.Side.{Biu, Rmu}
+use Rattle.rb_base.proofs.Plain.{eq_self, option_map-back}
 use Rattle.rb_rules.specs.Book.{Each, of_kind}
 use Rattle.rb_rules.specs.Goodness.{Scenario, clock_of}
 use Rattle.rb_rules.specs.Hearing.{Coming}
@@ -13,6 +14,7 @@ use Rattle.rb_rules.specs.Ports.{HandIn}
 use Rattle.rb_rules.specs.Rounds.{moment}
 use Rattle.rb_rules.specs.Slots.{count_of, same_side}
 use Rattle.rb_rules.specs.WorldStep.{Timed, Site, after_arrival, at_node, times_of}
+use Rattle.rb_rules.proofs.Slots.{same_side-is, same_side_other, same_side_self}
 use Rattle.rb_rules.proofs.Stamps.{Moves}
 use Rattle.rb_rules.proofs.WindowNumbers.{get-each, length-each}
 use Rattle.rb_laws_events.specs.OwnMoments.{StandsWhereNotGood}
@@ -50,55 +52,20 @@ pub record SitesStand (sc : Scenario) (hands : List HandIn) (now : ℕ) (at : Si
 
 -- One node changes.
 
-pub some-same : {X : Type 0} (a b : X) → Some a ≡ Some b → a ≡ b
-some-same a b e = cc
-
-pub back-from : {X Y : Type 0} (f : X → Y) (o : Option X) (y : Y) → option_map f o ≡ Some y → (x : X) × ((o ≡ Some x) × (f x ≡ y))
-back-from f None y e = cc
-back-from f (Some x) y e = (x, (refl, some-same (f x) y e))
-
 -- whether this is the node
 abbrev pub is_node : Side → ℕ → Side → ℕ → Bool
 is_node me i side n = same_side side me && (n == i)
 
-pub same-kind : (side me : Side) → same_side side me ≡ true → side ≡ me
-same-kind Biu Biu e = refl
-same-kind Biu Rmu e = cc
-same-kind Rmu Biu e = cc
-same-kind Rmu Rmu e = refl
-
-pub kind-itself : (me : Side) → same_side me me ≡ true
-kind-itself Biu = refl
-kind-itself Rmu = refl
-
-pub other-kind : (me : Side) → same_side (other me) me ≡ false
-other-kind Biu = refl
-other-kind Rmu = refl
-
-pub other-twice : (me : Side) → other (other me) ≡ me
-other-twice Biu = refl
-other-twice Rmu = refl
-
-and-true : (a b : Bool) → (a && b) ≡ true → (a ≡ true) × (b ≡ true)
-and-true true b h = (refl, h)
-and-true false b h = cc
-
-same-number : (a b : ℕ) → (a == b) ≡ true → a ≡ b
-same-number a b h = grind (arith, nat_tests)
-
-itself : (a : ℕ) → (a == a) ≡ true
-itself a = grind (arith, nat_tests)
-
 pub node-is : (me side : Side) (i n : ℕ) → is_node me i side n ≡ true → (side ≡ me) × (n ≡ i)
 node-is me side i n e =
-    let parts = and-true (same_side side me) (n == i) e in
-    (same-kind side me parts.0, same-number n i parts.1)
+    let parts = and_parts (same_side side me) (n == i) e in
+    (same_side-is side me parts.0, eqb-true n i parts.1)
 
 pub node-itself : (me : Side) (i : ℕ) → is_node me i me i ≡ true
-node-itself me i = ap (λ b. b && (i == i)) (kind-itself me) ∙ itself i
+node-itself me i = ap (λ b. b && (i == i)) (same_side_self me) ∙ eq_self i
 
 pub not-other : (me : Side) (i n : ℕ) → is_node me i (other me) n ≡ false
-not-other me i n = ap (λ b. b && (n == i)) (other-kind me)
+not-other me i n = ap (λ b. b && (n == i)) (same_side_other me)
 
 -- a site after a change of one node
 pub get-at : (me side : Side) (i n : ℕ) (change : Site → Site) (sites : Each Site)
@@ -158,7 +125,7 @@ arrival-keeps-world sc hands now at sites me i n c s moves there runs later pend
       | true ↦ λ e was up.
           let is = node-is me side i j e in
           let its : slice_get (of_kind me sites) i ≡ Some old = sym (ap (λ k. slice_get (of_kind k sites) j) is.0 ∙ ap (slice_get (of_kind me sites)) is.1) ∙ was in
-          let old_is : s ≡ old = some-same s old (sym there ∙ its) in
+          let old_is : s ≡ old = same_Some s old (sym there ∙ its) in
           let node : IsUp sc hands (sent_by sc hands at sites) now me i (at me i) s = h.up me i s there runs in
           let new_up : IsUp sc hands (sent_by sc hands at sites) c.time me i (at me i) (change s) = record {
             st = node.st;
@@ -174,18 +141,18 @@ arrival-keeps-world sc hands now at sites me i n c s moves there runs later pend
     ] in
     record {
       up = λ side j z e up.
-          let was = back-from (λ s. elim (is_node me i side j) as (λ _. Site) [ true ↦ change s | false ↦ s ]) (slice_get (of_kind side sites) j) z (sym (get-at me side i j change sites) ∙ e) in
+          let was = option_map-back (λ s. elim (is_node me i side j) as (λ _. Site) [ true ↦ change s | false ↦ s ]) (slice_get (of_kind side sites) j) z (sym (get-at me side i j change sites) ∙ e) in
           subst (λ f. IsUp sc hands f c.time side j (at side j) z) same
           (subst (λ z. IsUp sc hands (sent_by sc hands at sites) c.time side j (at side j) z) was.1.1
           (up_by side j was.0 (is_node me i side j) refl was.1.0 (ap (λ (s : Site). s.runs) was.1.1 ∙ up)));
       down = λ side j z e stopped.
-          let was = back-from (λ s. elim (is_node me i side j) as (λ _. Site) [ true ↦ change s | false ↦ s ]) (slice_get (of_kind side sites) j) z (sym (get-at me side i j change sites) ∙ e) in
+          let was = option_map-back (λ s. elim (is_node me i side j) as (λ _. Site) [ true ↦ change s | false ↦ s ]) (slice_get (of_kind side sites) j) z (sym (get-at me side i j change sites) ∙ e) in
           let go : (b : Bool) → is_node me i side j ≡ b → (elim b as (λ _. Site) [ true ↦ change was.0 | false ↦ was.0 ]) ≡ z → IsDown sc hands side j (at side j) z =
           λ b. elim b as (λ b. is_node me i side j ≡ b → (elim b as (λ _. Site) [ true ↦ change was.0 | false ↦ was.0 ]) ≡ z → IsDown sc hands side j (at side j) z) [
             | true ↦ λ f g.
                 let is = node-is me side i j f in
                 let its : slice_get (of_kind me sites) i ≡ Some was.0 = sym (ap (λ k. slice_get (of_kind k sites) j) is.0 ∙ ap (slice_get (of_kind me sites)) is.1) ∙ was.1.0 in
-                let old_is : s ≡ was.0 = some-same s was.0 (sym there ∙ its) in
+                let old_is : s ≡ was.0 = same_Some s was.0 (sym there ∙ its) in
                 let on : z.runs ≡ true = ap (λ (s : Site). s.runs) (sym g) ∙ arrival-runs sc me i n c was.0 ∙ ap (λ (s : Site). s.runs) (sym old_is) ∙ runs in
                 absurd (true-false (sym on ∙ stopped))
             | false ↦ λ f g. subst (IsDown sc hands side j (at side j)) g (h.down side j was.0 was.1.0 (ap (λ (s : Site). s.runs) g ∙ stopped))

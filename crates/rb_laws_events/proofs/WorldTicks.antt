@@ -1,9 +1,11 @@
 -- For the law that events are rounds: a tick of one node keeps all nodes of the world: that node goes on or stops,
 -- and what it says is on its way to the nodes of the other kind.
-use Rattle.std.proofs.Common.{◌≡◌, ℕ, ◌<◌, ◌≤◌, ◌==◌, ◌&&◌, ◌⊎◌, Bool, true, false, List, [], ◌∷◌, ◌++◌, length, refl, ap, sym, ◌∙◌, subst, arith, inl, inr, Option, Some, None, slice_get, option_and_then, option_map, option_to_list}
-use Rattle.std.proofs.lemmas.Bool.Decides.{nat_tests}
+use Rattle.std.proofs.Common.{◌≡◌, ℕ, ◌<◌, ◌≤◌, ◌==◌, ◌&&◌, ◌⊎◌, Bool, true, false, List, [], ◌∷◌, ◌++◌, length, refl, ap, sym, ◌∙◌, subst, inl, inr, Option, Some, None, slice_get, option_and_then, option_map, option_to_list}
+use Rattle.std.proofs.lemmas.Bool.{eqb-true, true≢false}
+use Rattle.std.proofs.lemmas.Option.{same_Some}
 use Rattle.rb_base.specs.Nodes.{Side, other}
 use Rattle.rb_base.specs.Nodes.Side.{Biu, Rmu}
+use Rattle.rb_base.proofs.Plain.{option_map-back, option_map-twice}
 use Rattle.rb_rules.specs.declared.message.Message.{Message}
 use Rattle.rb_rules.specs.Book.{Each, of_kind}
 use Rattle.rb_rules.specs.Clock.{time_of}
@@ -16,12 +18,13 @@ use Rattle.rb_rules.specs.Ports.{HandIn}
 use Rattle.rb_rules.specs.Rounds.{moment}
 use Rattle.rb_rules.specs.Slots.{count_of, same_side}
 use Rattle.rb_rules.specs.WorldStep.{Timed, Site, at_node, sent_to, with_message}
+use Rattle.rb_rules.proofs.Slots.{one_or_other, other_twice, same_side_self}
 use Rattle.rb_rules.proofs.WindowNumbers.{get-each, length-each}
 use Rattle.rb_laws_events.proofs.Invariant.{NodeStands, entry_of, has_sent, is_good_at, sending_of}
 use Rattle.rb_laws_events.proofs.NodeEvents.{stands-on}
 use Rattle.rb_laws_events.proofs.ReceiverHears.{Lands, SendsFor, comes-after, stands-more, stands-same}
 use Rattle.rb_laws_events.proofs.SentChanges.{SaysNothing, SaysNow, Steps, sent-changes}
-use Rattle.rb_laws_events.proofs.WorldStands.{AllPend, IsDown, IsUp, SitesStand, ahead_in, back-from, get-at, is_node, kind-itself, node-is, node-itself, not-other, other-twice, same-sent, sent_by, some-same}
+use Rattle.rb_laws_events.proofs.WorldStands.{AllPend, IsDown, IsUp, SitesStand, ahead_in, get-at, is_node, node-is, node-itself, not-other, same-sent, sent_by}
 
 -- the moments in which the nodes stand, with a new one for one node
 abbrev pub moved : Side → ℕ → ℕ → (Side → ℕ → ℕ) → Side → ℕ → ℕ
@@ -36,10 +39,6 @@ reached sc me i frame k (Some m) side j s = sent_to sc me i frame (record { tick
 abbrev pub after_tick : Scenario → Side → ℕ → ℕ → ℕ → Option Message → (Site → Site) → Side → ℕ → Site → Site
 after_tick sc me i frame k m change side j s = reached sc me i frame k m side j (elim (is_node me i side j) as (λ _. Site) [ true ↦ change s | false ↦ s ])
 
-map-twice : {X Y Z : Type 0} (f : X → Y) (g : Y → Z) (o : Option X) → option_map g (option_map f o) ≡ option_map (λ x. g (f x)) o
-map-twice f g None = refl
-map-twice f g (Some x) = refl
-
 pub get-after : (sc : Scenario) (me : Side) (i frame k : ℕ) (m : Option Message) (change : Site → Site) (sites : Each Site) (side : Side) (j : ℕ)
     → slice_get (of_kind side (with_message sc me i frame k m (at_node me i change sites))) j
     ≡ option_map (after_tick sc me i frame k m change side j) (slice_get (of_kind side sites) j)
@@ -49,7 +48,7 @@ get-after sc me i frame k (Some m) change sites side j =
     let f : Site → Site = λ s. elim (is_node me i side j) as (λ _. Site) [ true ↦ change s | false ↦ s ] in
     get-each (sent_to sc me i frame x) (at_node me i change sites) side j
     ∙ ap (option_map (sent_to sc me i frame x side j)) (get-at me side i j change sites)
-    ∙ map-twice f (sent_to sc me i frame x side j) (slice_get (of_kind side sites) j)
+    ∙ option_map-twice f (sent_to sc me i frame x side j) (slice_get (of_kind side sites) j)
 
 pub length-after : (sc : Scenario) (me : Side) (i frame k : ℕ) (m : Option Message) (change : Site → Site) (sites : Each Site) (side : Side)
     → length (of_kind side (with_message sc me i frame k m (at_node me i change sites))) ≡ length (of_kind side sites)
@@ -134,9 +133,6 @@ sent-then-is sc hands at sites me i r frame k b m change s there ahead =
 
 -- The node itself afterwards.
 
-true-false : true ≡ false → ⊥
-true-false e = cc
-
 up-same : (sc : Scenario) (hands : List HandIn) (sent sent2 : Side → ℕ → ℕ → Bool) (now : ℕ) (me : Side) (i p : ℕ) (s : Site)
     → ((j p : ℕ) → sent2 (other me) j p ≡ sent (other me) j p) → IsUp sc hands sent now me i p s → IsUp sc hands sent2 now me i p s
 up-same sc hands sent sent2 now me i p s same h =
@@ -163,10 +159,7 @@ sent-then-other : (sc : Scenario) (hands : List HandIn) (at : Side → ℕ → �
 unfolding sent_then
 sent-then-other sc hands at sites me i r b j p e =
     ap (λ d. elim d as (λ _. Bool) [ true ↦ has_sent (sending_of sc (moment sc hands p) me i) r b p | false ↦ sent_by sc hands at sites me j p ])
-    (ap (λ x. x && (j == i)) (kind-itself me) ∙ e)
-
-same-number : (a b : ℕ) → (a == b) ≡ true → a ≡ b
-same-number a b h = grind (arith, nat_tests)
+    (ap (λ x. x && (j == i)) (same_side_self me) ∙ e)
 
 -- what the node had sent before, by its pending tick
 own-before : (sc : Scenario) (hands : List HandIn) (at : Side → ℕ → ℕ) (sites : Each Site) (me : Side) (i : ℕ) (s : Site) (a : Timed) (p : ℕ)
@@ -184,7 +177,7 @@ then-silent sc hands at sites me i k r s a b there pend says j p =
     let go : (d : Bool) → (j == i) ≡ d → sent_then sc hands at sites me i r b me j p ≡ sent_by sc hands at sites me j p =
     λ d. elim d as (λ d. (j == i) ≡ d → sent_then sc hands at sites me i r b me j p ≡ sent_by sc hands at sites me j p) [
       | true ↦ λ e.
-          subst (λ j. sent_then sc hands at sites me i r b me j p ≡ sent_by sc hands at sites me j p) (sym (same-number j i e))
+          subst (λ j. sent_then sc hands at sites me i r b me j p ≡ sent_by sc hands at sites me j p) (sym (eqb-true j i e))
           (sent-then-own sc hands at sites me i r b p ∙ says.same p ∙ sym (own-before sc hands at sites me i s a p there pend))
       | false ↦ λ e. sent-then-other sc hands at sites me i r b j p e
     ] in
@@ -223,7 +216,7 @@ reached-running sc me i frame k m j s runs =
     ap (λ b. elim b as (λ _. Site) [
       | true ↦ record s { coming = s.coming ++ coming_of sc (other me) j i frame (record { tick = k; message = m }) ∷ [] }
       | false ↦ s
-    ]) (ap (λ x. x && s.runs) (kind-itself (other me)) ∙ runs)
+    ]) (ap (λ x. x && s.runs) (same_side_self (other me)) ∙ runs)
 
 -- a node of the other kind
 other-on : (sc : Scenario) (hands : List HandIn) (at : Side → ℕ → ℕ) (sites : Each Site) (me : Side) (i frame k r : ℕ) (m : Option Message) (s : Site) (a : Timed) (b : Option Timed)
@@ -243,37 +236,31 @@ other-on sc hands at sites me i frame k r m s a b lawful now j z runs lands h =
           let none : m ≡ None = now.message ∙ silent.silent in
           subst (λ m. IsUp sc hands new a.time (other me) j (at (other me) j) (reached sc me i frame k m (other me) j z)) (sym none)
           (up-same sc hands old new a.time (other me) j (at (other me) j) z
-          (λ n p. ap (λ x. new x n p) (other-twice me) ∙ then-silent sc hands at sites me i k r s a b now.there now.pend silent n p ∙ sym (ap (λ x. old x n p) (other-twice me))) h)
+          (λ n p. ap (λ x. new x n p) (other_twice me) ∙ then-silent sc hands at sites me i k r s a b now.there now.pend silent n p ∙ sym (ap (λ x. old x n p) (other_twice me))) h)
       | inr says ↦
           let x : Sending = says.message in
           let some : m ≡ Some x.message = now.message ∙ says.said in
           let e : Coming = on_way sc me i frame k x.message j in
           let x_is : x ≡ record { tick = k; message = x.message } = ap (λ t. let y : Sending = record { tick = t; message = x.message } in y) says.tick in
           let entry : entry_of sc (moment sc hands q) (other me) j i ≡ e ∷ [] =
-          ap (λ y. option_to_list (option_map (coming_of sc (other me) j i (moment sc hands q).frame) (sending_of sc (moment sc hands q) y i))) (other-twice me)
+          ap (λ y. option_to_list (option_map (coming_of sc (other me) j i (moment sc hands q).frame) (sending_of sc (moment sc hands q) y i))) (other_twice me)
           ∙ ap (λ o. option_to_list (option_map (coming_of sc (other me) j i (moment sc hands q).frame) o)) says.is
           ∙ ap (λ y. coming_of sc (other me) j i (moment sc hands q).frame y ∷ []) x_is
           ∙ ap (λ f. coming_of sc (other me) j i f (record { tick = k; message = x.message }) ∷ []) (sym now.in_frame) in
           let after : a.time < e.time =
-          subst (λ t. t < e.time) (ap (λ y. time_of (clock_of sc y i) k) (other-twice me) ∙ sym now.time)
+          subst (λ t. t < e.time) (ap (λ y. time_of (clock_of sc y i) k) (other_twice me) ∙ sym now.time)
           (comes-after sc lawful (other me) j i frame (record { tick = k; message = x.message })) in
           subst (λ m. IsUp sc hands new a.time (other me) j (at (other me) j) (reached sc me i frame k m (other me) j z)) (sym some)
           (subst (IsUp sc hands new a.time (other me) j (at (other me) j)) (sym (reached-running sc me i frame k x.message j z runs)) (record {
             st = h.st;
             a = h.a;
             stands = stands-more sc hands old new a.time (other me) j (at (other me) j) i q z h.st h.a e
-                (subst (λ y. SendsFor (old y) (new y) i q) (sym (other-twice me)) (then-said sc hands at sites me i k r s a b now.there now.pend says)) refl
-                (subst (λ y. i < count_of y sc.sizes) (sym (other-twice me)) now.counted) after entry
-                (subst (λ y. is_good_at sc (moment sc hands q) y i ≡ true) (sym (other-twice me)) now.good)
+                (subst (λ y. SendsFor (old y) (new y) i q) (sym (other_twice me)) (then-said sc hands at sites me i k r s a b now.there now.pend says)) refl
+                (subst (λ y. i < count_of y sc.sizes) (sym (other_twice me)) now.counted) after entry
+                (subst (λ y. is_good_at sc (moment sc hands q) y i ≡ true) (sym (other_twice me)) now.good)
                 (lands x says.is says.tick h.st h.a h.stands) h.stands;
           }))
     ]
-
-side-cases : (side me : Side) → (side ≡ me) ⊎ (side ≡ other me)
-side-cases Biu Biu = inl refl
-side-cases Biu Rmu = inr refl
-side-cases Rmu Biu = inr refl
-side-cases Rmu Rmu = inl refl
 
 -- where the messages land that go out now
 unfoldable pub AllLand : Scenario → List HandIn → (Side → ℕ → ℕ) → Each Site → Side → ℕ → ℕ → ℕ → ℕ → Type 0
@@ -332,7 +319,7 @@ tick-keeps-world sc hands now at sites me i frame k r m change s a b lawful late
     λ z. reached-not sc me i frame k m me i z (ap (λ x. x && z.runs) (kind-other me)) in
     record {
       up = λ side j z e runs.
-          let was = back-from (after_tick sc me i frame k m change side j) (slice_get (of_kind side sites) j) z (sym (get-after sc me i frame k m change sites side j) ∙ e) in
+          let was = option_map-back (after_tick sc me i frame k m change side j) (slice_get (of_kind side sites) j) z (sym (get-after sc me i frame k m change sites side j) ∙ e) in
           let go : (d : Bool) → is_node me i side j ≡ d
           → reached sc me i frame k m side j (elim d as (λ _. Site) [ true ↦ change was.0 | false ↦ was.0 ]) ≡ z
           → IsUp sc hands new a.time side j (elim d as (λ _. ℕ) [ true ↦ r | false ↦ at side j ]) z =
@@ -342,13 +329,13 @@ tick-keeps-world sc hands now at sites me i frame k r m change s a b lawful late
             | true ↦ λ f g.
                 let is = node-is me side i j f in
                 let its : slice_get (of_kind me sites) i ≡ Some was.0 = sym (ap (λ y. slice_get (of_kind y sites) j) is.0 ∙ ap (slice_get (of_kind me sites)) is.1) ∙ was.1.0 in
-                let s_is : s ≡ was.0 = some-same s was.0 (sym ticks.there ∙ its) in
+                let s_is : s ≡ was.0 = same_Some s was.0 (sym ticks.there ∙ its) in
                 let z_is : change s ≡ z =
                 ap change s_is ∙ sym (own_reach (change was.0)) ∙ ap (λ y. reached sc me i frame k m y i (change was.0)) (sym is.0)
                 ∙ ap (λ n. reached sc me i frame k m side n (change was.0)) (sym is.1) ∙ g in
                 let own : IsUp sc hands new a.time me i r (change s) = elim after [
                   | inl on ↦ up-same sc hands old new a.time me i r (change s) (same-kind-on sc hands at sites me i r b) on.1
-                  | inr off ↦ absurd (true-false (sym (ap (λ (s : Site). s.runs) z_is ∙ runs) ∙ off.0))
+                  | inr off ↦ absurd (true≢false (sym (ap (λ (s : Site). s.runs) z_is ∙ runs) ∙ off.0))
                 ] in
                 subst (IsUp sc hands new a.time side j r) z_is
                 (subst (λ y. IsUp sc hands new a.time y j r (change s)) (sym is.0) (subst (λ n. IsUp sc hands new a.time me n r (change s)) (sym is.1) own))
@@ -356,11 +343,11 @@ tick-keeps-world sc hands now at sites me i frame k r m change s a b lawful late
                 let same : Same was.0 (reached sc me i frame k m side j was.0) = reached-same sc me i frame k m side j was.0 in
                 let on : was.0.runs ≡ true = sym same.runs ∙ ap (λ (s : Site). s.runs) g ∙ runs in
                 subst (IsUp sc hands new a.time side j (at side j)) g
-                (any-on sc hands now at sites me i frame k r m s a b lawful later pend ticks land h side j was.0 (side-cases side me) was.1.0 on)
+                (any-on sc hands now at sites me i frame k r m s a b lawful later pend ticks land h side j was.0 (one_or_other side me) was.1.0 on)
           ] in
           subst (λ f. IsUp sc hands f a.time side j (at2 side j) z) is_new (go (is_node me i side j) refl was.1.1);
       down = λ side j z e stopped.
-          let was = back-from (after_tick sc me i frame k m change side j) (slice_get (of_kind side sites) j) z (sym (get-after sc me i frame k m change sites side j) ∙ e) in
+          let was = option_map-back (after_tick sc me i frame k m change side j) (slice_get (of_kind side sites) j) z (sym (get-after sc me i frame k m change sites side j) ∙ e) in
           let go : (d : Bool) → is_node me i side j ≡ d
           → reached sc me i frame k m side j (elim d as (λ _. Site) [ true ↦ change was.0 | false ↦ was.0 ]) ≡ z
           → IsDown sc hands side j (elim d as (λ _. ℕ) [ true ↦ r | false ↦ at side j ]) z =
@@ -370,12 +357,12 @@ tick-keeps-world sc hands now at sites me i frame k r m change s a b lawful late
             | true ↦ λ f g.
                 let is = node-is me side i j f in
                 let its : slice_get (of_kind me sites) i ≡ Some was.0 = sym (ap (λ y. slice_get (of_kind y sites) j) is.0 ∙ ap (slice_get (of_kind me sites)) is.1) ∙ was.1.0 in
-                let s_is : s ≡ was.0 = some-same s was.0 (sym ticks.there ∙ its) in
+                let s_is : s ≡ was.0 = same_Some s was.0 (sym ticks.there ∙ its) in
                 let z_is : change s ≡ z =
                 ap change s_is ∙ sym (own_reach (change was.0)) ∙ ap (λ y. reached sc me i frame k m y i (change was.0)) (sym is.0)
                 ∙ ap (λ n. reached sc me i frame k m side n (change was.0)) (sym is.1) ∙ g in
                 let own : IsDown sc hands me i r (change s) = elim after [
-                  | inl on ↦ absurd (true-false (sym on.0 ∙ ap (λ (s : Site). s.runs) z_is ∙ stopped))
+                  | inl on ↦ absurd (true≢false (sym on.0 ∙ ap (λ (s : Site). s.runs) z_is ∙ stopped))
                   | inr off ↦ off.1
                 ] in
                 subst (IsDown sc hands side j r) z_is

@@ -1,6 +1,6 @@
 -- What a step adds to what a port delivered in a frame: nothing, or the lines of a slot that is complete with it.
 use Rattle.std.proofs.Common.{◌≡◌, ℕ, ◌+◌, ◌-◌, ◌*◌, ◌/◌, ◌%◌, ◌<◌, ◌==◌, ◌&&◌, nat_lt, Bool, true, false, ◌⊎◌, inl, inr, Option, Some, None, List, [], ◌∷◌, ◌++◌, if◌then◌else◌, refl, ◌∙◌, ap, arith}
-use Rattle.std.proofs.lemmas.Bool.{cases_lt}
+use Rattle.std.proofs.lemmas.Bool.{and_from, and_right, cases_lt, eqb-true, ltb-true}
 use Rattle.std.proofs.lemmas.Grind.{flat_map-append}
 use Rattle.std.proofs.lemmas.List.{append-nil}
 use Rattle.rb_base.specs.Sizes.{sync_slot_of}
@@ -18,7 +18,6 @@ use Rattle.rb_rules.proofs.Books.{stepped}
 use Rattle.rb_laws_agreement.proofs.JudgedWindows.{rows_of}
 use Rattle.rb_laws_agreement.proofs.NextMoments.{next, book_exact}
 use Rattle.rb_laws_agreement.proofs.SyncAgrees.{book_sync, book_tail}
-use Rattle.rb_laws_agreement.proofs.Tests.{and_both, and_none, equal_from, less_from}
 use Rattle.rb_group.specs.Portions.{port_deliveries, told_of}
 
 -- what a receiver delivered in a frame, as far as a book tells
@@ -73,9 +72,9 @@ stage-adds sc place rows b frame = by b.ended (verdict_of stages)
       third = p;
       below = q;
       running = refl;
-      given = ap with_slot (and_both (place.stage == 3) (nat_lt place.slot (sync_slot_of sc.sizes)) p q);
+      given = ap with_slot (and_from (place.stage == 3) (nat_lt place.slot (sync_slot_of sc.sizes)) p q);
     })
-    judged true false p q = without (and_none (place.stage == 3) (nat_lt place.slot (sync_slot_of sc.sizes)) q)
+    judged true false p q = without (and_right (place.stage == 3) (nat_lt place.slot (sync_slot_of sc.sizes)) q)
     judged false s p q = without (ap (λ c. c && nat_lt place.slot (sync_slot_of sc.sizes)) p)
 
     by : (e : Bool) (v : Option Cause) → Adds (elim e as (λ _. Book) [ true ↦ b | false ↦ after_verdict sc.sizes place rows stages b v ])
@@ -105,10 +104,10 @@ window-adds sc m frame inside =
           elim (stage-adds sc (record { frame = m.frame; slot = slot; stage = q + 1 }) (rows_of sc m) m.book frame) [
             | inl none ↦ inl (λ receiver. ap (told_in frame receiver) is ∙ none receiver)
             | inr gives ↦
-                let third : q + 1 ≡ 3 = equal_from (q + 1) 3 gives.third in
+                let third : q + 1 ≡ 3 = eqb-true (q + 1) 3 gives.third in
                 inr (record {
                   slot = slot;
-                  below = less_from slot (sync_slot_of sc.sizes) gives.below;
+                  below = ltb-true slot (sync_slot_of sc.sizes) gives.below;
                   at = omega arith;
                   running = ap (λ b. b.ended) is ∙ gives.running;
                   given = ap (λ b. b.given) is ∙ gives.given;
@@ -121,7 +120,7 @@ window-adds sc m frame inside =
             book_sync sc m q (omega arith) (omega arith) in
             elim (stage-adds sc (record { frame = m.frame; slot = sync_slot_of sc.sizes; stage = q + 1 }) (rows_of sc m) m.book frame) [
               | inl none ↦ inl (λ receiver. ap (told_in frame receiver) is ∙ none receiver)
-              | inr gives ↦ let less : sync_slot_of sc.sizes < sync_slot_of sc.sizes = less_from (sync_slot_of sc.sizes) (sync_slot_of sc.sizes) gives.below in absurd (omega arith)
+              | inr gives ↦ let less : sync_slot_of sc.sizes < sync_slot_of sc.sizes = ltb-true (sync_slot_of sc.sizes) (sync_slot_of sc.sizes) gives.below in absurd (omega arith)
             ]
         | inr tail ↦ inl (λ receiver. ap (told_in frame receiver) (book_tail sc m (omega arith)))
       ]
@@ -161,7 +160,7 @@ stepped-adds : (sc : Scenario) (hands : List HandIn) (m : Moment) (frame : ℕ) 
     → TellsNoMore frame m.book (stepped sc hands m over in_frame).book ⊎ AddsSlot sc m (stepped sc hands m over in_frame).book
 unfolding begin_frame
 stepped-adds sc hands m frame true in_frame e = inl (end-adds m.book frame)
-stepped-adds sc hands m frame false true e = window-adds sc m frame (less_from m.window (windows_in sc.sizes) e)
+stepped-adds sc hands m frame false true e = window-adds sc m frame (ltb-true m.window (windows_in sc.sizes) e)
 stepped-adds sc hands m frame false false e = inl (frame-adds sc (m.frame + 1) _ m.book frame)
 
 pub step-adds : (sc : Scenario) (hands : List HandIn) (m : Moment) (frame : ℕ)

@@ -1,6 +1,6 @@
 -- What good ports deliver is the same, so groups come to the same there.
 use Rattle.std.proofs.Common.{◌≡◌, ℕ, zero, suc, ◌==◌, Bool, true, false, inl, inr, Option, Some, None, List, [], ◌++◌, if◌then◌else◌, refl, sym, ◌∙◌, ap, arith}
-use Rattle.std.proofs.lemmas.Bool.{cases_lt}
+use Rattle.std.proofs.lemmas.Bool.{cases_lt, eqb-true}
 use Rattle.rb_base.specs.Nodes.Side.{Biu}
 use Rattle.rb_base.specs.declared.values.Delivery.{Delivery}
 use Rattle.rb_base.specs.declared.values.Heard.{Heard}
@@ -14,7 +14,6 @@ use Rattle.rb_rules.proofs.Books.{records-are}
 use Rattle.rb_laws_agreement.specs.Values.{lines_in}
 use Rattle.rb_laws_agreement.proofs.Deliveries.{owner_sending}
 use Rattle.rb_laws_agreement.proofs.Goodnesses.{good_earlier}
-use Rattle.rb_laws_agreement.proofs.Tests.{equal_from}
 use Rattle.rb_group.specs.Groups.{group_value}
 use Rattle.rb_group.specs.Portions.{deliveries_in, port_deliveries, told_of}
 use Rattle.rb_laws_groups.specs.Laws.{GroupsAgree, IsGoodPort, last_data_slot}
@@ -56,7 +55,7 @@ slot-alike sc hands p frame i j s good_i good_j =
     with_test : (f slot : ℕ) (owner : Option ℕ) (value : Heard) → is_good sc Biu i frame slot ≡ true → is_good sc Biu j frame slot ≡ true
         → (b : Bool) → (f == frame) ≡ b → told f slot i owner value b ≡ told f slot j owner value b
     with_test f slot owner value good_here good_there true e =
-        let same : f ≡ frame = equal_from f frame e in
+        let same : f ≡ frame = eqb-true f frame e in
         ap (λ g. deliveries_in frame slot i (lines_in sc g slot owner value)) same
         ∙ lines-alike sc frame slot owner value i j good_here good_there
         ∙ ap (λ g. deliveries_in frame slot j (lines_in sc g slot owner value)) (sym same)

@@ -1,10 +1,11 @@
 -- What a port has delivered of each BIU in a frame whose data slots are served.
-use Rattle.std.proofs.Common.{◌≡◌, ℕ, zero, suc, ◌+◌, ◌-◌, ◌*◌, ◌<◌, ◌≤◌, ◌==◌, nat_lt, true, false, inl, inr, Option, Some, None, slice_get, List, [], ◌∷◌, ◌++◌, refl, sym, ◌∙◌, ap, subst, arith}
+use Rattle.std.proofs.Common.{◌≡◌, ℕ, zero, suc, ◌+◌, ◌-◌, ◌*◌, ◌<◌, ◌≤◌, ◌==◌, nat_lt, true, false, inl, inr, Option, Some, None, slice_get, List, [], ◌∷◌, refl, sym, ◌∙◌, ap, subst, arith}
 use Rattle.std.specs.List.{range_with_len}
 use Rattle.std.proofs.lemmas.Bool.{cases_lt, cases_order}
 use Rattle.std.proofs.Math.Nat.{add-sub_of_le, mul-le-mul_right}
 use Rattle.rb_base.specs.Nodes.Side.{Biu}
 use Rattle.rb_base.specs.Sizes.{sync_slot_of}
+use Rattle.rb_base.proofs.Plain.{eq_self, range-more}
 use Rattle.rb_rules.specs.declared.role.Role.{Role}
 use Rattle.rb_rules.specs.declared.role.Role.TheVariants.{Schedule, Data, DiagBiu, DiagRmu, Sync}
 use Rattle.rb_rules.specs.Book.{of_kind}
@@ -21,7 +22,6 @@ use Rattle.rb_laws_agreement.proofs.Agreement.{IsAgreed, agreement, ended-end, r
 use Rattle.rb_laws_agreement.proofs.Goodnesses.{good_earlier}
 use Rattle.rb_laws_agreement.proofs.Places.{running_earlier}
 use Rattle.rb_laws_agreement.proofs.SlotLaws.{one-schedule}
-use Rattle.rb_base.proofs.Sets.{eq_self}
 use Rattle.rb_group.specs.Groups.{first_of}
 use Rattle.rb_group.specs.Portions.{port_deliveries}
 use Rattle.rb_laws_groups.specs.Laws.{AreServed, FramesHaveASchedule, IsGoodPort, IsSchedule, first_among, first_slot, last_data_slot}
@@ -39,17 +39,6 @@ slot-complete sc hands frame slot are within =
     le a slot last h = omega (arith, h)
 
 -- Numbers.
-
--- one number more
-range_more : (a n : ℕ) → range_with_len a (suc n) ≡ range_with_len a n ++ (a + n) ∷ []
-range_more a zero = ap (λ k. k ∷ []) (same a)
-  where
-    same : (a : ℕ) → a ≡ a + 0
-    same a = omega arith
-range_more a (suc n) = ap (λ l. a ∷ l) (range_more (a + 1) n ∙ ap (λ k. range_with_len (a + 1) n ++ k ∷ []) (same a n))
-  where
-    same : (a n : ℕ) → a + 1 + n ≡ a + suc n
-    same a n = omega arith
 
 less-apart : (size f w g : ℕ) → f < g → w < size → f * size + w < g * size
 less-apart size f w g h small =
@@ -113,7 +102,7 @@ data-slots sc hands law frame are owner schedule port good (suc n) le i =
     delivered-more sc hands frame i (first_among owner i (range_with_len sc.sizes.bius n)) (first_among owner i (slot ∷ []))
     (first_of i (told_in frame port (before_slot sc hands frame slot).book)) (first_of i adds.more) before (adds.each i) in
     let slots : or_else (first_among owner i (range_with_len sc.sizes.bius n)) (first_among owner i (slot ∷ [])) ≡ first_among owner i (range_with_len sc.sizes.bius (suc n)) =
-    sym (first_among-append owner i (range_with_len sc.sizes.bius n) (slot ∷ [])) ∙ ap (first_among owner i) (sym (range_more sc.sizes.bius n)) in
+    sym (first_among-append owner i (range_with_len sc.sizes.bius n) (slot ∷ [])) ∙ ap (first_among owner i) (sym (range-more sc.sizes.bius n)) in
     let values : or_else (first_of i (told_in frame port (before_slot sc hands frame slot).book)) (first_of i adds.more)
     ≡ first_of i (told_in frame port (before_slot sc hands frame (sc.sizes.bius + suc n)).book) =
     sym (first_of-append i (told_in frame port (before_slot sc hands frame slot).book) adds.more) ∙ ap (first_of i) (sym adds.told)

@@ -1,11 +1,13 @@
 -- What a port delivers of each BIU: nothing of one that owns no data slot, something of one that does, and of a good one its word.
 use Rattle.std.proofs.Common.{◌≡◌, ℕ, zero, suc, ◌+◌, ◌*◌, ◌<◌, ◌≤◌, ◌==◌, ◌⊎◌, Bool, true, false, inl, inr, Option, Some, None, is_some, slice_get, List, [], ◌∷◌, ◌++◌, if◌then◌else◌, refl, sym, ◌∙◌, ap, subst, arith}
+use Rattle.std.proofs.lemmas.Bool.{eqb-true}
 use Rattle.std.proofs.lemmas.List.{append-nil}
 use Rattle.rb_base.specs.Nodes.Side.{Biu}
 use Rattle.rb_base.specs.Sizes.{sync_slot_of}
 use Rattle.rb_base.specs.declared.values.Delivery.{Delivery}
 use Rattle.rb_base.specs.declared.values.Heard.{Heard}
 use Rattle.rb_base.specs.declared.values.Heard.TheVariants.{Word, Fault}
+use Rattle.rb_base.proofs.Plain.{eq_self}
 use Rattle.rb_rules.specs.Book.{of_kind}
 use Rattle.rb_rules.specs.Goodness.{Scenario, is_good}
 use Rattle.rb_rules.specs.Headline.{DeliversOneValue, HasRecord, lines_of}
@@ -22,8 +24,7 @@ use Rattle.rb_laws_agreement.proofs.Invariant.{is_good_now}
 use Rattle.rb_laws_agreement.proofs.Promises.{deliver-alike, deliver-word}
 use Rattle.rb_laws_agreement.proofs.Settings.{good_state}
 use Rattle.rb_laws_agreement.proofs.SlotRuns.{IsSlot, slot_runs, good_in_stage}
-use Rattle.rb_laws_agreement.proofs.Tests.{Present, equal_from, true_or_false}
-use Rattle.rb_base.proofs.Sets.{eq_self}
+use Rattle.rb_laws_agreement.proofs.Tests.{Present, true_or_false}
 use Rattle.rb_group.specs.Groups.{first_of}
 use Rattle.rb_group.specs.Portions.{deliveries_in, port_deliveries}
 use Rattle.rb_laws_groups.specs.Laws.{first_among, is_number}
@@ -55,7 +56,7 @@ quiet-step sc hands law frame i p quiet =
     by : (f slot : ℕ) (owner : Option ℕ) (value : Heard) (b : Bool) → (f == frame) ≡ b → (f ≡ frame → owner ≡ None)
         → (if b then deliveries_in frame slot i (lines_in sc f slot owner value) else []) ≡ []
     by f slot None value true e idle = refl
-    by f slot (Some owner) value true e idle = let none : Some owner ≡ None = idle (equal_from f frame e) in cc
+    by f slot (Some owner) value true e idle = let none : Some owner ≡ None = idle (eqb-true f frame e) in cc
     by f slot owner value false e idle = refl
 
 -- and so does a stretch of them
@@ -183,7 +184,7 @@ slot-adds sc hands law frame slot port below complete good owner held = by (owne
     one : (p : ℕ) (value : Heard) → (is_good sc Biu p frame slot ≡ true → value ≡ Word (offered_in sc hands frame slot p)) → (i : ℕ) (b : Bool) → (p == i) ≡ b
         → IsDeliveredOf sc hands frame i (if b then Some slot else None) (if b then Some value else None)
     one p value word i true e =
-        let same : p ≡ i = equal_from p i e in
+        let same : p ≡ i = eqb-true p i e in
         (refl, subst (λ k. is_good sc Biu k frame slot ≡ true → Some value ≡ Some (Word (offered_in sc hands frame slot k))) same (λ g. ap (λ v. Some v) (word g)))
     one p value word i false e = refl
 

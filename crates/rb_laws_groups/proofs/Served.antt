@@ -1,12 +1,13 @@
 -- The slots of which a run gives a record: each is complete, and its lines are one value at all good BIUs.
 use Rattle.std.proofs.Common.{◌≡◌, ℕ, zero, suc, ◌+◌, ◌-◌, ◌*◌, ◌<◌, ◌≤◌, ◌==◌, nat_lt, Bool, true, false, ◌⊎◌, inl, inr, cond, None, List, [], ◌∷◌, ◌++◌, filter, map, if◌then◌else◌, refl, sym, ◌∙◌, ap, arith}
 use Rattle.std.specs.List.{range_with_len}
-use Rattle.std.proofs.lemmas.Bool.{cases_lt}
+use Rattle.std.proofs.lemmas.Bool.{cases_lt, le-ltb, lt-ltb}
 use Rattle.std.proofs.lemmas.Bool.Decides.{nat_tests}
 use Rattle.rb_base.specs.Nodes.Side.{Biu, Rmu}
 use Rattle.rb_base.specs.Sizes.{Sizes, sync_slot_of}
 use Rattle.rb_base.specs.declared.values.Delivery.{Delivery}
 use Rattle.rb_base.specs.declared.values.Heard.{Heard}
+use Rattle.rb_base.proofs.Plain.{eq_self}
 use Rattle.rb_rules.specs.declared.record.SlotLine.{SlotLine}
 use Rattle.rb_rules.specs.declared.role.Role.{Role}
 use Rattle.rb_rules.specs.declared.role.Role.TheVariants.{Schedule, Data, DiagBiu, DiagRmu, Sync}
@@ -25,8 +26,6 @@ use Rattle.rb_laws_agreement.proofs.Goodnesses.{good_counts}
 use Rattle.rb_laws_agreement.proofs.Invariant.{sender_of}
 use Rattle.rb_laws_agreement.proofs.SlotRuns.{IsSlot, slot_runs}
 use Rattle.rb_laws_agreement.proofs.SlotValues.{slot-lines, value_of_slot}
-use Rattle.rb_laws_agreement.proofs.Tests.{less_false, less_true}
-use Rattle.rb_base.proofs.Sets.{eq_self}
 use Rattle.rb_group.specs.Portions.{deliveries_in}
 use Rattle.rb_laws_groups.proofs.Added.{AddsSlot}
 
@@ -78,13 +77,13 @@ served sc hands law p x =
 
 -- a slot before the data slots, or past them, has no owner
 pub no-owner : (sizes : Sizes) (slot : ℕ) (sender : Sender) → (slot < sizes.bius) ⊎ (sizes.bius + sizes.data_slots ≤ slot) → owner_sending (role_of sizes slot) sender ≡ None
-no-owner sizes slot sender (inl early) = by (nat_lt slot sizes.bius) _ (less_true slot sizes.bius early)
+no-owner sizes slot sender (inl early) = by (nat_lt slot sizes.bius) _ (lt-ltb slot sizes.bius early)
   where
     by : (a : Bool) (rest : Role) → a ≡ true → owner_sending (if a then Schedule slot else rest) sender ≡ None
     by true rest e = refl
     by false rest e = cc
 no-owner sizes slot sender (inr late) = by (nat_lt slot sizes.bius) (nat_lt slot (first_diagnosis_of Biu sizes)) (nat_lt slot (first_diagnosis_of Rmu sizes)) (nat_lt slot (sync_slot_of sizes))
-    (less_false slot sizes.bius (omega arith)) (less_false slot (first_diagnosis_of Biu sizes) late)
+    (le-ltb slot sizes.bius (omega arith)) (le-ltb slot (first_diagnosis_of Biu sizes) late)
   where
     by : (a b c d : Bool) → a ≡ false → b ≡ false → owner_sending (
         if a then Schedule slot

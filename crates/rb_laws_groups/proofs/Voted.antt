@@ -1,6 +1,7 @@
 -- What the voters find for a group, by what is delivered of its members.
 use Rattle.std.proofs.Common.{◌≡◌, ℕ, ◌+◌, ◌<◌, ◌≤◌, ◌&&◌, not, Bool, true, false, cond, Option, Some, None, is_some, List, [], ◌∷◌, length, filter, map, get_or, if◌then◌else◌, refl, sym, ◌∙◌, ap, subst, arith}
 use Rattle.std.specs.List.{cons_option}
+use Rattle.std.proofs.lemmas.Bool.{and_from, eqb-true}
 use Rattle.std.proofs.lemmas.List.{length-map}
 use Rattle.std.proofs.lemmas.List.Elements.{All-from_get_or}
 use Rattle.rb_base.specs.Counting.{count_if, numbers}
@@ -10,6 +11,7 @@ use Rattle.rb_base.specs.declared.values.Delivery.{Delivery}
 use Rattle.rb_base.specs.declared.values.Heard.{Heard}
 use Rattle.rb_base.specs.declared.values.Heard.TheVariants.{Word, Fault}
 use Rattle.rb_base.proofs.Counts.{count_if-le, count_if-le_length}
+use Rattle.rb_base.proofs.Plain.{and_first, and_second}
 use Rattle.rb_rules.specs.ExactStage.{present}
 use Rattle.rb_rules.specs.Goodness.{Scenario, is_good}
 use Rattle.rb_rules.specs.Middle.{middle_of}
@@ -18,7 +20,7 @@ use Rattle.rb_rules.specs.Ports.{HandIn, word_in, word_or_0}
 use Rattle.rb_rules.specs.Rounds.{records_of}
 use Rattle.rb_rules.proofs.Middles.{IsBetween, has_middle, middle_between, middle_is}
 use Rattle.rb_rules.proofs.Votes.{vote_is}
-use Rattle.rb_laws_agreement.proofs.Tests.{Present, and_both, and_first, and_second, equal_from, present_if}
+use Rattle.rb_laws_agreement.proofs.Tests.{Present, present_if}
 use Rattle.rb_group.specs.Groups.{first_of, heard_of, value_of, values_of, words_in}
 use Rattle.rb_group.specs.Portions.{port_deliveries}
 use Rattle.rb_laws_groups.specs.Laws.{MidStaysBetween, MostFindsTheWord, Outnumber, first_slot, has_slot, is_good_owner, is_number, offer_in, offer_of, offers}
@@ -29,7 +31,7 @@ use Rattle.rb_laws_groups.proofs.Owned.{IsDeliveredOf}
 
 number-is : (n : ℕ) (o : Option ℕ) → is_number n o ≡ true → o ≡ Some n
 number-is n None e = cc
-number-is n (Some k) e = ap (λ k. Some k) (equal_from k n e)
+number-is n (Some k) e = ap (λ k. Some k) (eqb-true k n e)
 
 -- what a good owner offers is delivered
 offer-delivered : (sc : Scenario) (hands : List HandIn) (frame i word : ℕ) (slot : Option ℕ) (o : Option Heard) → IsDeliveredOf sc hands frame i slot o
@@ -74,7 +76,7 @@ fewer sc hands frame owner ds members chosen are more =
     let le : count_if (λ i. not (chosen i) && is_some (value_of members ds i)) (numbers 16) ≤ count_if (λ i. not (chosen i) && has_slot sc owner members i) (numbers 16) =
     count_if-le (λ i. not (chosen i) && is_some (value_of members ds i)) (λ i. not (chosen i) && has_slot sc owner members i)
     (λ i e.
-    and_both (not (chosen i)) (has_slot sc owner members i) (and_first (not (chosen i)) (is_some (value_of members ds i)) e)
+    and_from (not (chosen i)) (has_slot sc owner members i) (and_first (not (chosen i)) (is_some (value_of members ds i)) e)
     (gave-slot sc hands frame owner ds members i are (and_second (not (chosen i)) (is_some (value_of members ds i)) e))) (numbers 16) in
     below (count_if (λ i. not (chosen i) && is_some (value_of members ds i)) (numbers 16)) (count_if (λ i. not (chosen i) && has_slot sc owner members i) (numbers 16))
     (count_if chosen (numbers 16)) le more
@@ -150,12 +152,12 @@ middle-found : (f : ℕ → Option Heard) (chosen : ℕ → Bool) (js : List ℕ
 middle-found f chosen js low high gave more =
     let many : count_if chosen js ≤ count_if chosen heard =
     at_most (count_if chosen js) (count_if (λ j. there j && chosen j) js) (count_if chosen heard)
-    (count_if-le chosen (λ j. there j && chosen j) (λ j e. and_both (there j) (chosen j) (is_there j e) e) js) (filtered chosen there js) in
+    (count_if-le chosen (λ j. there j && chosen j) (λ j e. and_from (there j) (chosen j) (is_there j e) e) js) (filtered chosen there js) in
     let few : count_if (λ j. not (chosen j)) heard ≤ count_if (λ j. not (chosen j) && is_some (f j)) js =
     from_filter (count_if (λ j. not (chosen j)) heard) (count_if (λ j. there j && not (chosen j)) js) (count_if (λ j. not (chosen j) && is_some (f j)) js)
     (filtered (λ j. not (chosen j)) there js)
     (count_if-le (λ j. there j && not (chosen j)) (λ j. not (chosen j) && is_some (f j)) (λ j e.
-    and_both (not (chosen j)) (is_some (f j)) (and_second (there j) (not (chosen j)) e) (word-value (f j) (and_first (there j) (not (chosen j)) e))) js) in
+    and_from (not (chosen j)) (is_some (f j)) (and_second (there j) (not (chosen j)) e) (word-value (f j) (and_first (there j) (not (chosen j)) e))) js) in
     let most : count_if (λ j. not (chosen j)) heard < count_if chosen heard =
     chain (count_if (λ j. not (chosen j)) heard) (count_if (λ j. not (chosen j) && is_some (f j)) js) (count_if chosen js) (count_if chosen heard) few more many in
     let some : 0 < length (map stamp heard) = above (count_if (λ j. not (chosen j)) heard) (count_if chosen heard) (length heard) (length (map stamp heard)) most (count_if-le_length chosen heard) (length-map heard stamp) in

@@ -1,8 +1,8 @@
 -- What a reader makes of the words of letters.
-use Rattle.std.proofs.Common.{◌≡◌, ℕ, zero, suc, ◌+◌, ◌-◌, ◌*◌, ◌/◌, ◌%◌, ◌^◌, ◌<◌, ◌≤◌, ◌==◌, ◌&&◌, nat_le, nat_lt, not, All, Bool, true, false, cond, Option, Some, None, List, [], ◌∷◌, ◌++◌, drop, take, length, map, get_or, append_assoc, refl, sym, ap, ◌∙◌, subst, arith}
+use Rattle.std.proofs.Common.{◌≡◌, ℕ, zero, suc, ◌+◌, ◌-◌, ◌*◌, ◌/◌, ◌%◌, ◌^◌, ◌<◌, ◌≤◌, ◌==◌, nat_le, nat_lt, not, All, Bool, true, false, cond, Option, Some, None, List, [], ◌∷◌, ◌++◌, drop, take, length, map, get_or, append_assoc, refl, sym, ap, ◌∙◌, subst, arith}
 use Rattle.std.specs.List.{list_all, range_with_len}
 use Rattle.std.specs.Option.{option_to_list}
-use Rattle.std.proofs.lemmas.Bool.{le-leb, le-ltb, lt-ltb}
+use Rattle.std.proofs.lemmas.Bool.{and_from, and_right, le-leb, le-ltb, lt-ltb}
 use Rattle.std.proofs.lemmas.Bool.Decides.{nat_tests}
 use Rattle.std.proofs.lemmas.List.{append-nil, length-append, map-append}
 use Rattle.std.proofs.lemmas.List.Elements.{All-head, All-tail}
@@ -85,21 +85,14 @@ record IsPartWord (a b c word : ℕ) : Type 0 where
   two : word / 256 % 256 ≡ b
   three : word % 256 ≡ c
 
-both-true : (a b : Bool) → a ≡ true → b ≡ true → (a && b) ≡ true
-both-true a b e f = rw (e, f) refl
-
-second-false : (a b : Bool) → b ≡ false → (a && b) ≡ false
-second-false true b e = e
-second-false false b e = refl
-
 differs : (w : ℕ) → 0 < w → (w == 0) ≡ false
 differs w h = grind (arith, nat_tests)
 
 part-word-is : (a b c : ℕ) → a < 256 → b < 256 → c < 256 → IsPartWord a b c (part_word a b c)
 part-word-is a b c ha hb hc = record {
   some = differs (part_word a b c) (omega arith);
-  no_first = second-false (nat_lt (2 ^ 24) (part_word a b c)) (nat_lt (part_word a b c) (2 ^ 24 + 256)) (le-ltb (part_word a b c) (2 ^ 24 + 256) (omega arith));
-  part = both-true (nat_le (2 ^ 25) (part_word a b c)) (nat_lt (part_word a b c) (2 ^ 25 + 2 ^ 24)) (le-leb (2 ^ 25) (part_word a b c) (omega arith)) (lt-ltb (part_word a b c) (2 ^ 25 + 2 ^ 24) (omega (arith, ha, hb, hc)));
+  no_first = and_right (nat_lt (2 ^ 24) (part_word a b c)) (nat_lt (part_word a b c) (2 ^ 24 + 256)) (le-ltb (part_word a b c) (2 ^ 24 + 256) (omega arith));
+  part = and_from (nat_le (2 ^ 25) (part_word a b c)) (nat_lt (part_word a b c) (2 ^ 25 + 2 ^ 24)) (le-leb (2 ^ 25) (part_word a b c) (omega arith)) (lt-ltb (part_word a b c) (2 ^ 25 + 2 ^ 24) (omega (arith, ha, hb, hc)));
   one = omega (arith, ha, hb, hc);
   two = omega (arith, ha, hb, hc);
   three = omega (arith, ha, hb, hc);
@@ -140,7 +133,7 @@ read-first n o some =
     let length_is : w - 2 ^ 24 ≡ n = omega arith in
     ap (λ x. read_as w o x (is_first w) (is_part w)) (differs w (omega arith))
     ∙ ap (λ x. read_as w o false x (is_part w))
-    (both-true (nat_lt (2 ^ 24) w) (nat_lt w (2 ^ 24 + 256)) (lt-ltb (2 ^ 24) w (omega arith)) (lt-ltb w (2 ^ 24 + 256) (omega arith)))
+    (and_from (nat_lt (2 ^ 24) w) (nat_lt w (2 ^ 24 + 256)) (lt-ltb (2 ^ 24) w (omega arith)) (lt-ltb w (2 ^ 24 + 256) (omega arith)))
     ∙ ap (λ x. keeps (Some (record { wanted = x; bytes = [] }))) length_is
 
 -- Bytes.

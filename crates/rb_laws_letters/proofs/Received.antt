@@ -1,8 +1,7 @@
 -- What the ports of good BIUs receive of a sender.
 use Rattle.std.proofs.Common.{◌≡◌, ℕ, zero, suc, ◌+◌, ◌<◌, ◌≤◌, ◌==◌, ◌&&◌, ◌⊎◌, All, Bool, true, false, cond, Option, Some, None, List, [], ◌∷◌, ◌++◌, filter, length, map, if◌then◌else◌, inl, inr, refl, sym, ap, ◌∙◌, subst, arith}
 use Rattle.std.specs.List.{range_with_len}
-use Rattle.std.proofs.lemmas.Bool.{cases_lt}
-use Rattle.std.proofs.lemmas.Bool.Decides.{nat_tests}
+use Rattle.std.proofs.lemmas.Bool.{cases_lt, eq-eqb, eqb-true}
 use Rattle.std.proofs.lemmas.List.{append-nil}
 use Rattle.std.proofs.lemmas.List.Elements.{All-cons, All-head, All-nil, All-tail}
 use Rattle.std.proofs.lemmas.Option.{slice_get-get_or}
@@ -10,6 +9,7 @@ use Rattle.rb_base.specs.Nodes.Side.{Biu}
 use Rattle.rb_base.specs.Sizes.{sync_slot_of}
 use Rattle.rb_base.specs.declared.values.Heard.{Heard}
 use Rattle.rb_base.specs.declared.values.Heard.TheVariants.{Word}
+use Rattle.rb_base.proofs.Plain.{less-differs, more-differs}
 use Rattle.rb_rules.specs.declared.record.SlotLine.{SlotLine}
 use Rattle.rb_rules.specs.Book.{Record, of_kind}
 use Rattle.rb_rules.specs.Book.Record.{Frame, Slot, Ended, Breach}
@@ -21,10 +21,10 @@ use Rattle.rb_rules.specs.NodeState.{NodeState, first_state}
 use Rattle.rb_rules.specs.NodeSteps.{owner_at}
 use Rattle.rb_rules.specs.Ports.{HandIn}
 use Rattle.rb_laws_agreement.proofs.Places.{complete_before, placed}
-use Rattle.rb_laws_events.proofs.RoundNodes.{good-counts}
 use Rattle.rb_laws_promise.proofs.Promise.{promise}
 use Rattle.rb_long.specs.Delivered.{deliveries_in, is_from, lines_in, values_of}
 use Rattle.rb_long.specs.Reading.{given_with, open_after}
+use Rattle.rb_laws_agreement.proofs.Goodnesses.{good_counts}
 use Rattle.rb_laws_letters.specs.Laws.{AreFirst, GoodPortsReceiveAlike, GoodSendersAreReceived}
 use Rattle.rb_laws_letters.specs.Offers.{IsGoodThrough, is_good_in, is_owner, offered_by, offers, state_before}
 use Rattle.rb_laws_letters.specs.Sent.{IsFirstPart, heard_words, without_zeros}
@@ -56,24 +56,12 @@ other-value : (i k owner : ℕ) (value : Heard) (good : Bool) (j : ℕ) → (j =
 other-value i k owner value false j e = refl
 other-value i k owner value true j e = ap (λ b. cond (b && (owner == k)) (value ∷ []) []) e
 
-differ : (a b : ℕ) → a < b → (a == b) ≡ false
-differ a b h = grind (arith, nat_tests)
-
-differ-back : (a b : ℕ) → b < a → (a == b) ≡ false
-differ-back a b h = grind (arith, nat_tests)
-
-same : (a b : ℕ) → a ≡ b → (a == b) ≡ true
-same a b h = grind (arith, nat_tests)
-
-equal : (a b : ℕ) → (a == b) ≡ true → a ≡ b
-equal a b h = grind (arith, nat_tests)
-
 none-past : (i k owner : ℕ) (value : Heard) (good : ℕ → Bool) (n from : ℕ) → i < from
     → values_of i k (map (line_for owner value) (filter good (range_with_len from n))) ≡ []
 none-past i k owner value good zero from past = refl
 none-past i k owner value good (suc n) from past =
     first-value i k owner value (good from) from (filter good (range_with_len (from + 1) n))
-    ∙ ap (λ l. l ++ values_of i k (map (line_for owner value) (filter good (range_with_len (from + 1) n)))) (other-value i k owner value (good from) from (differ-back from i past))
+    ∙ ap (λ l. l ++ values_of i k (map (line_for owner value) (filter good (range_with_len (from + 1) n)))) (other-value i k owner value (good from) from (more-differs from i past))
     ∙ none-past i k owner value good n (from + 1) (omega (arith, past))
 
 one-value : (i k owner : ℕ) (value : Heard) (good : ℕ → Bool) (n from : ℕ) → from ≤ i → i < from + n → good i ≡ true
@@ -83,14 +71,14 @@ one-value i k owner value good (suc n) from low high is =
     first-value i k owner value (good from) from (filter good (range_with_len (from + 1) n))
     ∙ elim (cases_lt from i) [
       | inl lt ↦
-          ap (λ l. l ++ values_of i k (map (line_for owner value) (filter good (range_with_len (from + 1) n)))) (other-value i k owner value (good from) from (differ from i lt))
+          ap (λ l. l ++ values_of i k (map (line_for owner value) (filter good (range_with_len (from + 1) n)))) (other-value i k owner value (good from) from (less-differs from i lt))
           ∙ one-value i k owner value good n (from + 1) (omega (arith, lt)) (omega (arith, high)) is
       | inr ge ↦
           let here : from ≡ i = omega (arith, ge, low) in
           ap (λ l. own_value i k owner value (good from) from ++ l) (none-past i k owner value good n (from + 1) (omega (arith, ge)))
           ∙ append-nil (own_value i k owner value (good from) from)
           ∙ ap (λ b. own_value i k owner value b from) (ap good here ∙ is)
-          ∙ ap (λ b. cond (b && (owner == k)) (value ∷ []) []) (same from i here)
+          ∙ ap (λ b. cond (b && (owner == k)) (value ∷ []) []) (eq-eqb from i here)
     ]
 
 -- of the lines of a slot a good receiver has one, the owner's
@@ -98,7 +86,7 @@ lines-value : (sc : Scenario) (frame slot owner : ℕ) (value : Heard) (i k : �
     → values_of i k (lines_of sc frame slot owner value) ≡ cond (owner == k) (value ∷ []) []
 lines-value sc frame slot owner value i k good =
     one-value i k owner value (λ j. is_good sc Biu j frame slot) sc.sizes.bius 0 (omega arith)
-    (let within : i < sc.sizes.bius = good-counts sc Biu i frame slot good in omega (arith, within)) good
+    (let within : i < sc.sizes.bius = good_counts sc Biu i frame slot good in omega (arith, within)) good
 
 -- The lines of a record.
 
@@ -125,7 +113,7 @@ has-state sc hands law frame slot lines r i good =
     let le : slot < sync_slot_of sc.sizes = r.below in
     let p = placed sc hands law frame slot 1 (omega (arith, le)) (omega arith) (omega arith) (complete_before sc hands frame slot 1 (omega arith) r.complete) in
     let long : length (of_kind Biu (before_slot sc hands frame slot).nodes) ≡ sc.sizes.bius = p.agree.counts Biu in
-    let within : i < sc.sizes.bius = good-counts sc Biu i frame slot good in record {
+    let within : i < sc.sizes.bius = good_counts sc Biu i frame slot good in record {
       good = good;
       state = slice_get-get_or (of_kind Biu (before_slot sc hands frame slot).nodes) i (first_state sc.sizes Biu) (omega (arith, long, within));
     }
@@ -224,7 +212,7 @@ sent-slot sc hands law i k frame slot lines r good_i good_k = by (owner_at sc.si
 
     owned : (owner : ℕ) (b : Bool) → owner_at sc.sizes st slot ≡ Some owner → (owner == k) ≡ b → values_of i k lines ≡ offer b
     owned owner true e f =
-        let me : owner ≡ k = equal owner k f in
+        let me : owner ≡ k = eqb-true owner k f in
         let has = kept.words frame slot r.below r.complete Biu k st there owner e (subst (λ x. is_good sc Biu x frame slot ≡ true) (sym me) good_k) in
         ap (values_of i k) (lines-are sc hands frame slot lines (lines_of sc frame slot owner (Word (offered_in sc hands frame slot owner))) r has)
         ∙ lines-value sc frame slot owner (Word (offered_in sc hands frame slot owner)) i k good_i

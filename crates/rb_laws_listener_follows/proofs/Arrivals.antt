@@ -1,12 +1,13 @@
 -- What there is of one RMU among all that came with the stamps of a window.
 use Rattle.std.proofs.Common.{◌≡◌, ℕ, zero, suc, ◌+◌, ◌<◌, ◌==◌, nat_lt, Bool, true, false, List, [], ◌∷◌, ◌++◌, Some, slice_get, inl, inr, refl, sym, ◌∙◌, ap, subst, arith}
-use Rattle.std.proofs.lemmas.Bool.{cases_lt}
-use Rattle.std.proofs.lemmas.Bool.Decides.{nat_tests}
+use Rattle.std.proofs.lemmas.Bool.{cases_lt, eqb-true, false_from_ne_true, lt-ltb}
+use Rattle.std.proofs.lemmas.Option.{same_Some}
 use Rattle.rb_base.specs.Sizes.{Sizes}
+use Rattle.rb_base.proofs.Plain.{eq_self}
 use Rattle.rb_rules.specs.Core.{of_source}
 use Rattle.rb_rules.specs.Hearing.{Coming}
 use Rattle.rb_rules.specs.Sense.{Arrival}
-use Rattle.rb_laws_agreement.proofs.Tests.{equal_from, less_true, same_some, so_not, true_or_false}
+use Rattle.rb_laws_agreement.proofs.Tests.{true_or_false}
 use Rattle.rb_laws_listener_follows.proofs.FollowerRuns.{arrivals, collected}
 
 pub of-append : (xs ys : List (ℕ × Arrival)) (j : ℕ) → of_source (xs ++ ys) j ≡ of_source xs j ++ of_source ys j
@@ -19,9 +20,6 @@ of-more x xs j e = rw e refl
 
 pub of-other : (x : ℕ × Arrival) (xs : List (ℕ × Arrival)) (j : ℕ) → (x.0 == j) ≡ false → of_source (x ∷ xs) j ≡ of_source xs j
 of-other x xs j e = rw e refl
-
-itself : (j : ℕ) → (j == j) ≡ true
-itself j = grind (arith, nat_tests)
 
 -- a message among those of one stamp
 
@@ -39,31 +37,31 @@ arrivals-mine : (sizes : Sizes) (k : ℕ) (c : Coming) (cs : List Coming) (j : �
     → of_source (arrivals sizes k (c ∷ cs)) j ≡ record { stamp = k; bytes = c.bytes } ∷ of_source (arrivals sizes k cs) j
 unfolding arrivals
 arrivals-mine sizes k c cs j below from =
-    go (nat_lt c.from sizes.rmus) (subst (λ i. nat_lt i sizes.rmus ≡ true) (sym from) (less_true j sizes.rmus below))
+    go (nat_lt c.from sizes.rmus) (subst (λ i. nat_lt i sizes.rmus ≡ true) (sym from) (lt-ltb j sizes.rmus below))
   where
     go : (b : Bool) → b ≡ true
         → of_source (elim b as (λ _. List (ℕ × Arrival)) [ true ↦ (c.from, record { stamp = k; bytes = c.bytes }) ∷ arrivals sizes k cs | false ↦ arrivals sizes k cs ]) j
         ≡ record { stamp = k; bytes = c.bytes } ∷ of_source (arrivals sizes k cs) j
-    go true h = of-more (c.from, record { stamp = k; bytes = c.bytes }) (arrivals sizes k cs) j (subst (λ i. (i == j) ≡ true) (sym from) (itself j))
+    go true h = of-more (c.from, record { stamp = k; bytes = c.bytes }) (arrivals sizes k cs) j (subst (λ i. (i == j) ≡ true) (sym from) (eq_self j))
     go false h = cc
 
 pub none_with_stamp : (sizes : Sizes) (k : ℕ) (cs : List Coming) (j : ℕ) → ((nth : ℕ) (c : Coming) → slice_get cs nth ≡ Some c → c.from ≡ j → ⊥) → of_source (arrivals sizes k cs) j ≡ []
 unfolding arrivals
 none_with_stamp sizes k [] j none = refl
 none_with_stamp sizes k (c ∷ cs) j none =
-    arrivals-other sizes k c cs j (so_not (c.from == j) (λ e. none 0 c refl (equal_from c.from j e)))
+    arrivals-other sizes k c cs j (false_from_ne_true (c.from == j) (λ e. none 0 c refl (eqb-true c.from j e)))
     ∙ none_with_stamp sizes k cs j (λ nth d is. none (suc nth) d is)
 
 pub one_with_stamp : (sizes : Sizes) (k : ℕ) (cs : List Coming) (j nth : ℕ) (c : Coming) → j < sizes.rmus → slice_get cs nth ≡ Some c → c.from ≡ j
     → ((a : ℕ) (d : Coming) → slice_get cs a ≡ Some d → d.from ≡ j → a ≡ nth) → of_source (arrivals sizes k cs) j ≡ record { stamp = k; bytes = c.bytes } ∷ []
 one_with_stamp sizes k [] j nth c below there from sole = cc
 one_with_stamp sizes k (x ∷ xs) j zero c below there from sole =
-    let same : x ≡ c = same_some x c there in
+    let same : x ≡ c = same_Some x c there in
     arrivals-mine sizes k x xs j below (ap (λ (y : Coming). y.from) same ∙ from)
     ∙ ap (λ l. record { stamp = k; bytes = x.bytes } ∷ l) (none_with_stamp sizes k xs j (λ a d is mine. let e : suc a ≡ 0 = sole (suc a) d is mine in absurd (omega (arith, e))))
     ∙ ap (λ (y : Coming). record { stamp = k; bytes = y.bytes } ∷ []) same
 one_with_stamp sizes k (x ∷ xs) j (suc nth) c below there from sole =
-    arrivals-other sizes k x xs j (so_not (x.from == j) (λ e. let zero_is : 0 ≡ suc nth = sole 0 x refl (equal_from x.from j e) in absurd (omega (arith, zero_is))))
+    arrivals-other sizes k x xs j (false_from_ne_true (x.from == j) (λ e. let zero_is : 0 ≡ suc nth = sole 0 x refl (eqb-true x.from j e) in absurd (omega (arith, zero_is))))
     ∙ one_with_stamp sizes k xs j nth c below there from (λ a d is mine. let e : suc a ≡ suc nth = sole (suc a) d is mine in omega (arith, e))
 
 -- among those of all stamps of a window

@@ -15,6 +15,7 @@ use Rattle.rb_rules.specs.SyncStage.{new_epoch_of}
 use Rattle.rb_laws_agreement.proofs.Agreement.{IsAgreed, agreement}
 use Rattle.rb_laws_agreement.proofs.FrameAgrees.{TurnedFrom, turned_from}
 use Rattle.rb_laws_agreement.proofs.FrameBegins.{IsTurn, frame_turns, turn-index}
+use Rattle.rb_laws_agreement.proofs.FrameTimes.{turned-epoch}
 use Rattle.rb_laws_agreement.proofs.Goodnesses.{slot_last}
 use Rattle.rb_laws_agreement.proofs.Invariant.{IsGoodNode}
 use Rattle.rb_laws_agreement.proofs.NextMoments.{CameFrom, came_from}
@@ -22,7 +23,7 @@ use Rattle.rb_laws_agreement.proofs.NodeWindows.{tail_windows}
 use Rattle.rb_laws_agreement.proofs.Places.{IsPlaced, good_before_slot, placed, running_earlier}
 use Rattle.rb_laws_agreement.proofs.SyncWindows.{tail_keeps_epoch}
 use Rattle.rb_laws_synchrony.proofs.Synchronous.{KnowsEpoch}
-use Rattle.rb_laws_synchrony.proofs.Synchrony.{IsSynchronous, synchrony, turned_epoch}
+use Rattle.rb_laws_synchrony.proofs.Synchrony.{IsSynchronous, synchrony}
 
 -- it knew its epoch after the sync slot, and has turned with it
 pub record HasBegun (sc : Scenario) (hands : List HandIn) (frame : ℕ) (me : Side) (i : ℕ) (now : NodeState) : Type 0 where
@@ -44,7 +45,7 @@ has_begun sc hands law frame complete me i now h = record {
   after = record { good = ap (λ f. is_good sc me i f (sync_slot_of sc.sizes)) (sym p4.frame_is) ∙ good; state = came.was.there };
   epoch = knows.takes.epoch;
   known = knows.takes.known;
-  epoch_is = sym (turned_epoch sc.sizes sc.plan me turned.st knows.takes.epoch known) ∙ ap (λ x. x.epoch) turned.is;
+  epoch_is = sym (turned-epoch sc.sizes sc.plan me turned.st knows.takes.epoch known) ∙ ap (λ x. x.epoch) turned.is;
   old = turned.st;
   turned = sym (turns-by sc.sizes sc.plan me turned.st knows.takes.epoch known) ∙ turned.is;
 }

@@ -1,13 +1,12 @@
 -- After so many steps of the abstract bus it stands before the slot of that number.
 use Rattle.std.proofs.Common.{◌≡◌, ℕ, zero, suc, ◌+◌, ◌*◌, ◌<◌, ◌≤◌, nat_lt, Bool, true, false, refl, sym, ◌∙◌, ap, arith, inl, inr}
-use Rattle.std.proofs.lemmas.Bool.{cases_lt, cases_order}
+use Rattle.std.proofs.lemmas.Bool.{cases_lt, cases_order, lt-ltb, ltb-true}
 use Rattle.std.proofs.Math.Nat.{mul-le-mul_right}
 use Rattle.rb_base.specs.Sizes.{sync_slot_of}
 use Rattle.rb_base.specs.declared.values.Heard.{Heard}
 use Rattle.rb_rules.specs.AbstractBus.{AbstractBus, FrameStep, IsRun, IsStep, SlotStep}
 use Rattle.rb_rules.specs.Goodness.{Scenario}
 use Rattle.rb_rules.specs.StandsFor.{steps_to}
-use Rattle.rb_laws_agreement.proofs.Tests.{less_from, less_true}
 
 -- the place of the bus after n steps
 record IsAfter (sc : Scenario) (n : ℕ) (bus : AbstractBus) : Type 0 where
@@ -24,7 +23,7 @@ one_more sc offered n before after step at = go (nat_lt before.slot (sync_slot_o
         let frame : after.frame ≡ before.frame = ap (λ b. b.frame) s.1.after_is in
         let slot : after.slot ≡ before.slot + 1 = ap (λ b. b.slot) s.1.after_is in
         let same : after.frame * (sync_slot_of sc.sizes + 1) ≡ before.frame * (sync_slot_of sc.sizes + 1) = ap (λ f. f * (sync_slot_of sc.sizes + 1)) frame in
-        record { place = omega (arith, at.place, same, slot); in_frame = omega (arith, slot, less_from before.slot (sync_slot_of sc.sizes) less) }
+        record { place = omega (arith, at.place, same, slot); in_frame = omega (arith, slot, ltb-true before.slot (sync_slot_of sc.sizes) less) }
     go false more s =
         let frame : after.frame ≡ before.frame + 1 = ap (λ b. b.frame) s.after_is in
         let slot : after.slot ≡ 0 = ap (λ b. b.slot) s.after_is in
@@ -35,7 +34,7 @@ one_more sc offered n before after step at = go (nat_lt before.slot (sync_slot_o
       where
         not_less : nat_lt before.slot (sync_slot_of sc.sizes) ≡ false → sync_slot_of sc.sizes ≤ before.slot
         not_less e = elim (cases_lt before.slot (sync_slot_of sc.sizes)) [
-          | inl lt ↦ let both : true ≡ false = sym (less_true before.slot (sync_slot_of sc.sizes) lt) ∙ e in cc
+          | inl lt ↦ let both : true ≡ false = sym (lt-ltb before.slot (sync_slot_of sc.sizes) lt) ∙ e in cc
           | inr ge ↦ ge
         ]
 

@@ -1,12 +1,12 @@
 -- When the calls came that a listener takes in stage 2 of the sync slot: the last call of the frame by that RMU with that stamp.
 use Rattle.std.proofs.Common.{◌≡◌, ℕ, zero, suc, ◌+◌, ◌%◌, ◌<◌, ◌≤◌, ◌==◌, ◌&&◌, not, nat_lt, Bool, true, false, Option, Some, None, if◌then◌else◌, List, [], ◌∷◌, ◌++◌, slice_get, refl, sym, ◌∙◌, ap, subst, arith}
-use Rattle.std.proofs.lemmas.Bool.Decides.{nat_tests}
+use Rattle.std.proofs.lemmas.Bool.{and_from, eq-eqb, eqb-true}
+use Rattle.std.proofs.lemmas.Option.{same_Some}
 use Rattle.rb_base.specs.Nodes.{has}
 use Rattle.rb_base.specs.Nodes.Side.{Biu, Rmu}
 use Rattle.rb_base.specs.Sizes.{Sizes, sync_slot_of}
+use Rattle.rb_base.proofs.Plain.{and_first, and_second}
 use Rattle.rb_rules.specs.declared.message.Message.{Message}
-use Rattle.rb_rules.specs.declared.message.Tag.{Tag}
-use Rattle.rb_rules.specs.declared.message.Tag.TheVariants.{Word, Fault, Sync as Call}
 use Rattle.rb_rules.specs.declared.sense.Expect.{Expect}
 use Rattle.rb_rules.specs.declared.sense.Sense.{Sense}
 use Rattle.rb_rules.specs.declared.sense.Sense.TheVariants.{One, Bad}
@@ -23,13 +23,13 @@ use Rattle.rb_rules.specs.Sense.{Arrival, sense_of, sense_of_one, stamp_in, suit
 use Rattle.rb_rules.specs.Spelling.{message_in}
 use Rattle.rb_rules.specs.Standing.{Standing, taken_of}
 use Rattle.rb_rules.specs.SyncStage.{expects_call, see_time}
-use Rattle.rb_laws_agreement.proofs.Tests.{and_both, and_first, and_second, equal_from, same_some}
 use Rattle.rb_laws_agreement.proofs.Goodnesses.{slot_last}
 use Rattle.rb_laws_agreement.proofs.Invariant.{IsGoodNode, Shared}
 use Rattle.rb_listen.specs.Passes.{is_call, is_sync}
 use Rattle.rb_laws_listener_learns.specs.Ears.{Ear, IsHeard, SendsIn, coming_to}
 use Rattle.rb_laws_listener_learns.specs.Receivers.{call_time, is_call_of, stamp_seen}
-use Rattle.rb_laws_listener_learns.proofs.CallTimes.{LastIs, finds-call, last-is}
+use Rattle.rb_laws_listener_learns.proofs.CallTimes.{LastIs, finds-call, last-is, tag-sync}
+use Rattle.rb_laws_listener_learns.proofs.Moments.{same-sent}
 use Rattle.rb_laws_listener_follows.proofs.Arrivals.{of-append, of-more, of-other}
 use Rattle.rb_laws_listener_follows.proofs.FirstCalls.{sense_span}
 use Rattle.rb_laws_listener_follows.proofs.FollowerRuns.{arrivals, collected}
@@ -37,7 +37,6 @@ use Rattle.rb_laws_listener_follows.proofs.HeardExact.{IsOwn, sends_then}
 use Rattle.rb_laws_listener_follows.proofs.HeardSync.{only_calls}
 use Rattle.rb_laws_listener_follows.proofs.SecondCalls.{TakesCall, taken_second}
 use Rattle.rb_laws_listener_follows.proofs.SecondSteps.{HasTimes, StandsSecond}
-use Rattle.rb_laws_listener_follows.proofs.SensesExact.{same-sent}
 
 -- ---- what is kept came
 
@@ -68,7 +67,7 @@ came_with sizes k (c ∷ cs) j x xs h = go (nat_lt c.from sizes.rmus) h (λ e. c
       nth = 0;
       coming = c;
       there = refl;
-      from = equal_from c.from j e;
+      from = eqb-true c.from j e;
       is = same_first (sym h ∙ of-more new (arrivals sizes k cs) j e);
     }
     by false e h rest = later (rest (sym (of-other new (arrivals sizes k cs) j e) ∙ h))
@@ -118,7 +117,7 @@ sensed e [] k h = absurd (no_stamp k h)
 sensed e (a ∷ []) k h = by (message_in e.version a.bytes) refl h
   where
     suited : (m : Message) → message_in e.version a.bytes ≡ Some m → (b : Bool) → suits e m ≡ b → stamp_in (if b then One a.stamp m else Bad) ≡ Some k → IsSensed e (a ∷ []) k
-    suited m reads true s h = record { arrival = a; message = m; is = refl; stamp = same_some a.stamp k h; reads = reads; suited = s }
+    suited m reads true s h = record { arrival = a; message = m; is = refl; stamp = same_Some a.stamp k h; reads = reads; suited = s }
     suited m reads false s h = absurd (no_stamp k h)
 
     by : (o : Option Message) → message_in e.version a.bytes ≡ o → stamp_in (sense_of_one e a.stamp o) ≡ Some k → IsSensed e (a ∷ []) k
@@ -133,14 +132,6 @@ taken_is s expected sense j k h = go (expected j && (has s.trusted j && not (has
     go true h = h
     go false h = absurd (no_stamp k h)
 
-tag_sync : (t : Tag) → tag_suits true t ≡ true → is_sync t ≡ true
-tag_sync Word h = cc
-tag_sync Fault h = cc
-tag_sync Call h = refl
-
-same_test : (a b : ℕ) → a ≡ b → (a == b) ≡ true
-same_test a b e = grind (arith, nat_tests, e)
-
 -- what suits stage 2 of the sync slot is a call of the frame
 is_found : (sc : Scenario) (st : NodeState) (j : ℕ) (c : Coming) (m : Message) → c.from ≡ j → message_in sc.plan.version c.bytes ≡ Some m
     → suits (expect_of sc.sizes sc.plan.version st (sync_slot_of sc.sizes) 2) m ≡ true → finds-call sc st.frame j c ≡ true
@@ -153,10 +144,10 @@ is_found sc st j c m from reads h =
     let stage : (m.stage == 2) ≡ true = and_second ((m.frame == st.frame % 65536) && (m.slot == slot)) (m.stage == 2) front in
     let frame : (m.frame == st.frame % 65536) ≡ true = and_first (m.frame == st.frame % 65536) (m.slot == slot) place in
     let at : (m.slot == slot) ≡ true = and_second (m.frame == st.frame % 65536) (m.slot == slot) place in
-    let sync : is_sync m.tag ≡ true = tag_sync m.tag (ap (λ b. tag_suits b m.tag) (sym (same_test slot slot refl)) ∙ tag) in
+    let sync : is_sync m.tag ≡ true = tag-sync m.tag (ap (λ b. tag_suits b m.tag) (sym (eq-eqb slot slot refl)) ∙ tag) in
     ap (λ o. is_call_of sc st.frame j o c) reads
-    ∙ and_both ((c.from == j) && is_call sc.sizes m) (m.frame == st.frame % 65536)
-    (and_both (c.from == j) (is_call sc.sizes m) (same_test c.from j from) (and_both (is_sync m.tag && (m.slot == slot)) (m.stage == 2) (and_both (is_sync m.tag) (m.slot == slot) sync at) stage)) frame
+    ∙ and_from ((c.from == j) && is_call sc.sizes m) (m.frame == st.frame % 65536)
+    (and_from (c.from == j) (is_call sc.sizes m) (eq-eqb c.from j from) (and_from (is_sync m.tag && (m.slot == slot)) (m.stage == 2) (and_from (is_sync m.tag) (m.slot == slot) sync at) stage)) frame
 
 -- the tick is one of stage 2, and the last call with this stamp is found
 record IsFoundAt (sc : Scenario) (ear : Ear) (epoch frame j k : ℕ) : Type 0 where
@@ -190,7 +181,7 @@ from_found sc frame j c h = go (message_in sc.plan.version c.bytes) h
     go : (o : Option Message) → is_call_of sc frame j o c ≡ true → c.from ≡ j
     go None h = cc
     go (Some m) h =
-        equal_from c.from j (and_first (c.from == j) (is_call sc.sizes m) (and_first ((c.from == j) && is_call sc.sizes m) (m.frame == frame % 65536) h))
+        eqb-true c.from j (and_first (c.from == j) (is_call sc.sizes m) (and_first ((c.from == j) && is_call sc.sizes m) (m.frame == frame % 65536) h))
 
 pub has_times : (sc : Scenario) (hands : List HandIn) (ear : Ear) (n epoch low : ℕ) (s : Shared) (st : NodeState) → StandsSecond sc hands ear n epoch low s st
     → HasTimes sc hands ear n epoch st (time_second sc ear epoch st)

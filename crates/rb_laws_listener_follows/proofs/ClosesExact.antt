@@ -1,6 +1,6 @@
 -- A listener that keeps up with the good BIUs closes a window below the sync slot as the bus does.
 use Rattle.std.proofs.Common.{◌≡◌, ℕ, zero, suc, ◌+◌, ◌-◌, ◌<◌, ◌≤◌, ◌==◌, Bool, true, false, List, Option, Some, None, nat_lt, inl, inr, get_or, slice_get, if◌then◌else◌, refl, sym, ◌∙◌, ap, subst, arith}
-use Rattle.std.proofs.lemmas.Bool.{cases_lt}
+use Rattle.std.proofs.lemmas.Bool.{cases_lt, lt-ltb}
 use Rattle.std.proofs.lemmas.Bool.Decides.{nat_tests}
 use Rattle.rb_base.specs.Nodes.Side.{Biu, Rmu}
 use Rattle.rb_base.specs.Sizes.{Sizes, sync_slot_of}
@@ -9,6 +9,7 @@ use Rattle.rb_base.specs.declared.values.Heard.{Heard}
 use Rattle.rb_base.specs.declared.values.Heard.TheVariants.{Fault}
 use Rattle.rb_base.specs.declared.values.Place.{Place}
 use Rattle.rb_base.specs.declared.values.See.{See}
+use Rattle.rb_base.proofs.Plain.{less-differs}
 use Rattle.rb_rules.specs.declared.role.Role.{Role}
 use Rattle.rb_rules.specs.declared.role.Role.TheVariants.{Data, DiagBiu, DiagRmu, Schedule, Sync}
 use Rattle.rb_rules.specs.declared.sense.Sense.{Sense}
@@ -32,7 +33,6 @@ use Rattle.rb_laws_agreement.proofs.NextMoments.{CameFrom, came_from, next}
 use Rattle.rb_laws_agreement.proofs.SecondStages.{GoodOne, some_good, vote-held}
 use Rattle.rb_laws_agreement.proofs.Settings.{Setting, after, good_here}
 use Rattle.rb_laws_agreement.proofs.SlotRuns.{IsSlot, next-frame, slot_runs}
-use Rattle.rb_laws_agreement.proofs.Tests.{less_true}
 use Rattle.rb_laws_agreement.proofs.ThirdStages.{votes_kept}
 use Rattle.rb_laws_listener_near.proofs.Tracking.{Held, held, listener_vote}
 use Rattle.rb_laws_listener_near.proofs.WindowSteps.{IsWatched, closed_by, closes_parts, votes_as}
@@ -70,17 +70,14 @@ delivers-by st slot stage (Data n) mine bus vote value sender votes =
         go true e = ap said (votes n refl (two e))
         go false e = refl
 
-not-sync : (slot sync : ℕ) → slot < sync → (slot == sync) ≡ false
-not-sync slot sync h = grind (arith, nat_tests)
-
-exact-place : (sizes : Sizes) (st : NodeState) (slot stage : ℕ) (sense : ℕ → Sense) → (close_exact sizes Biu 16 st slot stage sense).closed.place ≡ record { frame = st.frame; slot = slot; stage = stage }
+pub exact-place : (sizes : Sizes) (st : NodeState) (slot stage : ℕ) (sense : ℕ → Sense) → (close_exact sizes Biu 16 st slot stage sense).closed.place ≡ record { frame = st.frame; slot = slot; stage = stage }
 unfolding close_exact outcome_of
 exact-place sizes st slot stage sense = refl
 
 place_is : (sc : Scenario) (slot stage first : ℕ) (st : NodeState) (sense : ℕ → Sense) → slot < sync_slot_of sc.sizes
     → (closed_by sc slot stage first st sense).closed.place ≡ record { frame = st.frame; slot = slot; stage = stage }
 place_is sc slot stage first st sense below =
-    ap (λ o. o.closed.place) (go (slot == sync_slot_of sc.sizes) (not-sync slot (sync_slot_of sc.sizes) below)) ∙ exact-place sc.sizes st slot stage sense
+    ap (λ o. o.closed.place) (go (slot == sync_slot_of sc.sizes) (less-differs slot (sync_slot_of sc.sizes) below)) ∙ exact-place sc.sizes st slot stage sense
   where
     go : (b : Bool) → b ≡ false
         → (elim b as (λ _. Outcome) [ true ↦ close_sync sc.sizes Biu st stage (st.epoch + first) sense | false ↦ close_exact sc.sizes Biu 16 st slot stage sense ])
@@ -134,7 +131,7 @@ data-after sizes slot n e = go (nat_lt slot sizes.bius) refl e
         else (if nat_lt slot (sync_slot_of sizes) then DiagRmu (slot - first_diagnosis_of Rmu sizes) else Sync)))) ≡ Data n → sizes.bius ≤ slot
     go true less h = cc
     go false more h = elim (cases_lt slot sizes.bius) [
-      | inl lt ↦ let both : true ≡ false = sym (less_true slot sizes.bius lt) ∙ more in cc
+      | inl lt ↦ let both : true ≡ false = sym (lt-ltb slot sizes.bius lt) ∙ more in cc
       | inr ge ↦ ge
     ]
 

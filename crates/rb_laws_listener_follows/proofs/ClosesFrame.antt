@@ -1,6 +1,7 @@
 -- From where a listener stands in a frame it closes each later window of the frame as the bus does.
-use Rattle.std.proofs.Common.{◌≡◌, ℕ, zero, suc, ◌+◌, ◌-◌, ◌*◌, ◌/◌, ◌%◌, ◌<◌, ◌≤◌, List, [], ◌∷◌, length, Some, inl, inr, unwrap_or, slice_get, sym, ◌∙◌, ap, subst, arith}
+use Rattle.std.proofs.Common.{◌≡◌, ℕ, zero, suc, ◌+◌, ◌-◌, ◌*◌, ◌/◌, ◌%◌, ◌<◌, ◌≤◌, List, [], Some, inl, inr, unwrap_or, slice_get, sym, ◌∙◌, ap, subst, arith}
 use Rattle.std.proofs.lemmas.Bool.{cases_lt}
+use Rattle.std.proofs.lemmas.Option.{slice_get_within}
 use Rattle.std.proofs.Math.Nat.{mul-le-mul_right}
 use Rattle.rb_base.specs.Nodes.Side.{Biu}
 use Rattle.rb_base.specs.Sizes.{sync_slot_of}
@@ -34,11 +35,6 @@ use Rattle.rb_laws_listener_follows.proofs.SyncPasses.{PassesAtSecond, StandsAtS
 
 -- ---- windows by their number
 
-get-within : {X : Type 0} (xs : List X) (n : ℕ) (x : X) → slice_get xs n ≡ Some x → n < length xs
-get-within [] n x e = cc
-get-within (y ∷ ys) zero x e = omega arith
-get-within (y ∷ ys) (suc n) x e = let h : n < length ys = get-within ys n x e in omega (arith, h)
-
 -- the window of a number: below the sync slot, or one of its three
 record IsNumbered (sc : Scenario) (n : ℕ) (w : Window) : Type 0 where
   pub inside : n < stages_in sc.sizes
@@ -48,7 +44,7 @@ numbered : (sc : Scenario) (n : ℕ) (w : Window) → slice_get (windows_of_fram
 numbered sc n w is = record { inside = inside; is = λ st. same_window (window_numbered sc.sizes sc.plan Biu st n) w (sym (get-window sc.sizes sc.plan Biu st n inside) ∙ is) }
   where
     inside : n < stages_in sc.sizes
-    inside = omega (arith, get-within (windows_of_frame sc.sizes sc.plan) n w is, how-many sc.sizes sc.plan)
+    inside = omega (arith, slice_get_within (windows_of_frame sc.sizes sc.plan) n w is, how-many sc.sizes sc.plan)
 
     same_window : (a b : Window) → Some a ≡ Some b → a ≡ b
     same_window a b q = cc

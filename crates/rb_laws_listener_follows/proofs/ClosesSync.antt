@@ -1,8 +1,10 @@
 -- A listener closes the windows of the sync slot of a frame that it follows as the bus does.
 use Rattle.std.proofs.Common.{◌≡◌, ℕ, zero, suc, ◌+◌, ◌-◌, ◌*◌, ◌≤◌, true, List, Some, None, slice_get, refl, sym, ◌∙◌, ap, subst, arith}
+use Rattle.std.proofs.lemmas.Option.{same_Some}
 use Rattle.rb_base.specs.Nodes.{has}
 use Rattle.rb_base.specs.Nodes.Side.{Biu, Rmu}
 use Rattle.rb_base.specs.Sizes.{sync_slot_of}
+use Rattle.rb_base.proofs.Plain.{and_second}
 use Rattle.rb_rules.specs.declared.sense.Sense.{Sense}
 use Rattle.rb_rules.specs.AbstractBus.{AbstractBus, sender_on}
 use Rattle.rb_rules.specs.Book.{of_kind}
@@ -16,16 +18,16 @@ use Rattle.rb_rules.specs.Ports.{HandIn}
 use Rattle.rb_rules.specs.Rounds.{Moment, moment, windows_in}
 use Rattle.rb_rules.specs.StandsFor.{AgreesBefore, StandsFor, steps_to, value_on}
 use Rattle.rb_rules.specs.SyncStage.{close_sync, sync_outcome_of}
+use Rattle.rb_rules.proofs.Slots.{sync_role}
 use Rattle.rb_laws_agreement.proofs.ExactAgrees.{has_ticks}
 use Rattle.rb_laws_agreement.proofs.Goodnesses.{slot_last}
 use Rattle.rb_laws_agreement.proofs.Invariant.{Holds, Shared, is_good_now}
 use Rattle.rb_laws_agreement.proofs.Numbers.{one_of_many}
 use Rattle.rb_laws_agreement.proofs.Premises.{is_sound}
 use Rattle.rb_laws_agreement.proofs.Settings.{good_state}
-use Rattle.rb_laws_agreement.proofs.Tests.{Passing, Present, and_second, same_some}
+use Rattle.rb_laws_agreement.proofs.Tests.{Passing, Present}
 use Rattle.rb_laws_synchrony.proofs.SyncSteps.{IsPassedStage}
 use Rattle.rb_laws_synchrony.proofs.Times.{lawful_fits, plan_fits}
-use Rattle.rb_laws_events.proofs.PortsKept.{sync-role}
 use Rattle.rb_laws_events.proofs.TurnTicks.{no-next, not-yet}
 use Rattle.rb_listen.specs.Following.{follow}
 use Rattle.rb_laws_listener_near.proofs.Tracking.{Held}
@@ -71,7 +73,7 @@ unfolding close_sync sync_outcome_of
 as_the_bus sc bus next m s st stage first sense h x = record {
   trusted = record { bius = h.near ∙ x.bius; rmus = h.far ∙ x.rmus };
   owners = λ le. h.owners ∙ x.owners le;
-  delivers = sym (ap (λ r. delivery_by st.frame (sync_slot_of sc.sizes) stage r (sender_on sc.sizes bus) (value_on next (sync_slot_of sc.sizes))) (sync-role sc.sizes));
+  delivers = sym (ap (λ r. delivery_by st.frame (sync_slot_of sc.sizes) stage r (sender_on sc.sizes bus) (value_on next (sync_slot_of sc.sizes))) (sync_role sc.sizes));
 }
 
 closes_sync : (sc : Scenario) (bus : ℕ → AbstractBus) (ear : Ear) (frame stage a ticks epoch : ℕ) (before st : NodeState) (sense : ℕ → Sense) → ClosesWindow sc ear before st (epoch + a) (ticks - 1)
@@ -93,7 +95,7 @@ closes_sync sc bus ear frame stage a ticks epoch before st sense c is frame_is t
     closed : (follow sc.sizes sc.plan c.core).closed ≡ Some (close_sync sc.sizes Biu st stage (st.epoch + a) sense).closed
     closed = c.closed ∙ ap (λ o. Some o.closed) is
 
-before-some : (before st : NodeState) (i : ℕ) → 1 ≤ i → state_before before st i ≡ st
+pub before-some : (before st : NodeState) (i : ℕ) → 1 ≤ i → state_before before st i ≡ st
 before-some before st zero some = absurd (omega (arith, some))
 before-some before st (suc i) some = refl
 
@@ -251,7 +253,7 @@ closes_third sc hands stands ear learned records f last epoch low h x p complete
     here =
         span_window sc st st (suc (suc (3 * sync_slot_of sc.sizes))) (sync_slot_of sc.sizes) 3 a sc.plan.z epoch span (has_ticks sc law) p.through.epoch_is
         (not-yet sc.sizes sc.plan Biu st next_epoch (epoch + a) p.through.known (omega (arith, p.through.least, law.plan.z.0)))
-        (λ y known. let same : next_epoch ≡ y = same_some next_epoch y (sym p.through.known ∙ known) in omega (arith, same, p.through.least)) (omega (arith, in_time, x.second.beside.is.ticks))
+        (λ y known. let same : next_epoch ≡ y = same_Some next_epoch y (sym p.through.known ∙ known) in omega (arith, same, p.through.least)) (omega (arith, in_time, x.second.beside.is.ticks))
 
     closes : ClosesWindow sc ear p.through.now p.through.now (epoch + (f0_of sc.sizes sc.plan + sc.plan.l + sc.plan.v)) (sc.plan.z - 1)
     closes = closes_window sc ear st st (epoch + a) (sc.plan.z - 1) here p.through.stands

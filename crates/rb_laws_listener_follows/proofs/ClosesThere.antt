@@ -1,5 +1,5 @@
 -- Where a listener stands before a window of a frame that it follows, it closes the window as the bus does.
-use Rattle.std.proofs.Common.{◌≡◌, ℕ, zero, suc, ◌+◌, ◌-◌, ◌*◌, ◌/◌, ◌%◌, ◌<◌, ◌≤◌, List, refl, sym, ◌∙◌, ap, subst, arith}
+use Rattle.std.proofs.Common.{◌≡◌, ℕ, suc, ◌+◌, ◌-◌, ◌*◌, ◌/◌, ◌%◌, ◌<◌, ◌≤◌, List, sym, ◌∙◌, ap, subst, arith}
 use Rattle.rb_base.specs.Nodes.Side.{Biu}
 use Rattle.rb_base.specs.Sizes.{sync_slot_of}
 use Rattle.rb_rules.specs.declared.sense.Sense.{Sense}
@@ -7,7 +7,6 @@ use Rattle.rb_rules.specs.Core.{state_at}
 use Rattle.rb_rules.specs.Goodness.{Scenario}
 use Rattle.rb_rules.specs.Lawful.{IsLawful}
 use Rattle.rb_rules.specs.Moments.{IsComplete, IsRunning, before_stage}
-use Rattle.rb_rules.specs.NodeState.{NodeState}
 use Rattle.rb_rules.specs.Ports.{HandIn}
 use Rattle.rb_rules.specs.Rounds.{moment, windows_in}
 use Rattle.rb_rules.specs.StandsFor.{StandsFor, steps_to}
@@ -21,15 +20,11 @@ use Rattle.rb_laws_listener_learns.specs.Ears.{Ear, listening_at}
 use Rattle.rb_laws_listener_learns.proofs.FrameStages.{first_of_frame}
 use Rattle.rb_laws_listener_follows.specs.Following.{ClosesAsTheBus, ClosesAt}
 use Rattle.rb_laws_listener_follows.proofs.ClosesExact.{closes_exact}
+use Rattle.rb_laws_listener_follows.proofs.ClosesSync.{before-some}
 use Rattle.rb_laws_listener_follows.proofs.ExactPasses.{IsHeldTo, PassesExact, StandsAt, passes_exact}
 use Rattle.rb_laws_listener_follows.proofs.ExactSteps.{outcome_at, sense_at, watched}
-use Rattle.rb_laws_listener_follows.proofs.FollowerRuns.{state_before}
 use Rattle.rb_laws_listener_follows.proofs.SeenPremise.{place_closed, seen_following}
 use Rattle.rb_laws_listener_follows.proofs.Tellings.{tells_close}
-
-state-there : (before st : NodeState) (i : ℕ) → 1 ≤ i → state_before before st i ≡ st
-state-there before st zero some = absurd (omega (arith, some))
-state-there before st (suc i) some = refl
 
 pub closes_there : (sc : Scenario) (hands : List HandIn) (stands : StandsFor sc hands) (ear : Ear) (learned : ℕ) (records : List Sense) (f last w epoch low : ℕ) → IsHeldTo sc hands ear learned records f last
     → StandsAt sc hands ear (suc f) w epoch low → w < 3 * sync_slot_of sc.sizes → IsComplete sc hands (suc f) (w / 3) → suc (w + first_of_frame sc (suc f)) ≤ last
@@ -82,7 +77,7 @@ closes_there sc hands stands ear learned records f last w epoch low h x below co
 
     state : state_at sc.sizes sc.plan Biu p.through.core.state (epoch + w * sc.plan.l + (sc.plan.l - 1)) ≡ x.st
     state =
-        ap (λ y. state_at sc.sizes sc.plan Biu y (epoch + w * sc.plan.l + (sc.plan.l - 1))) (p.through.state ∙ state-there x.before x.st (sc.plan.l - 1) (omega (arith, two)))
+        ap (λ y. state_at sc.sizes sc.plan Biu y (epoch + w * sc.plan.l + (sc.plan.l - 1))) (p.through.state ∙ before-some x.before x.st (sc.plan.l - 1) (omega (arith, two)))
         ∙ no-next sc.sizes sc.plan Biu x.st (epoch + w * sc.plan.l + (sc.plan.l - 1)) x.abides.unknown
 
     place : w + first_of_frame sc (suc f) ≡ suc f * (windows_in sc.sizes + 1) + 3 * (w / 3) + (w % 3 + 1) - 1

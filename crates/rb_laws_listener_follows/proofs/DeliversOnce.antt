@@ -1,8 +1,9 @@
 -- A listener delivers in a slot of a frame with the last tick of the slot's stage 2, and with no other tick.
 use Rattle.std.proofs.Common.{◌≡◌, ◌⊎◌, ℕ, zero, suc, ◌+◌, ◌-◌, ◌*◌, ◌/◌, ◌%◌, ◌<◌, ◌≤◌, ◌==◌, Bool, true, false, [], Option, Some, None, if◌then◌else◌, unwrap_or, inl, inr, refl, sym, ◌∙◌, ap, subst, arith}
 use Rattle.std.specs.Option.{option_and_then}
-use Rattle.std.proofs.lemmas.Bool.{cases_lt}
+use Rattle.std.proofs.lemmas.Bool.{cases_lt, eqb-true}
 use Rattle.std.proofs.lemmas.Bool.Decides.{nat_tests}
+use Rattle.std.proofs.lemmas.Option.{none-some}
 use Rattle.rb_base.specs.Nodes.Side.{Biu}
 use Rattle.rb_base.specs.Sizes.{Sizes, sync_slot_of}
 use Rattle.rb_base.specs.declared.values.Delivery.{Delivery}
@@ -25,7 +26,6 @@ use Rattle.rb_rules.specs.Slots.Sender.{EachTrusted, Node, Nobody}
 use Rattle.rb_rules.specs.SyncStage.{close_sync, sync_outcome_of}
 use Rattle.rb_rules.specs.Windows.{holds_offset, window_at, windows_of_frame}
 use Rattle.rb_rules.proofs.WindowNumbers.{exact-numbered, sync-numbered}
-use Rattle.rb_laws_agreement.proofs.Tests.{equal_from}
 use Rattle.rb_laws_events.specs.Closing.{stages_in}
 use Rattle.rb_laws_events.proofs.TickWindows.{get-window, how-many}
 use Rattle.rb_listen.specs.Following.{follow}
@@ -41,9 +41,6 @@ record IsOfSlot (st : NodeState) (slot stage : ℕ) (d : Delivery) : Type 0 wher
   pub frame : d.frame ≡ st.frame
   pub slot_is : d.slot ≡ slot
   pub stage_is : stage ≡ 2
-
-none-some : {X : Type 0} (d : X) → None ≡ Some d → ⊥
-none-some d h = cc
 
 delivers_of : (st : NodeState) (slot stage : ℕ) (role : Role) (sender : Sender) (vote : Heard) (d : Delivery) → delivery_of Biu st slot role sender stage vote ≡ Some d → IsOfSlot st slot stage d
 delivers_of st slot stage (Schedule i) sender vote d h = absurd (none-some d h)
@@ -67,7 +64,7 @@ delivers_of st slot stage (Data n) (Node owner) vote d h = go (stage == 2) refl 
     go true e h = record {
       frame = sym (ap (λ (x : Delivery). x.frame) (same said d h));
       slot_is = sym (ap (λ (x : Delivery). x.slot) (same said d h));
-      stage_is = equal_from stage 2 e;
+      stage_is = eqb-true stage 2 e;
     }
     go false e h = absurd (none-some d h)
 
@@ -154,7 +151,7 @@ act-delivers sizes plan c st d h = by (is_last sizes plan Biu st c.had) refl h
         record {
           frame = of.of_slot.frame;
           below = subst (λ t. t < sync_slot_of sizes) slot ends.0;
-          tick = equal_from c.had (st.epoch + w.last) last ∙ ap (λ n. st.epoch + n) (ends.1 ∙ ap (λ t. (3 * t + 1) * plan.l + plan.l - 1) slot);
+          tick = eqb-true c.had (st.epoch + w.last) last ∙ ap (λ n. st.epoch + n) (ends.1 ∙ ap (λ t. (3 * t + 1) * plan.l + plan.l - 1) slot);
         }
 
     by : (b : Bool) → is_last sizes plan Biu st c.had ≡ b

@@ -1,14 +1,13 @@
 -- A listener comes to know its next epoch with the last tick of stage 2 of the sync slot, and with no other tick.
 use Rattle.std.proofs.Common.{◌≡◌, ◌⊎◌, ℕ, zero, suc, ◌+◌, ◌-◌, ◌*◌, ◌/◌, ◌<◌, ◌==◌, ◌&&◌, Bool, true, false, List, [], ◌∷◌, length, find, cond, Option, Some, None, if◌then◌else◌, option_map, unwrap_or, slice_get, inl, inr, refl, sym, ◌∙◌, ap, subst, arith}
-use Rattle.std.proofs.lemmas.Bool.{cases_lt}
+use Rattle.std.proofs.lemmas.Bool.{cases_lt, eqb-true}
 use Rattle.rb_base.specs.Nodes.Side.{Biu}
 use Rattle.rb_base.specs.Sizes.{Sizes, sync_slot_of}
 use Rattle.rb_rules.specs.declared.plan.Plan.{Plan}
 use Rattle.rb_rules.specs.declared.plan.Window.{Window}
 use Rattle.rb_rules.specs.declared.sense.Sense.{Sense}
-use Rattle.rb_rules.specs.Conviction.{turn}
 use Rattle.rb_rules.specs.Core.{Act, Core, act_on, epoch_at, is_last, is_tick, of_source, state_at, window_here}
-use Rattle.rb_rules.specs.ExactStage.{Outcome, close_exact, outcome_of}
+use Rattle.rb_rules.specs.ExactStage.{Outcome, close_exact}
 use Rattle.rb_rules.specs.Hearing.{close_window, tail_at, window_numbered}
 use Rattle.rb_rules.specs.NodeState.{NodeState}
 use Rattle.rb_rules.specs.NodeSteps.{close, turn_if_known}
@@ -19,13 +18,15 @@ use Rattle.rb_rules.specs.Slots.{listens}
 use Rattle.rb_rules.specs.Windows.{holds_offset, window_at, windows_of_frame}
 use Rattle.rb_rules.proofs.RoundStates.{Stays, close-stays}
 use Rattle.rb_rules.proofs.WindowNumbers.{exact-numbered, sync-numbered}
-use Rattle.rb_laws_agreement.proofs.Tests.{equal_from, true_or_false}
+use Rattle.rb_laws_agreement.proofs.Tests.{true_or_false}
 use Rattle.rb_laws_events.specs.Closing.{stages_in}
 use Rattle.rb_laws_events.proofs.NodeMoves.{turn-at}
 use Rattle.rb_laws_events.proofs.StageOrder.{last-second-call}
 use Rattle.rb_laws_events.proofs.TickWindows.{get-window, how-many}
 use Rattle.rb_laws_events.proofs.TurnTicks.{no-next}
 use Rattle.rb_laws_listener_near.proofs.SyncTracks.{turns_with}
+use Rattle.rb_laws_listener_follows.proofs.ExactSteps.{exact_keeps}
+use Rattle.rb_laws_listener_follows.proofs.TurnSteps.{turned-unknown}
 
 -- how many ticks after the begin of its frame it has the middle
 abbrev pub second_end : Sizes → Plan → ℕ
@@ -88,11 +89,6 @@ second_last sizes plan st k slot stage = go (window_at sizes plan (k - st.epoch)
 
 -- ---- a close
 
--- the close of any other window keeps what is known of the next epoch
-exact-keeps : (sizes : Sizes) (plan : Plan) (st : NodeState) (slot stage : ℕ) (sense : ℕ → Sense) → new_epoch_of plan Biu (close_exact sizes Biu 16 st slot stage sense).state ≡ new_epoch_of plan Biu st
-unfolding close_exact outcome_of
-exact-keeps sizes plan st slot stage sense = refl
-
 other-middle : (b t : Bool) (before : Option ℕ) (middle : ℕ) → t ≡ false → (if b && t then Some middle else before) ≡ before
 other-middle true true before middle h = cc
 other-middle true false before middle h = refl
@@ -110,14 +106,14 @@ close-keeps sizes plan st slot stage first sense = go (slot == sync_slot_of size
   where
     at_sync : slot ≡ sync_slot_of sizes → (b : Bool) → (stage == 2) ≡ b
         → (new_epoch_of plan Biu (close_sync sizes Biu st stage (st.epoch + first) sense).state ≡ new_epoch_of plan Biu st) ⊎ ((slot ≡ sync_slot_of sizes) × (stage ≡ 2))
-    at_sync e true h = inr (e, equal_from stage 2 h)
+    at_sync e true h = inr (e, eqb-true stage 2 h)
     at_sync e false h = inl (sync-keeps sizes plan st stage (st.epoch + first) sense h)
 
     go : (b : Bool) → (slot == sync_slot_of sizes) ≡ b
         → (new_epoch_of plan Biu (elim b as (λ _. Outcome) [ true ↦ close_sync sizes Biu st stage (st.epoch + first) sense | false ↦ close_exact sizes Biu 16 st slot stage sense ]).state ≡ new_epoch_of plan Biu st)
         ⊎ ((slot ≡ sync_slot_of sizes) × (stage ≡ 2))
-    go true e = at_sync (equal_from slot (sync_slot_of sizes) e) (stage == 2) refl
-    go false e = inl (exact-keeps sizes plan st slot stage sense)
+    go true e = at_sync (eqb-true slot (sync_slot_of sizes) e) (stage == 2) refl
+    go false e = inl (exact_keeps sizes plan st slot stage sense)
 
 -- ---- a tick
 
@@ -146,7 +142,7 @@ tick_keeps sizes plan c st = by (is_last sizes plan Biu st c.had) refl
         ⊎ (c.had ≡ st.epoch + (second_end sizes plan - 1))
     known last = elim (close-keeps sizes plan st w.slot w.stage w.first _) [
       | inl same ↦ inl same
-      | inr second ↦ inr (equal_from c.had (st.epoch + w.last) last ∙ ap (λ n. st.epoch + n) (second_last sizes plan st c.had second.0 second.1))
+      | inr second ↦ inr (eqb-true c.had (st.epoch + w.last) last ∙ ap (λ n. st.epoch + n) (second_last sizes plan st c.had second.0 second.1))
     ]
 
     by : (b : Bool) → is_last sizes plan Biu st c.had ≡ b
@@ -158,10 +154,6 @@ tick_keeps sizes plan c st = by (is_last sizes plan Biu st c.had) refl
     by false h = record { frame = refl; epoch = refl; had = refl; known = inl refl }
 
 -- ---- a turn
-
-turned-unknown : (sizes : Sizes) (plan : Plan) (epoch : ℕ) (st : NodeState) → new_epoch_of plan Biu (turn sizes plan.probation Biu epoch st) ≡ None
-unfolding turn
-turned-unknown sizes plan epoch st = refl
 
 -- it turns with this tick
 pub record Turns (sizes : Sizes) (plan : Plan) (st now : NodeState) (k : ℕ) : Type 0 where
@@ -192,6 +184,6 @@ turns_or_stays sizes plan st k = go (new_epoch_of plan Biu st) refl
     go : (o : Option ℕ) → new_epoch_of plan Biu st ≡ o → Turns sizes plan st (state_at sizes plan Biu st k) k ⊎ (state_at sizes plan Biu st k ≡ st)
     go None e = inr (no-next sizes plan Biu st k e)
     go (Some x) e = elim (true_or_false (x == k)) [
-      | inl is ↦ inl (same_tick x e (equal_from x k is))
+      | inl is ↦ inl (same_tick x e (eqb-true x k is))
       | inr other ↦ inr (keeps sizes plan st x k e other)
     ]

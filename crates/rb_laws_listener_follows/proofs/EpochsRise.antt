@@ -1,6 +1,6 @@
 -- A listener tells one frame after another: each with one tick, and not before the end of stage 2 of the sync slot of the one before.
 use Rattle.std.proofs.Common.{◌≡◌, ◌⊎◌, ℕ, zero, suc, ◌+◌, ◌-◌, ◌^◌, ◌<◌, ◌≤◌, ◌==◌, Bool, true, false, ◌++◌, Option, Some, None, inl, inr, refl, sym, ◌∙◌, ap, subst, arith}
-use Rattle.std.proofs.lemmas.Bool.{cases_lt}
+use Rattle.std.proofs.lemmas.Bool.{cases_lt, eqb-true}
 use Rattle.std.proofs.lemmas.Bool.Decides.{nat_tests}
 use Rattle.rb_base.specs.Nodes.Side.{Biu}
 use Rattle.rb_rules.specs.declared.record.Epoch.{Epoch}
@@ -9,7 +9,6 @@ use Rattle.rb_rules.specs.Goodness.{Scenario}
 use Rattle.rb_rules.specs.Hearing.{epoch_of}
 use Rattle.rb_rules.specs.NodeState.{NodeState}
 use Rattle.rb_rules.specs.SyncStage.{new_epoch_of}
-use Rattle.rb_laws_agreement.proofs.Tests.{equal_from}
 use Rattle.rb_laws_events.proofs.TurnTicks.{no-next}
 use Rattle.rb_listen.specs.Following.{follow}
 use Rattle.rb_listen.specs.Listening.{Heeding, Listening, first_core, followed, heed, is_over, no_heed, search_on, untold, wait_on}
@@ -20,8 +19,8 @@ use Rattle.rb_laws_listener_learns.specs.Ears.{Ear, hears, listening_at, told_at
 use Rattle.rb_laws_listener_learns.specs.Waiting.{WaitsFor}
 use Rattle.rb_laws_listener_follows.proofs.BeforeFirst.{Follows, hears_on, later_follows}
 use Rattle.rb_laws_listener_follows.proofs.EpochKnown.{TickKeeps, Turns, second_end, tick_keeps, turns_or_stays}
-use Rattle.rb_laws_listener_follows.proofs.FollowerRuns.{acts_by, arrivals, hears_all}
-use Rattle.rb_laws_listener_follows.proofs.Tellings.{heeds_follow, tells_epoch}
+use Rattle.rb_laws_listener_follows.proofs.FollowerRuns.{acts_by, arrivals, hears_all, heeds_core}
+use Rattle.rb_laws_listener_follows.proofs.Tellings.{tells_epoch}
 
 -- ---- what it told before a tick
 
@@ -53,7 +52,7 @@ pub record IsIn (sc : Scenario) (ear : Ear) (k : ℕ) (st : NodeState) : Type 0 
   pub early : (new_epoch_of sc.plan Biu st ≡ None) ⊎ (begun + second_end sc.sizes sc.plan ≤ k)
   pub keeps : (t : ℕ) (c : Core) → begun + second_end sc.sizes sc.plan ≤ t → t ≤ k → listening_at sc ear t ≡ now.Following c → new_epoch_of sc.plan Biu c.state ≡ new_epoch_of sc.plan Biu st
 
-same_core : (c d : Core) → now.Following c ≡ now.Following d → c ≡ d
+pub same_core : (c d : Core) → now.Following c ≡ now.Following d → c ≡ d
 same_core c d h = cc
 
 same_epoch : (a b : Epoch) → Some a ≡ Some b → a ≡ b
@@ -67,7 +66,7 @@ past_epoch : (sc : Scenario) (st : NodeState) (k : ℕ) (d : Epoch) → epoch_at
 past_epoch sc st k d h = go (st.epoch == k) refl h
   where
     go : (b : Bool) → (st.epoch == k) ≡ b → (elim b as (λ _. Option Epoch) [ true ↦ Some (epoch_of sc.sizes Biu st) | false ↦ None ]) ≡ Some d → (st.epoch ≡ k) × (d.frame ≡ st.frame)
-    go true e h = (equal_from st.epoch k e, sym (ap (λ (x : Epoch). x.frame) (same_epoch (epoch_of sc.sizes Biu st) d h)))
+    go true e h = (eqb-true st.epoch k e, sym (ap (λ (x : Epoch). x.frame) (same_epoch (epoch_of sc.sizes Biu st) d h)))
     go false e h = cc
 
 -- ---- a tick
@@ -135,7 +134,7 @@ pub in_state : (sc : Scenario) (ear : Ear) (k : ℕ) → k < 2 ^ 31 → 1 ≤ se
 in_state sc ear k below some x = elim (turns_or_stays sc.sizes sc.plan x.core.state k) [ inl t ↦ turns t | inr same ↦ stays same ]
   where
     heeds : heed sc.sizes sc.plan (listening_at sc ear k) ≡ followed (follow sc.sizes sc.plan x.core)
-    heeds = heeds_follow sc ear k x.core x.here
+    heeds = heeds_core sc ear k x.core x.here
 
     told : (told_at sc ear k).epoch ≡ epoch_at sc.sizes Biu (state_at sc.sizes sc.plan Biu x.core.state k) k
     told = subst (λ h. (told_at sc ear k).epoch ≡ epoch_at sc.sizes Biu (state_at sc.sizes sc.plan Biu x.core.state h) h) x.had
@@ -302,7 +301,7 @@ since_at sc ear tick s first w (suc d) in_time =
     let x : IsSince sc ear (d + suc first.epoch) = since_at sc ear tick s first w d (omega (arith, in_time)) in
     let below : d + suc first.epoch < 2 ^ 31 = omega (arith, in_time, w.ticks) in
     subst (IsSince sc ear) e
-    (since_next sc ear k x.core (state_at sc.sizes sc.plan Biu x.core.state k) (heeds_follow sc ear k x.core x.here) x.had (omega (arith, in_time, w.ticks)) refl w.some (in_state sc ear k below w.some x))
+    (since_next sc ear k x.core (state_at sc.sizes sc.plan Biu x.core.state k) (heeds_core sc ear k x.core x.here) x.had (omega (arith, in_time, w.ticks)) refl w.some (in_state sc ear k below w.some x))
 
 pub since : (sc : Scenario) (ear : Ear) (tick : ℕ) (s : Search) (first : First) → WaitsFirst sc ear tick s first → (k : ℕ) → first.epoch < k → k < ear.ticks → IsSince sc ear k
 since sc ear tick s first w k after in_time =
@@ -324,7 +323,7 @@ at_tick sc ear tick s first w k from in_time = elim (cases_lt first.epoch k) [
       let x : IsSince sc ear k = since sc ear tick s first w k after in_time in
       record {
         core = x.core;
-        heeds = heeds_follow sc ear k x.core x.here;
+        heeds = heeds_core sc ear k x.core x.here;
         had = x.had;
         st = state_at sc.sizes sc.plan Biu x.core.state k;
         at = refl;
@@ -356,7 +355,7 @@ tells_next sc ear k e below x is = elim (turns_or_stays sc.sizes sc.plan x.core.
   where
     told : (told_at sc ear k).epoch ≡ epoch_at sc.sizes Biu (state_at sc.sizes sc.plan Biu x.core.state k) k
     told = subst (λ h. (told_at sc ear k).epoch ≡ epoch_at sc.sizes Biu (state_at sc.sizes sc.plan Biu x.core.state h) h) x.had
-        (tells_epoch sc ear k x.core (state_at sc.sizes sc.plan Biu x.core.state x.core.had) (heeds_follow sc ear k x.core x.here) (omega (arith, below, x.had)) refl)
+        (tells_epoch sc ear k x.core (state_at sc.sizes sc.plan Biu x.core.state x.core.had) (heeds_core sc ear k x.core x.here) (omega (arith, below, x.had)) refl)
 
     far_by : new_epoch_of sc.plan Biu x.core.state ≡ Some k → (new_epoch_of sc.plan Biu x.core.state ≡ None) ⊎ (x.begun + second_end sc.sizes sc.plan ≤ k) → x.begun + second_end sc.sizes sc.plan ≤ k
     far_by known (inl none) = let both : Some k ≡ None = sym known ∙ none in cc

@@ -1,9 +1,9 @@
 -- A listener goes through a window below the sync slot: it closes it as the good BIUs do, and stands before the next.
 use Rattle.std.proofs.Common.{◌≡◌, ℕ, suc, ◌+◌, ◌-◌, ◌*◌, ◌^◌, ◌<◌, ◌≤◌, ◌==◌, Bool, true, false, List, Option, Some, None, refl, sym, ◌∙◌, ap, subst, arith}
-use Rattle.std.proofs.lemmas.Bool.Decides.{nat_tests}
 use Rattle.rb_base.specs.Nodes.Side.{Biu}
 use Rattle.rb_base.specs.Sizes.{Sizes, sync_slot_of}
 use Rattle.rb_base.specs.declared.values.See.{See}
+use Rattle.rb_base.proofs.Plain.{less-differs}
 use Rattle.rb_rules.specs.declared.plan.Plan.{Plan}
 use Rattle.rb_rules.specs.declared.plan.Window.{Window}
 use Rattle.rb_rules.specs.declared.sense.Sense.{Sense}
@@ -137,17 +137,14 @@ closing_is sc hands ear n epoch s st slot q c epoch_is =
         ap (window_here sc.sizes sc.plan Biu st) (sym same) ∙ closes_there sc.sizes sc.plan st w (has_ticks sc c.law) (omega (arith, below)) t.some ∙ ws.are Biu st
 
 -- below the sync slot no middle is kept
-not-sync : (slot sync : ℕ) → slot < sync → (slot == sync) ≡ false
-not-sync slot sync h = grind (arith, nat_tests)
-
-exact_keeps : (sizes : Sizes) (plan : Plan) (st : NodeState) (slot stage : ℕ) (sense : ℕ → Sense) → new_epoch_of plan Biu (close_exact sizes Biu 16 st slot stage sense).state ≡ new_epoch_of plan Biu st
+pub exact_keeps : (sizes : Sizes) (plan : Plan) (st : NodeState) (slot stage : ℕ) (sense : ℕ → Sense) → new_epoch_of plan Biu (close_exact sizes Biu 16 st slot stage sense).state ≡ new_epoch_of plan Biu st
 unfolding close_exact outcome_of
 exact_keeps sizes plan st slot stage sense = refl
 
 keeps_middle : (sizes : Sizes) (plan : Plan) (st : NodeState) (slot stage first : ℕ) (sense : ℕ → Sense) → slot < sync_slot_of sizes
     → new_epoch_of plan Biu (close sizes Biu 16 st slot stage first sense).state ≡ new_epoch_of plan Biu st
 keeps_middle sizes plan st slot stage first sense below =
-    ap (λ x. new_epoch_of plan Biu x.state) (go (slot == sync_slot_of sizes) (not-sync slot (sync_slot_of sizes) below)) ∙ exact_keeps sizes plan st slot stage sense
+    ap (λ x. new_epoch_of plan Biu x.state) (go (slot == sync_slot_of sizes) (less-differs slot (sync_slot_of sizes) below)) ∙ exact_keeps sizes plan st slot stage sense
   where
     go : (b : Bool) → b ≡ false
         → (elim b as (λ _. Outcome) [ true ↦ close_sync sizes Biu st stage (st.epoch + first) sense | false ↦ close_exact sizes Biu 16 st slot stage sense ])

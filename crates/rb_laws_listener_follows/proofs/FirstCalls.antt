@@ -104,7 +104,7 @@ keeps_first : (sizes : Sizes) (plan : Plan) (st : NodeState) (first : ℕ) (sens
 unfolding close_sync sync_outcome_of
 keeps_first sizes plan st first sense = refl
 
-keeps_epoch : (sizes : Sizes) (st : NodeState) (stage first : ℕ) (sense : ℕ → Sense) → (close_sync sizes Biu st stage first sense).state.epoch ≡ st.epoch
+pub keeps_epoch : (sizes : Sizes) (st : NodeState) (stage first : ℕ) (sense : ℕ → Sense) → (close_sync sizes Biu st stage first sense).state.epoch ≡ st.epoch
 unfolding close_sync sync_outcome_of
 keeps_epoch sizes st stage first sense = refl
 

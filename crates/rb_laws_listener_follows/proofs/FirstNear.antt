@@ -1,14 +1,15 @@
 -- A listener that has learned begins its first frame near all good nodes.
-use Rattle.std.proofs.Common.{◌≡◌, ℕ, suc, ◌+◌, ◌-◌, ◌*◌, ◌/◌, ◌%◌, ◌<◌, ◌≤◌, ◌==◌, not, Bool, true, false, List, [], ◌∷◌, Option, Some, None, is_some, option_and_then, option_map, length, if◌then◌else◌, refl, sym, ◌∙◌, ap, subst, arith}
-use Rattle.std.proofs.lemmas.Bool.Decides.{nat_tests}
+use Rattle.std.proofs.Common.{◌≡◌, ℕ, suc, ◌+◌, ◌-◌, ◌*◌, ◌/◌, ◌%◌, ◌<◌, ◌≤◌, ◌==◌, not, Bool, true, false, List, [], ◌∷◌, Option, Some, None, is_some, length, if◌then◌else◌, refl, sym, ◌∙◌, ap, subst, arith}
+use Rattle.std.proofs.lemmas.Bool.{eq-eqb, ltb-true}
+use Rattle.std.proofs.lemmas.Option.{same_Some}
 use Rattle.rb_base.specs.Nodes.{has, set_of, size}
 use Rattle.rb_base.specs.Nodes.{Side}
 use Rattle.rb_base.specs.Nodes.Side.{Biu, Rmu}
-use Rattle.rb_base.specs.Sizes.{Sizes, sync_slot_of}
+use Rattle.rb_base.specs.Sizes.{sync_slot_of}
 use Rattle.rb_base.specs.declared.values.See.TheVariants.{Nothing}
+use Rattle.rb_base.proofs.Plain.{and_first, eq_self, some-from}
 use Rattle.rb_base.proofs.Sets.{has-set_of}
 use Rattle.rb_base.proofs.SetSizes.{size_within}
-use Rattle.rb_rules.specs.declared.plan.Plan.{Plan}
 use Rattle.rb_rules.specs.declared.sense.Sense.{Sense}
 use Rattle.rb_rules.specs.Clock.{IsStamp, stamp_of, time_of}
 use Rattle.rb_rules.specs.Goodness.{Scenario, clock_of, is_good}
@@ -17,23 +18,22 @@ use Rattle.rb_rules.specs.Judging.{JudgedStage, good_now, is_suspect}
 use Rattle.rb_rules.specs.Lawful.{IsDelay, IsLawful}
 use Rattle.rb_rules.specs.Moments.{IsComplete, IsGoodBefore, IsRunning, before_slot, before_stage, time_in_frame}
 use Rattle.rb_rules.specs.NodeState.{NodeState, trusted_of}
-use Rattle.rb_rules.specs.NodeSteps.{message_said}
 use Rattle.rb_rules.specs.Plan.{shortest_of}
 use Rattle.rb_rules.specs.Ports.{HandIn}
 use Rattle.rb_rules.specs.Rounds.{Moment, moment, windows_in}
 use Rattle.rb_rules.specs.Sense.{stamp_in, value_in}
 use Rattle.rb_rules.specs.ExactStage.{see_value}
 use Rattle.rb_rules.specs.Slots.{role_of, sender_in}
-use Rattle.rb_rules.specs.SyncStage.{call_of, call_tick_of, see_time, send_tick_of}
+use Rattle.rb_rules.specs.SyncStage.{call_of, call_tick_of, see_time}
 use Rattle.rb_rules.proofs.Stamps.{one_stamp, stamp_of-is}
 use Rattle.rb_laws_agreement.proofs.Agreement.{IsAgreed, agreement}
 use Rattle.rb_laws_agreement.proofs.Goodnesses.{slot_last}
 use Rattle.rb_laws_agreement.proofs.Invariant.{IsGoodNode, is_good_now}
 use Rattle.rb_rules.specs.Book.{judged_of}
+use Rattle.rb_rules.proofs.Slots.{sync_role}
 use Rattle.rb_laws_agreement.proofs.JudgedWindows.{rows_of}
 use Rattle.rb_laws_agreement.proofs.NodeWindows.{Windows, sync_windows_are, word_at}
 use Rattle.rb_laws_agreement.proofs.Places.{IsPlaced, complete_before, placed, running_earlier}
-use Rattle.rb_laws_agreement.proofs.Tests.{and_first, less_from, same_some}
 use Rattle.rb_laws_synchrony.proofs.PlanNumbers.{drift_of}
 use Rattle.rb_laws_synchrony.proofs.Times.{Steady}
 use Rattle.rb_listen.specs.Lessons.{record_of, recorded_of, stage_recorded, trusted_rmus}
@@ -46,24 +46,18 @@ use Rattle.rb_laws_listener_near.proofs.FramesNear.{frames_near}
 use Rattle.rb_laws_listener_learns.specs.Deciding.{DecidesBy}
 use Rattle.rb_laws_listener_learns.specs.Ears.{Ear, HearsTheRun, IsEar, SendsIn, coming_to, is_always_good}
 use Rattle.rb_laws_listener_learns.specs.Learned.{HasCall, HasLearned}
-use Rattle.rb_laws_listener_learns.specs.Receivers.{IsCalm, call_time, is_idle, is_nobody, see_learned, see_recorded, seen_by, seen_closed, seen_in, seen_learned, stamp_seen, timed_see}
+use Rattle.rb_laws_listener_learns.specs.Receivers.{IsCalm, call_time, is_idle, is_nobody, see_learned, see_recorded, seen_learned, stamp_seen, timed_see}
+use Rattle.rb_laws_listener_learns.proofs.Calling.{call-sending}
 use Rattle.rb_laws_listener_learns.proofs.CallsSent.{sends-at}
 use Rattle.rb_laws_listener_learns.proofs.FrameStages.{IsStepped, at-window, first_of_frame, place_at, stepped, told-now}
 use Rattle.rb_laws_listener_learns.proofs.Fresh.{always-good-in}
-use Rattle.rb_laws_listener_learns.proofs.Learns.{learns}
+use Rattle.rb_laws_listener_learns.proofs.Learns.{learned-verdict, learns}
 use Rattle.rb_laws_listener_learns.proofs.Together.{steady-ear}
 use Rattle.rb_laws_listener_learns.proofs.TrustedSets.{GoodThere, IsIn, KnowsAt, good-there, knows-at}
-use Rattle.rb_laws_listener_learns.proofs.Whole.{sync-role}
 use Rattle.rb_laws_listener_follows.specs.InTime.{BeginsNear}
 use Rattle.rb_laws_listener_follows.specs.Laws.{FirstFramesBeginNear}
 use Rattle.rb_laws_listener_follows.proofs.Begun.{HasBegun, has_begun}
 use Rattle.rb_laws_listener_follows.proofs.TrustedSights.{only_of, seen_of, sight_of, verdict_same}
-
-same-number : (n : ℕ) → (n == n) ≡ true
-same-number n = grind (arith, nat_tests)
-
-same-numbers : (a b : ℕ) → a ≡ b → (a == b) ≡ true
-same-numbers a b e = grind (arith, nat_tests, e)
 
 -- What it took, and when.
 
@@ -88,22 +82,6 @@ taken-of sc records j k e = go (has (trusted_rmus sc.sizes records) j) refl e
     go true t e = record { trusts = t; recorded = e }
     go false t e = cc
 
-some-of : (o : Option ℕ) → is_some o ≡ true → (k : ℕ) × (o ≡ Some k)
-some-of (Some k) h = (k, refl)
-some-of None h = cc
-
--- A call.
-
-call-sending : (sizes : Sizes) (plan : Plan) (j : ℕ) (st : NodeState) (word tick : ℕ) → call_tick_of sizes plan st 2 ≡ Some tick
-    → sending sizes plan Rmu j st (sync_slot_of sizes) 2 word ≡ Some (record { tick = tick; message = call_of sizes st 2 })
-unfolding sending
-call-sending sizes plan j st word tick at =
-    let here : (sync_slot_of sizes == sync_slot_of sizes) ≡ true = same-number (sync_slot_of sizes) in
-    let said : message_said sizes Rmu j st (sync_slot_of sizes) 2 word ≡ Some (call_of sizes st 2) = rw here refl in
-    let ticks : send_tick_of sizes plan st (sync_slot_of sizes) 2 ≡ Some tick = rw here at in
-    ap (option_and_then (λ m. option_map (λ tick. record { tick = tick; message = m }) (send_tick_of sizes plan st (sync_slot_of sizes) 2))) said
-    ∙ ap (option_map (λ tick. record { tick = tick; message = call_of sizes st 2 })) ticks
-
 -- What it saw.
 
 sight-is : (sc : Scenario) (ear : Ear) (learned : ℕ) (records : List Sense) (j : ℕ)
@@ -122,27 +100,21 @@ saw-in-sync sc ear learned records window s is =
     let at : window / 3 ≡ sync_slot_of sc.sizes = omega (arith, is) in
     let stage : window % 3 + 1 ≡ 2 = omega (arith, is) in
     let test : (window % 3 + 1 == stage_recorded (role_of sc.sizes (window / 3))) ≡ true =
-    same-numbers (window % 3 + 1) (stage_recorded (role_of sc.sizes (window / 3))) (stage ∙ sym (ap (λ x. stage_recorded (role_of sc.sizes x)) at ∙ ap stage_recorded (sync-role sc.sizes))) in
+    eq-eqb (window % 3 + 1) (stage_recorded (role_of sc.sizes (window / 3))) (stage ∙ sym (ap (λ x. stage_recorded (role_of sc.sizes x)) at ∙ ap stage_recorded (sync_role sc.sizes))) in
     ap (λ b. if b then Some (see_learned sc ear learned records (window / 3) s) else None) test
     ∙ ap (λ x. Some (see_learned sc ear learned records x s)) at
     ∙ ap (λ (b : Bool). Some (λ j. if b then Nothing else timed_see sc ear learned j (see_recorded sc.sizes records (sync_slot_of sc.sizes) j))) idle
     ∙ ap (λ (b : Bool). Some (λ j. timed_see sc ear learned j
-    (if b then see_time (stamp_in (record_of records (sync_slot_of sc.sizes) j)) else see_value (value_in (record_of records (sync_slot_of sc.sizes) j))))) (same-number (sync_slot_of sc.sizes))
+    (if b then see_time (stamp_in (record_of records (sync_slot_of sc.sizes) j)) else see_value (value_in (record_of records (sync_slot_of sc.sizes) j))))) (eq_self (sync_slot_of sc.sizes))
   where
     idle : is_idle sc.sizes s (sync_slot_of sc.sizes) ≡ false
-    idle = ap (λ r. is_nobody (sender_in (s.trusted Biu) (s.trusted Rmu) [] r)) (sync-role sc.sizes)
-
-learned-none : (sc : Scenario) (ear : Ear) (learned frame : ℕ) (records : List Sense) (stages : List JudgedStage) → frame ≡ learned → verdict_with (seen_in sc ear learned records frame) stages ≡ None
-    → verdict_with (seen_learned sc ear learned records) stages ≡ None
-learned-none sc ear learned frame records stages is h =
-    subst (λ (b : Bool). verdict_with (λ window s. if b then seen_learned sc ear learned records window s else seen_closed sc ear learned (seen_by sc ear learned window ear.ticks)) stages ≡ None)
-    (same-number learned) (subst (λ x. verdict_with (seen_in sc ear learned records x) stages ≡ None) is h)
+    idle = ap (λ r. is_nobody (sender_in (s.trusted Biu) (s.trusted Rmu) [] r)) (sync_role sc.sizes)
 
 -- More than half of all RMUs are good.
 
 most-good : (sc : Scenario) (hands : List HandIn) (ear : Ear) → IsLawful sc → HearsTheRun sc hands ear → (frame : ℕ) → IsRunning (before_slot sc hands frame (sync_slot_of sc.sizes)) → AreMostGood sc frame
 most-good sc hands ear law run frame running =
-    let most : sc.sizes.rmus < 2 * size (set_of (is_always_good sc hands)) = less_from sc.sizes.rmus (2 * size (set_of (is_always_good sc hands))) run.most_good in
+    let most : sc.sizes.rmus < 2 * size (set_of (is_always_good sc hands)) = ltb-true sc.sizes.rmus (2 * size (set_of (is_always_good sc hands))) run.most_good in
     let fewer : size (set_of (is_always_good sc hands)) ≤ size (set_of (λ j. is_good sc Rmu j frame (sync_slot_of sc.sizes))) =
     size_within (set_of (is_always_good sc hands)) (set_of (λ j. is_good sc Rmu j frame (sync_slot_of sc.sizes))) (λ j below h.
     has-set_of j (λ j. is_good sc Rmu j frame (sync_slot_of sc.sizes)) below ∙ always-good-in sc hands law j frame (sync_slot_of sc.sizes) running (sym (has-set_of j (is_always_good sc hands) below) ∙ h)) in
@@ -220,7 +192,7 @@ first_near sc hands law ear is run learned tick s decides calm first l = record 
 
     trusts : (j : ℕ) → is_some (taken_learned sc s.lesson.records j) ≡ true → (me : Side) (i : ℕ) (st : NodeState) → IsGoodInSync sc hands learned me i st → has (trusted_of Rmu me st) j ≡ true
     trusts j some me i st h =
-        let found : (k : ℕ) × (taken_learned sc s.lesson.records j ≡ Some k) = some-of (taken_learned sc s.lesson.records j) some in
+        let found : (k : ℕ) × (taken_learned sc s.lesson.records j ≡ Some k) = some-from (taken_learned sc s.lesson.records j) some in
         ap (λ x. has x j) (k.trust n here me i st (node me i st h) Rmu) ∙ (taken-of sc s.lesson.records j found.0 found.1).trusts
 
     stamped : (j t : ℕ) → taken_learned sc s.lesson.records j ≡ Some t → (1 ≤ t) × (stamp_of ear.clock (time_learned sc ear learned s.lesson.records j) ≡ t)
@@ -265,14 +237,14 @@ first_near sc hands law ear is run learned tick s decides calm first l = record 
         sent = subst (λ x. SendsIn sc hands x j c.sending) (let e : learned * (windows_in sc.sizes + 1) + (3 * sync_slot_of sc.sizes + 1) ≡ learned * (windows_in sc.sizes + 1) + 3 * sync_slot_of sc.sizes + 2 - 1 = omega arith in e) c.sent
 
         states : sent.state ≡ source
-        states = same_some sent.state source (sym sent.good.0 ∙ h.state)
+        states = same_Some sent.state source (sym sent.good.0 ∙ h.state)
 
         ws : Windows sc (moment sc hands (learned * (windows_in sc.sizes + 1) + 3 * sync_slot_of sc.sizes + 2 - 1)) (sync_slot_of sc.sizes) 2
         ws = sync_windows_are sc m 1 (omega arith) at
 
         sends : record { tick = at_tick; message = call_of sc.sizes source 2 } ≡ c.sending
         sends =
-            same_some (record { tick = at_tick; message = call_of sc.sizes source 2 }) c.sending
+            same_Some (record { tick = at_tick; message = call_of sc.sizes source 2 }) c.sending
             (sym (call-sending sc.sizes sc.plan j source (word_at sc m (sync_slot_of sc.sizes) j) at_tick called)
             ∙ ap (λ x. sending sc.sizes sc.plan Rmu j x (sync_slot_of sc.sizes) 2 (word_at sc m (sync_slot_of sc.sizes) j)) (sym states)
             ∙ sends-at sc hands n j c.sending sent (sync_slot_of sc.sizes) 2 ws)
@@ -310,7 +282,7 @@ first_near sc hands law ear is run learned tick s decides calm first l = record 
     none : verdict_with (only_of (trusted_rmus sc.sizes s.lesson.records) (seen_learned sc ear learned s.lesson.records)) (before_stage sc hands learned (sync_slot_of sc.sizes) 3).book.stages ≡ None
     none =
         verdict_same (trusted_rmus sc.sizes s.lesson.records) (seen_learned sc ear learned s.lesson.records) (before_stage sc hands learned (sync_slot_of sc.sizes) 3).book.stages all_in
-        ∙ learned-none sc ear learned (before_stage sc hands learned (sync_slot_of sc.sizes) 3).frame s.lesson.records (before_stage sc hands learned (sync_slot_of sc.sizes) 3).book.stages p3.frame_is
+        ∙ learned-verdict sc ear learned (before_stage sc hands learned (sync_slot_of sc.sizes) 3).frame s.lesson.records (before_stage sc hands learned (sync_slot_of sc.sizes) 3).book.stages p3.frame_is
         (calm.holds (learned * (windows_in sc.sizes + 1) + 3 * sync_slot_of sc.sizes + 3 - 1) (omega arith) (omega (arith, p3.frame_is)) (omega (arith, p3.window_is)))
 
     long : length m.book.stages ≡ 3 * sync_slot_of sc.sizes + 1

@@ -1,5 +1,6 @@
 -- A listener goes through the first window of its first frame. What comes with the stamp of the frame's first tick it does not keep.
 use Rattle.std.proofs.Common.{◌≡◌, ℕ, zero, suc, ◌+◌, ◌-◌, ◌*◌, ◌^◌, ◌<◌, ◌≤◌, ◌==◌, ◌&&◌, not, Bool, true, false, List, [], Option, Some, None, option_and_then, option_map, refl, sym, ◌∙◌, ap, subst, arith}
+use Rattle.std.proofs.lemmas.Bool.{lt-ltb}
 use Rattle.std.proofs.lemmas.Bool.Decides.{nat_tests}
 use Rattle.rb_base.specs.Nodes.Side.{Biu, Rmu}
 use Rattle.rb_base.specs.Sizes.{Sizes, sync_slot_of}
@@ -10,7 +11,7 @@ use Rattle.rb_rules.specs.declared.plan.Window.{Window}
 use Rattle.rb_rules.specs.declared.role.Role.TheVariants.{Schedule}
 use Rattle.rb_rules.specs.declared.sense.Sense.{Sense}
 use Rattle.rb_rules.specs.Core.{Act, Core, act_on, epoch_at, is_last, is_spent, of_source, state_at, window_here}
-use Rattle.rb_rules.specs.ExactStage.{Outcome, close_exact, message_of, outcome_of, says, says_of}
+use Rattle.rb_rules.specs.ExactStage.{Outcome, close_exact, message_of, says, says_of}
 use Rattle.rb_rules.specs.Goodness.{Scenario, is_good}
 use Rattle.rb_rules.specs.Hearing.{close_window, sending}
 use Rattle.rb_rules.specs.Judging.{JudgedStage}
@@ -31,7 +32,6 @@ use Rattle.rb_laws_agreement.proofs.Invariant.{IsGoodNode, Shared, slot_numbered
 use Rattle.rb_laws_agreement.proofs.NodeWindows.{Windows, exact_windows, word_at}
 use Rattle.rb_laws_agreement.proofs.Settings.{Setting, stages_with}
 use Rattle.rb_laws_agreement.proofs.SlotRuns.{next-window}
-use Rattle.rb_laws_agreement.proofs.Tests.{less_true}
 use Rattle.rb_laws_synchrony.proofs.StageCalls.{IsAt, exact_at}
 use Rattle.rb_laws_synchrony.proofs.SyncSteps.{near_exact}
 use Rattle.rb_laws_synchrony.proofs.Synchronous.{Synchronous}
@@ -49,7 +49,7 @@ use Rattle.rb_laws_listener_near.proofs.Tracking.{Tracks, stays_good}
 use Rattle.rb_laws_listener_near.proofs.WindowSteps.{IsWatched, closed_by, tracks_after}
 use Rattle.rb_laws_listener_follows.proofs.Arrivals.{none_collected, none_with_stamp}
 use Rattle.rb_laws_listener_follows.proofs.ExactRuns.{GoesOn, goes_on, setting_at}
-use Rattle.rb_laws_listener_follows.proofs.ExactSteps.{Abides}
+use Rattle.rb_laws_listener_follows.proofs.ExactSteps.{Abides, exact_keeps}
 use Rattle.rb_laws_listener_follows.proofs.FollowerRuns.{ClosesWindow, IsWindow, Stands, closes_window, closing, collected, state_before}
 use Rattle.rb_laws_listener_follows.proofs.FollowerWindows.{closes_there, is_window}
 use Rattle.rb_laws_listener_follows.proofs.HeardExact.{Beside, IsOwn, only_own}
@@ -128,7 +128,7 @@ later_window sizes plan st first n some w = record {
 -- In it no RMU speaks.
 
 first-role : (sizes : Sizes) → 1 ≤ sizes.bius → role_of sizes 0 ≡ Schedule 0
-first-role sizes some = rw (less_true 0 sizes.bius (omega (arith, some))) refl
+first-role sizes some = rw (lt-ltb 0 sizes.bius (omega (arith, some))) refl
 
 none-said : (j : ℕ) (source : NodeState) (sender : Sender) (word : ℕ) → says_of Rmu j source 0 (Schedule 0) sender 1 word ≡ None
 none-said j source Nobody word = refl
@@ -151,10 +151,6 @@ sending-none sizes plan some j source word =
 votes-none : (b : Bool) → (b && not (1 == 1)) ≡ true → ⊥
 votes-none true h = cc
 votes-none false h = cc
-
-exact_keeps : (sizes : Sizes) (plan : Plan) (st : NodeState) (slot stage : ℕ) (sense : ℕ → Sense) → new_epoch_of plan Biu (close_exact sizes Biu 16 st slot stage sense).state ≡ new_epoch_of plan Biu st
-unfolding close_exact outcome_of
-exact_keeps sizes plan st slot stage sense = refl
 
 keeps_middle : (sizes : Sizes) (plan : Plan) (st : NodeState) (first : ℕ) (sense : ℕ → Sense) → 0 < sync_slot_of sizes
     → new_epoch_of plan Biu (close sizes Biu 16 st 0 1 first sense).state ≡ new_epoch_of plan Biu st

@@ -1,6 +1,7 @@
 -- From frame to frame a listener follows the bus, as long as the premise holds and it has ticks.
 use Rattle.std.proofs.Common.{◌≡◌, ℕ, zero, suc, ◌+◌, ◌-◌, ◌*◌, ◌^◌, ◌<◌, ◌≤◌, List, [], Some, inl, inr, refl, sym, ◌∙◌, subst, arith}
 use Rattle.std.proofs.lemmas.Bool.{cases_lt}
+use Rattle.std.proofs.lemmas.Option.{same_Some}
 use Rattle.std.proofs.Math.Nat.{mul-le-mul_right}
 use Rattle.rb_base.specs.Nodes.{Side}
 use Rattle.rb_base.specs.Sizes.{sync_slot_of}
@@ -20,7 +21,6 @@ use Rattle.rb_rules.proofs.Stamps.{stamp_of-is}
 use Rattle.rb_laws_agreement.proofs.FrameBegins.{IsTurn, frame_turns}
 use Rattle.rb_laws_agreement.proofs.Invariant.{IsGoodNode}
 use Rattle.rb_laws_agreement.proofs.Places.{running_earlier}
-use Rattle.rb_laws_agreement.proofs.Tests.{same_some}
 use Rattle.rb_laws_synchrony.proofs.PlanNumbers.{drift_of}
 use Rattle.rb_laws_synchrony.proofs.StageCalls.{clock_now}
 use Rattle.rb_laws_synchrony.proofs.StageMiddles.{tick_of}
@@ -163,7 +163,7 @@ followed_next sc hands law ear is learned records tick s first w first_is f last
                   let after : TellsAfter sc ear x.epoch k = tells_later k e in_time told is in
                   let below : x.epoch + second_end sc.sizes sc.plan < 2 ^ 31 = omega (arith, after.far, in_time, w.ticks) in
                   let there = next.third_stands.here ∙ hears_all sc (ear.heard (x.epoch + second_end sc.sizes sc.plan)) (record { state = next.third; had = x.epoch + second_end sc.sizes sc.plan; inbox = [] }) below in
-                  same_some k next.next_epoch (sym (after.known _ there) ∙ next.third_known);
+                  same_Some k next.next_epoch (sym (after.known _ there) ∙ next.third_known);
             };
             stands = λ ticks. next.stands (omega (arith, ticks));
           };

@@ -1,6 +1,5 @@
 -- A listener that follows goes through a window tick by tick: at its last tick it has all that came with the stamps of its ticks, and closes.
 use Rattle.std.proofs.Common.{◌≡◌, ℕ, zero, suc, ◌+◌, ◌^◌, ◌<◌, ◌≤◌, nat_lt, ◌&&◌, not, Bool, true, false, List, [], ◌∷◌, ◌++◌, Some, None, refl, sym, ◌∙◌, ap, subst, arith}
-use Rattle.std.proofs.lemmas.Bool.Decides.{nat_tests}
 use Rattle.std.proofs.lemmas.List.{append-nil, append_assoc}
 use Rattle.rb_base.specs.Nodes.Side.{Biu}
 use Rattle.rb_base.specs.Sizes.{Sizes}
@@ -11,6 +10,7 @@ use Rattle.rb_rules.specs.Goodness.{Scenario}
 use Rattle.rb_rules.specs.Hearing.{Coming, close_window}
 use Rattle.rb_rules.specs.NodeState.{NodeState}
 use Rattle.rb_rules.specs.Sense.{Arrival}
+use Rattle.rb_rules.proofs.QuietTicks.{not-spent}
 use Rattle.rb_listen.specs.Following.{follow}
 use Rattle.rb_listen.specs.Listening.{Listening, followed, hear, heed}
 use Rattle.rb_listen.specs.Listening as now
@@ -30,9 +30,6 @@ arrivals sizes k (c ∷ cs) = elim (nat_lt c.from sizes.rmus) [
 unfoldable pub collected : Sizes → (ℕ → List Coming) → ℕ → ℕ → List (ℕ × Arrival)
 collected sizes heard first zero = []
 collected sizes heard first (suc n) = collected sizes heard first n ++ arrivals sizes (first + n) (heard (first + n))
-
-not-spent : (c : Core) → c.had < 2 ^ 31 → is_spent c ≡ false
-not-spent c h = grind (arith, nat_tests)
 
 -- what a follower makes of one message
 one_more : (sizes : Sizes) (c : Core) (x : Coming) → c.had < 2 ^ 31
@@ -81,7 +78,7 @@ hears_all sc (x ∷ xs) c below =
 abbrev pub after_tick : Scenario → Ear → ℕ → Listening
 after_tick sc ear k = (heed sc.sizes sc.plan (listening_at sc ear k)).listening
 
-heeds_core : (sc : Scenario) (ear : Ear) (k : ℕ) (c : Core) → listening_at sc ear k ≡ now.Following c → heed sc.sizes sc.plan (listening_at sc ear k) ≡ followed (follow sc.sizes sc.plan c)
+pub heeds_core : (sc : Scenario) (ear : Ear) (k : ℕ) (c : Core) → listening_at sc ear k ≡ now.Following c → heed sc.sizes sc.plan (listening_at sc ear k) ≡ followed (follow sc.sizes sc.plan c)
 unfolding heed
 heeds_core sc ear k c is = ap (heed sc.sizes sc.plan) is
 

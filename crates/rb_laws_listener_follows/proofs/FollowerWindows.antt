@@ -1,8 +1,9 @@
 -- The ticks of a follower's windows are those of a BIU in its state.
-use Rattle.std.proofs.Common.{◌≡◌, ℕ, ◌+◌, ◌-◌, ◌^◌, ◌<◌, ◌≤◌, ◌==◌, true, false, Option, Some, None, refl, ◌∙◌, arith}
-use Rattle.std.proofs.lemmas.Bool.Decides.{nat_tests}
+use Rattle.std.proofs.Common.{◌≡◌, ℕ, ◌+◌, ◌-◌, ◌^◌, ◌<◌, ◌≤◌, Option, Some, None, refl, ◌∙◌, arith}
+use Rattle.std.proofs.lemmas.Bool.{eq-eqb}
 use Rattle.rb_base.specs.Nodes.Side.{Biu}
 use Rattle.rb_base.specs.Sizes.{Sizes}
+use Rattle.rb_base.proofs.Plain.{less-differs}
 use Rattle.rb_rules.specs.declared.plan.Plan.{Plan}
 use Rattle.rb_rules.specs.Core.{state_at, window_here}
 use Rattle.rb_rules.specs.Hearing.{window_numbered}
@@ -14,12 +15,6 @@ use Rattle.rb_laws_events.proofs.StageOrder.{last_of}
 use Rattle.rb_laws_events.proofs.TickWindows.{first_of, here-is, last-is}
 use Rattle.rb_laws_events.proofs.TurnTicks.{no-next, not-yet}
 use Rattle.rb_laws_listener_follows.proofs.FollowerRuns.{IsWindow}
-
-other-tick : (a b : ℕ) → a < b → (a == b) ≡ false
-other-tick a b h = grind (arith, nat_tests)
-
-same-tick : (a b : ℕ) → a ≡ b → (a == b) ≡ true
-same-tick a b h = grind (arith, nat_tests)
 
 -- before the next epoch the state stays
 stays-in : (sizes : Sizes) (plan : Plan) (st : NodeState) (k : ℕ) → ((x : ℕ) → new_epoch_of plan Biu st ≡ Some x → k < x) → state_at sizes plan Biu st k ≡ st
@@ -42,10 +37,10 @@ is_window sizes plan before st n ticks in_frame some turns later in_time =
       turns = turns;
       stays = λ k from to. stays-in sizes plan st k (λ x known. omega (arith, later x known, to, end));
       quiet = λ k from to.
-          last-is sizes plan Biu st n k ticks in_frame (record { from = from; to = omega (arith, to, end) }) ∙ other-tick k (st.epoch + last) (omega (arith, to, end));
+          last-is sizes plan Biu st n k ticks in_frame (record { from = from; to = omega (arith, to, end) }) ∙ less-differs k (st.epoch + last) (omega (arith, to, end));
       last =
           last-is sizes plan Biu st n (st.epoch + first + (last - first)) ticks in_frame (record { from = omega arith; to = omega arith })
-          ∙ same-tick (st.epoch + first + (last - first)) (st.epoch + last) end;
+          ∙ eq-eqb (st.epoch + first + (last - first)) (st.epoch + last) end;
       in_time = omega (arith, in_time, end);
     }
 

@@ -13,7 +13,6 @@ use Rattle.rb_rules.specs.Ports.{HandIn}
 use Rattle.rb_rules.specs.Rounds.{moment, windows_in}
 use Rattle.rb_rules.specs.StandsFor.{StandsFor}
 use Rattle.rb_rules.specs.Windows.{exact_window, windows_of_frame}
-use Rattle.rb_rules.proofs.Middles.{IsBetween}
 use Rattle.rb_laws_agreement.proofs.FrameBegins.{frame_turns}
 use Rattle.rb_laws_agreement.proofs.Invariant.{IsGoodNode}
 use Rattle.rb_laws_agreement.proofs.Places.{IsPlaced, good_before_slot, placed, running_earlier}
@@ -21,6 +20,7 @@ use Rattle.rb_listen.specs.Lessons.{first_of}
 use Rattle.rb_listen.specs.declared.lesson.First.{First}
 use Rattle.rb_listen.specs.declared.search.Search.{Search}
 use Rattle.rb_laws_listener_near.specs.Laws.{LieWithin}
+use Rattle.rb_laws_listener_near.proofs.FramesNear.{within}
 use Rattle.rb_laws_listener_learns.specs.Deciding.{DecidesBy}
 use Rattle.rb_laws_listener_learns.specs.Ears.{Ear, HearsTheRun, IsEar}
 use Rattle.rb_laws_listener_learns.specs.Learned.{HasLearned}
@@ -39,9 +39,6 @@ use Rattle.rb_laws_listener_follows.proofs.FirstStands.{FirstStands, first_stand
 use Rattle.rb_laws_listener_follows.proofs.FollowedFrames.{IsBegun, IsFollowed, begun_at}
 use Rattle.rb_laws_listener_follows.proofs.OtherTicks.{closes_only}
 use Rattle.rb_laws_listener_follows.proofs.Tellings.{tells_frame}
-
-within : (low p a b : ℕ) → IsBetween low (low + p) a → IsBetween low (low + p) b → LieWithin p a b
-within low p a b x y = record { before = omega (arith, x.most, y.least); after = omega (arith, x.least, y.most) }
 
 -- What it has learned, and its first frame.
 record Learns (sc : Scenario) (hands : List HandIn) (ear : Ear) (learned tick : ℕ) (s : Search) : Type 0 where

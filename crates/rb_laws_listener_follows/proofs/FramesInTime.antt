@@ -1,6 +1,7 @@
 -- A listener that begins a frame near the good nodes stands beside the run in all its windows below the sync slot.
 use Rattle.std.proofs.Common.{◌≡◌, ℕ, zero, suc, ◌+◌, ◌-◌, ◌*◌, ◌/◌, ◌<◌, ◌≤◌, Bool, true, false, List, Option, Some, None, option_map, slice_get, ◌⊎◌, inl, inr, if◌then◌else◌, refl, sym, ◌∙◌, ap, subst, arith}
 use Rattle.std.proofs.lemmas.Bool.{cases_lt}
+use Rattle.std.proofs.lemmas.Option.{same_Some}
 use Rattle.rb_base.specs.Nodes.{Side}
 use Rattle.rb_base.specs.Nodes.Side.{Rmu}
 use Rattle.rb_base.specs.Sizes.{sync_slot_of}
@@ -13,7 +14,7 @@ use Rattle.rb_rules.specs.NodeState.{NodeState}
 use Rattle.rb_rules.specs.Ports.{HandIn}
 use Rattle.rb_rules.specs.Rounds.{moment, windows_in}
 use Rattle.rb_rules.proofs.Middles.{IsBetween}
-use Rattle.rb_laws_agreement.proofs.Tests.{Present, same_some}
+use Rattle.rb_laws_agreement.proofs.Tests.{Present}
 use Rattle.rb_laws_agreement.proofs.Agreement.{IsAgreed, agreement}
 use Rattle.rb_laws_agreement.proofs.Goodnesses.{good_below_16, good_earlier}
 use Rattle.rb_laws_agreement.proofs.Invariant.{IsGoodNode, Shared, is_good_now, slot_numbered}
@@ -55,7 +56,7 @@ begins sc hands frame me i t h = go (is_good sc me i frame 0) refl (slice_get (o
   where
     go : (b : Bool) → is_good sc me i frame 0 ≡ b → (o : Option NodeState) → slice_get (of_kind me (before_slot sc hands frame 0).nodes) i ≡ o
         → (if b then option_map (λ (st : NodeState). time_in_frame sc me i st 0) o else None) ≡ Some t → Begins sc hands frame me i t
-    go true good (Some st) is e = record { st = st; good = record { good = good; state = is }; time = same_some (time_in_frame sc me i st 0) t e }
+    go true good (Some st) is e = record { st = st; good = record { good = good; state = is }; time = same_Some (time_in_frame sc me i st 0) t e }
     go true good None is e = cc
     go false good o is e = cc
 

@@ -1,11 +1,12 @@
 -- What a listener hears of good RMUs in a window below the sync slot: what they send in it, and nothing else.
 use Rattle.std.proofs.Common.{◌≡◌, ℕ, ◌+◌, ◌-◌, ◌*◌, ◌/◌, ◌%◌, ◌<◌, ◌≤◌, ◌==◌, ◌&&◌, ◌||◌, nat_lt, true, false, List, Some, None, get_or, ◌⊎◌, inl, inr, refl, sym, ◌∙◌, ap, subst, arith}
-use Rattle.std.proofs.lemmas.Bool.{cases_lt, cases_order}
-use Rattle.std.proofs.lemmas.Bool.Decides.{nat_tests}
+use Rattle.std.proofs.lemmas.Bool.{cases_lt, cases_order, eqb-true, ltb-true, or_cases}
+use Rattle.std.proofs.lemmas.Option.{same_Some}
 use Rattle.std.proofs.Math.Nat.{mul-le-mul_left, mul-le-mul_right}
 use Rattle.rb_base.specs.Nodes.{Side}
 use Rattle.rb_base.specs.Nodes.Side.{Biu, Rmu}
 use Rattle.rb_base.specs.Sizes.{sync_slot_of}
+use Rattle.rb_base.proofs.Plain.{and_first, and_second, less-differs}
 use Rattle.rb_rules.specs.declared.role.Role.TheVariants.{Sync}
 use Rattle.rb_rules.specs.Clock.{IsStamp, time_of}
 use Rattle.rb_rules.specs.Goodness.{Scenario, clock_of, is_before, is_good}
@@ -23,7 +24,6 @@ use Rattle.rb_rules.specs.Windows.{send_offset_of}
 use Rattle.rb_rules.proofs.Drift.{times_rise_to}
 use Rattle.rb_rules.proofs.Middles.{IsBetween}
 use Rattle.rb_rules.proofs.Stamps.{stamp_le}
-use Rattle.rb_laws_agreement.proofs.Tests.{and_first, and_second, equal_from, less_from, or_cases, same_some}
 use Rattle.rb_laws_agreement.proofs.Agreement.{IsAgreed, agreement}
 use Rattle.rb_laws_agreement.proofs.Goodnesses.{good_counts, slot_here, slot_last}
 use Rattle.rb_laws_agreement.proofs.Invariant.{Agree, IsGoodNode, Shared, slot_numbered}
@@ -52,16 +52,13 @@ pub record SendsThen (sc : Scenario) (m : Moment) (j : ℕ) (st : NodeState) (s 
   pub tick : ((m.window < 3 * sync_slot_of sc.sizes) × (s.tick ≡ st.epoch + (m.window * sc.plan.l + sc.plan.h)))
       ⊎ ((m.window ≡ 3 * sync_slot_of sc.sizes + 1) × ((st.epoch + (f0_of sc.sizes sc.plan + sc.plan.l) ≤ s.tick) × (s.tick < st.epoch + (f0_of sc.sizes sc.plan + sc.plan.l + sc.plan.v))))
 
-not-sync : (slot sync : ℕ) → slot < sync → (slot == sync) ≡ false
-not-sync slot sync h = grind (arith, nat_tests)
-
 exact-tick : (sc : Scenario) (m : Moment) (slot q : ℕ) (i : ℕ) (st : NodeState) (word : ℕ) (s : Sending) → slot < sync_slot_of sc.sizes → m.window ≡ 3 * slot + q
     → sending sc.sizes sc.plan Rmu i st slot (q + 1) word ≡ Some s → s.tick ≡ st.epoch + (m.window * sc.plan.l + sc.plan.h)
 exact-tick sc m slot q i st word s below at is =
     let parts : IsSent sc.sizes sc.plan Rmu i st slot (q + 1) word s = sent_parts sc.sizes sc.plan Rmu i st slot (q + 1) word s is in
-    let away : (slot == sync_slot_of sc.sizes) ≡ false = not-sync slot (sync_slot_of sc.sizes) below in
+    let away : (slot == sync_slot_of sc.sizes) ≡ false = less-differs slot (sync_slot_of sc.sizes) below in
     let tick : send_tick_of sc.sizes sc.plan st slot (q + 1) ≡ Some (st.epoch + send_offset_of sc.plan slot (q + 1)) = rw away refl in
-    let e : st.epoch + send_offset_of sc.plan slot (q + 1) ≡ s.tick = same_some (st.epoch + send_offset_of sc.plan slot (q + 1)) s.tick (sym tick ∙ parts.tick) in
+    let e : st.epoch + send_offset_of sc.plan slot (q + 1) ≡ s.tick = same_Some (st.epoch + send_offset_of sc.plan slot (q + 1)) s.tick (sym tick ∙ parts.tick) in
     let w : 3 * slot + (q + 1) - 1 ≡ m.window = omega arith in
     sym e ∙ ap (λ w. st.epoch + (w * sc.plan.l + sc.plan.h)) w
 
@@ -98,7 +95,7 @@ sends_then sc hands law n j s sent =
     in-stage q small at =
         let ws : Windows sc (moment sc hands n) (sync_slot_of sc.sizes) (q + 1) = sync_windows_are sc (moment sc hands n) q small at in
         let sends = call_sent sc.sizes sc.plan Rmu j sent.state (q + 1) (word_at sc (moment sc hands n) (sync_slot_of sc.sizes) j) s (sends-at sc hands n j s sent (sync_slot_of sc.sizes) (q + 1) ws) in
-        let second : q + 1 ≡ 2 = equal_from (q + 1) 2 sends.1 in
+        let second : q + 1 ≡ 2 = eqb-true (q + 1) 2 sends.1 in
         let here : IsGoodNode sc (moment sc hands n) Rmu j sent.state = node (sync_slot_of sc.sizes) (q + 1) ws (slot_last sc.sizes (moment sc hands n).window q at) in
         let synced : IsSynchronous sc hands n = synchrony sc hands law n sent.running in
         let one : q ≡ 1 = omega (arith, second) in
@@ -287,7 +284,7 @@ earlier_stamp sc hands ear n epoch low s b j st node q x sent lt k stamp =
     was = was_at sc hands b.law q n (omega (arith, lt)) b.running Rmu j st node
 
     is_it : was.st ≡ sent.state
-    is_it = same_some was.st sent.state (sym was.was.there ∙ then.node.there)
+    is_it = same_Some was.st sent.state (sym was.was.there ∙ then.node.there)
 
     t : ℕ
     t = (coming_to sc ear j (moment sc hands q).frame x).time
@@ -416,8 +413,8 @@ not_later sc hands ear n epoch low s b below j q x sent lt k stamp in_it =
 pub onset_after : (f g w v : ℕ) → (nat_lt f g || ((f == g) && nat_lt w v)) ≡ true → (f < g) ⊎ ((f ≡ g) × (w < v))
 onset_after f g w v h =
     elim (or_cases (nat_lt f g) ((f == g) && nat_lt w v) h) [
-      | inl less ↦ inl (less_from f g less)
-      | inr both ↦ inr (equal_from f g (and_first (f == g) (nat_lt w v) both), less_from w v (and_second (f == g) (nat_lt w v) both))
+      | inl less ↦ inl (ltb-true f g less)
+      | inr both ↦ inr (eqb-true f g (and_first (f == g) (nat_lt w v) both), ltb-true w v (and_second (f == g) (nat_lt w v) both))
     ]
 
 not_faulty : (sc : Scenario) (hands : List HandIn) (ear : Ear) (n epoch low : ℕ) (s : Shared) → Beside sc hands ear n epoch low s → (moment sc hands n).window < 3 * sync_slot_of sc.sizes
@@ -436,7 +433,7 @@ not_faulty sc hands ear n epoch low s b below c good faulty k stamp in_it =
     a = (moment sc hands n).window * sc.plan.l
 
     counted : c.from < sc.sizes.rmus
-    counted = less_from c.from sc.sizes.rmus (and_first (nat_lt c.from sc.sizes.rmus) (is_before (get_or sc.rmu_onsets c.from None) (moment sc hands n).frame (slot_numbered sc.sizes ((moment sc hands n).window + 1))) good)
+    counted = ltb-true c.from sc.sizes.rmus (and_first (nat_lt c.from sc.sizes.rmus) (is_before (get_or sc.rmu_onsets c.from None) (moment sc hands n).frame (slot_numbered sc.sizes ((moment sc hands n).window + 1))) good)
 
     order : ((moment sc hands n).frame < faulty.frame) ⊎ (((moment sc hands n).frame ≡ faulty.frame) × (slot_numbered sc.sizes ((moment sc hands n).window + 1) < faulty.slot))
     order =

@@ -1,10 +1,11 @@
 -- What a listener hears of RMUs that are good in the next frame, too, in stage 3 of the sync slot and in the tail: nothing.
 use Rattle.std.proofs.Common.{◌≡◌, ℕ, ◌+◌, ◌-◌, ◌*◌, ◌<◌, ◌≤◌, nat_lt, true, List, None, get_or, ◌⊎◌, inl, inr, refl, sym, ◌∙◌, ap, subst, arith}
-use Rattle.std.proofs.lemmas.Bool.{cases_order}
+use Rattle.std.proofs.lemmas.Bool.{cases_order, ltb-true}
 use Rattle.std.proofs.Math.Nat.{mul-le-mul_right}
 use Rattle.rb_base.specs.Nodes.{Side}
 use Rattle.rb_base.specs.Nodes.Side.{Rmu}
 use Rattle.rb_base.specs.Sizes.{sync_slot_of}
+use Rattle.rb_base.proofs.Plain.{and_first, and_second}
 use Rattle.rb_rules.specs.Clock.{IsStamp, time_of}
 use Rattle.rb_rules.specs.Goodness.{Scenario, clock_of, is_before, is_good}
 use Rattle.rb_rules.specs.Headline.{stated_skew}
@@ -16,7 +17,6 @@ use Rattle.rb_rules.specs.Ports.{HandIn}
 use Rattle.rb_rules.specs.Rounds.{moment, windows_in}
 use Rattle.rb_rules.proofs.Drift.{times_rise_to}
 use Rattle.rb_rules.proofs.Middles.{IsBetween}
-use Rattle.rb_laws_agreement.proofs.Tests.{and_first, and_second, less_from}
 use Rattle.rb_laws_agreement.proofs.Agreement.{IsAgreed, agreement}
 use Rattle.rb_laws_agreement.proofs.Goodnesses.{good_counts}
 use Rattle.rb_laws_agreement.proofs.Invariant.{IsGoodNode, Shared}
@@ -201,7 +201,7 @@ nothing_late sc hands ear n epoch low s next_epoch later b at next second c st n
         ∙ and_second (nat_lt c.from sc.sizes.rmus) (is_before (get_or sc.rmu_onsets c.from None) ((moment sc hands n).frame + 1) 0) good))
       where
         counted : c.from < sc.sizes.rmus
-        counted = less_from c.from sc.sizes.rmus (and_first (nat_lt c.from sc.sizes.rmus) (is_before (get_or sc.rmu_onsets c.from None) ((moment sc hands n).frame + 1) 0) good)
+        counted = ltb-true c.from sc.sizes.rmus (and_first (nat_lt c.from sc.sizes.rmus) (is_before (get_or sc.rmu_onsets c.from None) ((moment sc hands n).frame + 1) 0) good)
 
         slot_le : faulty.slot ≤ sync_slot_of sc.sizes
         slot_le = onset-in sc b.law c.from faulty.frame faulty.slot counted faulty.onset

@@ -1,10 +1,11 @@
 -- What a listener hears of good RMUs in the first two stages of the sync slot: nothing in stage 1, and in stage 2 their calls.
 use Rattle.std.proofs.Common.{◌≡◌, ℕ, suc, ◌+◌, ◌-◌, ◌*◌, ◌<◌, ◌≤◌, nat_lt, true, List, None, get_or, inl, inr, refl, sym, ◌∙◌, ap, subst, arith}
-use Rattle.std.proofs.lemmas.Bool.{cases_order}
+use Rattle.std.proofs.lemmas.Bool.{cases_order, ltb-true}
 use Rattle.std.proofs.Math.Nat.{mul-le-mul_right}
 use Rattle.rb_base.specs.Nodes.{Side}
 use Rattle.rb_base.specs.Nodes.Side.{Rmu}
 use Rattle.rb_base.specs.Sizes.{sync_slot_of}
+use Rattle.rb_base.proofs.Plain.{and_first, and_second}
 use Rattle.rb_rules.specs.Clock.{IsStamp, time_of}
 use Rattle.rb_rules.specs.Goodness.{Scenario, clock_of, is_before, is_good}
 use Rattle.rb_rules.specs.Headline.{stated_skew}
@@ -17,7 +18,6 @@ use Rattle.rb_rules.specs.Rounds.{Moment, moment, windows_in}
 use Rattle.rb_rules.proofs.Drift.{times_rise_to}
 use Rattle.rb_rules.proofs.Middles.{IsBetween}
 use Rattle.rb_rules.proofs.Stamps.{stamp_le}
-use Rattle.rb_laws_agreement.proofs.Tests.{and_first, and_second, less_from}
 use Rattle.rb_laws_agreement.proofs.Agreement.{IsAgreed, agreement}
 use Rattle.rb_laws_agreement.proofs.Goodnesses.{good_counts}
 use Rattle.rb_laws_agreement.proofs.Invariant.{IsGoodNode, Shared}
@@ -108,7 +108,7 @@ no_onset sc hands ear n epoch low s b c good faulty k stamp early =
     fit = lawful_fits sc b.law
 
     counted : c.from < sc.sizes.rmus
-    counted = less_from c.from sc.sizes.rmus (and_first (nat_lt c.from sc.sizes.rmus) (is_before (get_or sc.rmu_onsets c.from None) (moment sc hands n).frame (sync_slot_of sc.sizes)) good)
+    counted = ltb-true c.from sc.sizes.rmus (and_first (nat_lt c.from sc.sizes.rmus) (is_before (get_or sc.rmu_onsets c.from None) (moment sc hands n).frame (sync_slot_of sc.sizes)) good)
 
     slot_le : faulty.slot ≤ sync_slot_of sc.sizes
     slot_le = onset-in sc b.law c.from faulty.frame faulty.slot counted faulty.onset

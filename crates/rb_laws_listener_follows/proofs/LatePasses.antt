@@ -1,8 +1,10 @@
 -- From stage 2 of the sync slot a listener goes through stage 3 and the tail to the first window of the next frame.
 use Rattle.std.proofs.Common.{◌≡◌, ℕ, suc, ◌+◌, ◌-◌, ◌*◌, ◌≤◌, true, List, slice_get, refl, sym, ◌∙◌, ap, subst, arith}
+use Rattle.std.proofs.lemmas.Option.{same_Some}
 use Rattle.rb_base.specs.Nodes.{has}
 use Rattle.rb_base.specs.Nodes.Side.{Biu, Rmu}
 use Rattle.rb_base.specs.Sizes.{Sizes, sync_slot_of}
+use Rattle.rb_base.proofs.Plain.{and_second}
 use Rattle.rb_rules.specs.declared.plan.Plan.{Plan}
 use Rattle.rb_rules.specs.declared.sense.Sense.{Sense}
 use Rattle.rb_rules.specs.Clock.{IsStamp}
@@ -20,7 +22,7 @@ use Rattle.rb_laws_agreement.proofs.Agreement.{IsAgreed, agreement}
 use Rattle.rb_laws_agreement.proofs.ExactAgrees.{has_ticks}
 use Rattle.rb_laws_agreement.proofs.Goodnesses.{good_before, slot_last}
 use Rattle.rb_rules.specs.Book.{of_kind}
-use Rattle.rb_laws_agreement.proofs.Tests.{Passing, Present, and_second, same_some}
+use Rattle.rb_laws_agreement.proofs.Tests.{Passing, Present}
 use Rattle.rb_laws_agreement.proofs.Numbers.{one_of_many}
 use Rattle.rb_laws_agreement.proofs.Premises.{is_sound}
 use Rattle.rb_laws_agreement.proofs.Settings.{good_state}
@@ -276,7 +278,7 @@ to_tail sc hands ear learned records f last epoch low h x p complete third in_ti
     here =
         span_window sc st st (moment sc hands n).window (sync_slot_of sc.sizes) 3 a sc.plan.z epoch deaf.span (has_ticks sc law) p.through.epoch_is
         (not-yet sc.sizes sc.plan Biu st next_epoch (epoch + a) p.through.known (omega (arith, deaf.before, law.plan.z.0)))
-        (λ y known. let same : next_epoch ≡ y = same_some next_epoch y (sym p.through.known ∙ known) in omega (arith, same, deaf.before)) (omega (arith, in_time, x.second.beside.is.ticks))
+        (λ y known. let same : next_epoch ≡ y = same_Some next_epoch y (sym p.through.known ∙ known) in omega (arith, same, deaf.before)) (omega (arith, in_time, x.second.beside.is.ticks))
 
     sees : SpanSees sc ear (suc f) (suc (suc (3 * sync_slot_of sc.sizes)))
         (close_sync sc.sizes Biu p.through.now (2 + 1) (p.through.now.epoch + (f0_of sc.sizes sc.plan + sc.plan.l + sc.plan.v))

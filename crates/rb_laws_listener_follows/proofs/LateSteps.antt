@@ -1,8 +1,9 @@
 -- A listener goes through stage 3 of the sync slot and the tail, in which no RMU speaks.
-use Rattle.std.proofs.Common.{◌≡◌, ℕ, suc, ◌+◌, ◌-◌, ◌*◌, ◌≤◌, true, false, List, [], Some, slice_get, refl, sym, ◌∙◌, ap, subst, arith}
+use Rattle.std.proofs.Common.{◌≡◌, ℕ, suc, ◌+◌, ◌-◌, ◌*◌, ◌≤◌, true, false, List, [], Some, slice_get, sym, ◌∙◌, ap, subst, arith}
+use Rattle.std.proofs.lemmas.Option.{same_Some}
 use Rattle.rb_base.specs.Nodes.{has}
 use Rattle.rb_base.specs.Nodes.Side.{Biu, Rmu}
-use Rattle.rb_base.specs.Sizes.{Sizes, sync_slot_of}
+use Rattle.rb_base.specs.Sizes.{sync_slot_of}
 use Rattle.rb_rules.specs.declared.sense.Sense.{Sense}
 use Rattle.rb_rules.specs.declared.sense.Sense.TheVariants.{Silent}
 use Rattle.rb_rules.specs.Book.{of_kind}
@@ -17,8 +18,8 @@ use Rattle.rb_rules.specs.Ports.{HandIn}
 use Rattle.rb_rules.specs.Rounds.{moment}
 use Rattle.rb_rules.specs.Sense.{sense_of}
 use Rattle.rb_rules.specs.Standing.{does_wrong}
-use Rattle.rb_rules.specs.SyncStage.{close_sync, expects_call, new_epoch_of, sync_outcome_of}
-use Rattle.rb_laws_agreement.proofs.Tests.{Present, same_some}
+use Rattle.rb_rules.specs.SyncStage.{close_sync, expects_call, new_epoch_of}
+use Rattle.rb_laws_agreement.proofs.Tests.{Present}
 use Rattle.rb_laws_agreement.proofs.ExactAgrees.{has_ticks}
 use Rattle.rb_laws_agreement.proofs.Goodnesses.{good_before, good_below_16}
 use Rattle.rb_laws_agreement.proofs.Invariant.{IsGoodNode, Shared, is_good_now, slot_numbered}
@@ -30,7 +31,7 @@ use Rattle.rb_laws_events.proofs.TurnTicks.{not-yet}
 use Rattle.rb_laws_listener_learns.specs.Ears.{Ear, SendsIn, coming_to}
 use Rattle.rb_laws_listener_near.proofs.SyncTracks.{IsLike, like_sync, spares_sync}
 use Rattle.rb_laws_listener_follows.proofs.Arrivals.{none_collected, none_with_stamp}
-use Rattle.rb_laws_listener_follows.proofs.FirstCalls.{IsSpan, sense_span, span_closing, span_window}
+use Rattle.rb_laws_listener_follows.proofs.FirstCalls.{IsSpan, keeps_epoch, sense_span, span_closing, span_window}
 use Rattle.rb_laws_listener_follows.proofs.FollowerRuns.{ClosesWindow, IsWindow, Stands, closes_window, closing, collected}
 use Rattle.rb_laws_listener_follows.proofs.HeardExact.{Beside}
 use Rattle.rb_laws_listener_follows.proofs.HeardLast.{NextBegins, nothing_late}
@@ -77,10 +78,6 @@ pub record PassesLate (sc : Scenario) (hands : List HandIn) (ear : Ear) (n epoch
   pub epoch_is : now.epoch ≡ epoch
   pub known : new_epoch_of sc.plan Biu now ≡ Some next_epoch
 
-keeps_epoch : (sizes : Sizes) (st : NodeState) (stage first : ℕ) (sense : ℕ → Sense) → (close_sync sizes Biu st stage first sense).state.epoch ≡ st.epoch
-unfolding close_sync sync_outcome_of
-keeps_epoch sizes st stage first sense = refl
-
 pub passes_late : (sc : Scenario) (hands : List HandIn) (ear : Ear) (n epoch low : ℕ) (s : Shared) (q : ℕ) (ws : Windows sc (moment sc hands n) (sync_slot_of sc.sizes) (q + 1)) (st : NodeState) (a ticks next_epoch later : ℕ)
     → StandsLate sc hands ear n epoch low s st a next_epoch later → SyncSetting sc hands n (moment sc hands n) s q ws → IsDeaf sc hands ear n epoch st (q + 1) a ticks next_epoch
     → PassesLate sc hands ear n epoch st a ticks next_epoch
@@ -110,7 +107,7 @@ passes_late sc hands ear n epoch low s q ws st a ticks next_epoch later x set d 
     here =
         span_window sc st st (moment sc hands n).window (sync_slot_of sc.sizes) (q + 1) a ticks epoch d.span (has_ticks sc x.beside.law) x.epoch_is
         (not-yet sc.sizes sc.plan Biu st next_epoch (epoch + a) x.known (omega (arith, d.before, d.span.some)))
-        (λ y known. let same : next_epoch ≡ y = same_some next_epoch y (sym x.known ∙ known) in omega (arith, same, d.before)) (omega (arith, d.in_time, x.beside.is.ticks))
+        (λ y known. let same : next_epoch ≡ y = same_Some next_epoch y (sym x.known ∙ known) in omega (arith, same, d.before)) (omega (arith, d.in_time, x.beside.is.ticks))
 
     c : ClosesWindow sc ear st st (epoch + a) (ticks - 1)
     c = closes_window sc ear st st (epoch + a) (ticks - 1) here x.stands

@@ -1,6 +1,6 @@
 -- A listener closes the stages of a frame that it follows with their own ticks only.
 use Rattle.std.proofs.Common.{◌≡◌, ◌⊎◌, ℕ, suc, ◌+◌, ◌-◌, ◌^◌, ◌<◌, ◌≤◌, ◌==◌, Bool, true, false, List, [], ◌∷◌, find, cond, Option, Some, None, unwrap_or, slice_get, inl, inr, refl, sym, ◌∙◌, ap, subst, arith}
-use Rattle.std.proofs.lemmas.Bool.{cases_lt}
+use Rattle.std.proofs.lemmas.Bool.{cases_lt, eqb-true}
 use Rattle.rb_base.specs.Nodes.Side.{Biu}
 use Rattle.rb_base.specs.Sizes.{Sizes, sync_slot_of}
 use Rattle.rb_base.specs.declared.values.Place.{Place}
@@ -10,15 +10,15 @@ use Rattle.rb_rules.specs.declared.plan.Window.{Window}
 use Rattle.rb_rules.specs.declared.record.Epoch.{Epoch}
 use Rattle.rb_rules.specs.declared.sense.Sense.{Sense}
 use Rattle.rb_rules.specs.Core.{Core, act_on, is_last, of_source, state_at, window_here}
-use Rattle.rb_rules.specs.ExactStage.{Outcome, close_exact, outcome_of}
+use Rattle.rb_rules.specs.ExactStage.{Outcome, close_exact}
 use Rattle.rb_rules.specs.Goodness.{Scenario}
 use Rattle.rb_rules.specs.Hearing.{close_window, tail_at}
 use Rattle.rb_rules.specs.NodeState.{NodeState}
 use Rattle.rb_rules.specs.NodeSteps.{close, expect_of}
 use Rattle.rb_rules.specs.Sense.{sense_of}
-use Rattle.rb_rules.specs.SyncStage.{close_sync, sync_outcome_of}
+use Rattle.rb_rules.specs.SyncStage.{close_sync}
 use Rattle.rb_rules.specs.Windows.{holds_offset, window_at, windows_of_frame}
-use Rattle.rb_laws_agreement.proofs.Tests.{equal_from, true_or_false}
+use Rattle.rb_laws_agreement.proofs.Tests.{true_or_false}
 use Rattle.rb_listen.specs.Following.{follow}
 use Rattle.rb_listen.specs.Listening as now
 use Rattle.rb_listen.specs.declared.lesson.First.{First}
@@ -26,20 +26,13 @@ use Rattle.rb_listen.specs.declared.search.Search.{Search}
 use Rattle.rb_laws_listener_learns.specs.Ears.{Ear, listening_at, told_at}
 use Rattle.rb_laws_listener_follows.specs.Following.{IsItsTick}
 use Rattle.rb_laws_listener_follows.proofs.BeforeFirst.{Follows, later_follows}
-use Rattle.rb_laws_listener_follows.proofs.EpochsRise.{IsIn, IsSince, WaitsFirst, in_state, since}
+use Rattle.rb_laws_listener_follows.proofs.ClosesExact.{exact-place}
+use Rattle.rb_laws_listener_follows.proofs.EpochsRise.{IsIn, IsSince, WaitsFirst, in_state, same_core, since}
 use Rattle.rb_laws_listener_follows.proofs.FollowerRuns.{IsClosing, acts_by, closes_it}
+use Rattle.rb_laws_listener_follows.proofs.SeenPremise.{place_synced}
 use Rattle.rb_laws_listener_follows.proofs.SeenWindows.{quiet_act}
 
 -- ---- a close
-
-place_exact : (sizes : Sizes) (st : NodeState) (slot stage : ℕ) (sense : ℕ → Sense) → (close_exact sizes Biu 16 st slot stage sense).closed.place ≡ record { frame = st.frame; slot = slot; stage = stage }
-unfolding close_exact outcome_of
-place_exact sizes st slot stage sense = refl
-
-place_sync : (sizes : Sizes) (st : NodeState) (stage first : ℕ) (sense : ℕ → Sense)
-    → (close_sync sizes Biu st stage first sense).closed.place ≡ record { frame = st.frame; slot = sync_slot_of sizes; stage = stage }
-unfolding close_sync sync_outcome_of
-place_sync sizes st stage first sense = refl
 
 place_any : (sizes : Sizes) (st : NodeState) (slot stage first : ℕ) (sense : ℕ → Sense)
     → (close sizes Biu 16 st slot stage first sense).closed.place ≡ record { frame = st.frame; slot = slot; stage = stage }
@@ -48,8 +41,8 @@ place_any sizes st slot stage first sense = go (slot == sync_slot_of sizes) refl
     go : (b : Bool) → (slot == sync_slot_of sizes) ≡ b
         → (elim b as (λ _. Outcome) [ true ↦ close_sync sizes Biu st stage (st.epoch + first) sense | false ↦ close_exact sizes Biu 16 st slot stage sense ]).closed.place
         ≡ record { frame = st.frame; slot = slot; stage = stage }
-    go true e = place_sync sizes st stage (st.epoch + first) sense ∙ ap (λ k. record { frame = st.frame; slot = k; stage = stage }) (sym (equal_from slot (sync_slot_of sizes) e))
-    go false e = place_exact sizes st slot stage sense
+    go true e = place_synced sizes st stage (st.epoch + first) sense ∙ ap (λ k. record { frame = st.frame; slot = k; stage = stage }) (sym (eqb-true slot (sync_slot_of sizes) e))
+    go false e = exact-place sizes st slot stage sense
 
 -- the window that holds an offset is one of the frame's
 record FoundAt (xs : List Window) (x : Window) : Type 0 where
@@ -68,7 +61,7 @@ found_at p (y ∷ ys) x h = by (p y) h (λ e. found_at p ys x e)
 its_tick : (sizes : Sizes) (plan : Plan) (st : NodeState) (k frame epoch : ℕ) (x : Closed) → st.frame ≡ frame → st.epoch ≡ epoch → is_last sizes plan Biu st k ≡ true
     → x.place ≡ record { frame = st.frame; slot = (window_here sizes plan Biu st k).slot; stage = (window_here sizes plan Biu st k).stage } → x.place.stage ≤ 3
     → IsItsTick sizes plan frame epoch k x
-its_tick sizes plan st k frame epoch x frame_is epoch_is last place most = go (window_at sizes plan (k - st.epoch)) refl place (equal_from k (st.epoch + (window_here sizes plan Biu st k).last) last)
+its_tick sizes plan st k frame epoch x frame_is epoch_is last place most = go (window_at sizes plan (k - st.epoch)) refl place (eqb-true k (st.epoch + (window_here sizes plan Biu st k).last) last)
   where
     go : (o : Option Window) → window_at sizes plan (k - st.epoch) ≡ o
         → x.place ≡ record { frame = st.frame; slot = (unwrap_or o (tail_at sizes plan Biu st)).slot; stage = (unwrap_or o (tail_at sizes plan Biu st)).stage }
@@ -98,9 +91,6 @@ closed_by sizes plan c st x is =
     same_closed a b q = cc
 
 -- ---- all ticks
-
-same_core : (a b : Core) → now.Following a ≡ now.Following b → a ≡ b
-same_core a b q = cc
 
 -- it follows only after the first epoch
 follows_after : (sc : Scenario) (ear : Ear) (tick : ℕ) (s : Search) (first : First) → WaitsFirst sc ear tick s first → (k : ℕ) (core : Core) → k < ear.ticks → listening_at sc ear k ≡ now.Following core → first.epoch < k

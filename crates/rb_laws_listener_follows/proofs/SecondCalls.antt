@@ -1,33 +1,34 @@
 -- A listener in stage 2 of the sync slot takes the call of each RMU that is good there, with the stamp of its time.
-use Rattle.std.proofs.Common.{◌≡◌, ℕ, ◌+◌, ◌-◌, ◌*◌, ◌%◌, ◌<◌, ◌≤◌, ◌==◌, ◌&&◌, Bool, true, false, List, [], ◌∷◌, Option, Some, option_and_then, option_map, slice_get, refl, sym, ◌∙◌, ap, subst, arith}
-use Rattle.std.proofs.lemmas.Bool.Decides.{nat_tests}
+use Rattle.std.proofs.Common.{◌≡◌, ℕ, ◌+◌, ◌-◌, ◌*◌, ◌%◌, ◌<◌, ◌≤◌, ◌==◌, true, false, List, [], ◌∷◌, Option, Some, slice_get, refl, sym, ◌∙◌, ap, subst, arith}
+use Rattle.std.proofs.lemmas.Option.{same_Some}
 use Rattle.rb_base.specs.Nodes.{has}
 use Rattle.rb_base.specs.Nodes.Side.{Biu, Rmu}
-use Rattle.rb_base.specs.Sizes.{Sizes, sync_slot_of}
-use Rattle.rb_rules.specs.declared.plan.Plan.{Plan}
+use Rattle.rb_base.specs.Sizes.{sync_slot_of}
+use Rattle.rb_base.proofs.Plain.{all_four, eq_self}
 use Rattle.rb_rules.specs.declared.sense.Sense.TheVariants.{One}
 use Rattle.rb_rules.specs.Clock.{IsStamp, stamp_of}
 use Rattle.rb_rules.specs.Core.{of_source}
 use Rattle.rb_rules.specs.Goodness.{Scenario, is_good}
 use Rattle.rb_rules.specs.Hearing.{Coming, Sending, sending}
 use Rattle.rb_rules.specs.NodeState.{NodeState}
-use Rattle.rb_rules.specs.NodeSteps.{expect_of, message_said}
+use Rattle.rb_rules.specs.NodeSteps.{expect_of}
 use Rattle.rb_rules.specs.Plan.{f0_of, shortest_of}
 use Rattle.rb_rules.specs.Ports.{HandIn}
 use Rattle.rb_rules.specs.Rounds.{moment, sending_in, window_in}
 use Rattle.rb_rules.specs.Sense.{sense_of, stamp_in, suits}
 use Rattle.rb_rules.specs.Spelling.{IsMessage, spelling_of}
 use Rattle.rb_rules.specs.Standing.{taken_of}
-use Rattle.rb_rules.specs.SyncStage.{call_of, call_tick_of, expects_call, send_tick_of}
+use Rattle.rb_rules.specs.SyncStage.{call_of, call_tick_of, expects_call}
 use Rattle.rb_rules.proofs.Senses.{spelled_is_one}
+use Rattle.rb_rules.proofs.Slots.{few_slots}
 use Rattle.rb_rules.proofs.Stamps.{one_stamp, stamp_of-is}
-use Rattle.rb_laws_agreement.proofs.Tests.{same_some}
-use Rattle.rb_laws_agreement.proofs.Goodnesses.{few_slots, good_counts, slot_last}
+use Rattle.rb_laws_agreement.proofs.Goodnesses.{good_counts, slot_last}
 use Rattle.rb_laws_agreement.proofs.Invariant.{IsGoodNode, Shared}
 use Rattle.rb_laws_agreement.proofs.NodeWindows.{Windows, sync_windows_are, word_at}
 use Rattle.rb_laws_synchrony.proofs.PlanNumbers.{drift_of}
 use Rattle.rb_laws_synchrony.proofs.Times.{Steady}
 use Rattle.rb_laws_listener_learns.specs.Ears.{Ear, HearsTheRun, IsEar, IsHeard, IsOfGood, SendsIn, coming_to}
+use Rattle.rb_laws_listener_learns.proofs.Calling.{call-sending}
 use Rattle.rb_laws_listener_learns.proofs.Together.{steady-ear}
 use Rattle.rb_laws_listener_follows.proofs.Arrivals.{none_with_stamp, one_collected, one_with_stamp}
 use Rattle.rb_laws_listener_follows.proofs.FirstCalls.{sense_span}
@@ -65,22 +66,6 @@ sole_source sc hands ear is run first ticks j k c good from inside in_time low h
     here = subst (λ t. slice_get (ear.heard t) heard.nth ≡ Some c) (sym place) heard.there
 
 -- ---- a call
-
-same-number : (n : ℕ) → (n == n) ≡ true
-same-number n = grind (arith, nat_tests)
-
-call-sending : (sizes : Sizes) (plan : Plan) (j : ℕ) (st : NodeState) (word tick : ℕ) → call_tick_of sizes plan st 2 ≡ Some tick
-    → sending sizes plan Rmu j st (sync_slot_of sizes) 2 word ≡ Some (record { tick = tick; message = call_of sizes st 2 })
-unfolding sending
-call-sending sizes plan j st word tick at =
-    let here : (sync_slot_of sizes == sync_slot_of sizes) ≡ true = same-number (sync_slot_of sizes) in
-    let said : message_said sizes Rmu j st (sync_slot_of sizes) 2 word ≡ Some (call_of sizes st 2) = rw here refl in
-    let then : send_tick_of sizes plan st (sync_slot_of sizes) 2 ≡ Some tick = rw here at in
-    ap (option_and_then (λ m. option_map (λ tick. record { tick = tick; message = m }) (send_tick_of sizes plan st (sync_slot_of sizes) 2))) said
-    ∙ ap (option_map (λ tick. record { tick = tick; message = call_of sizes st 2 })) then
-
-all_four : (a b c d : Bool) → a ≡ true → b ≡ true → c ≡ true → d ≡ true → (a && b && c && d) ≡ true
-all_four a b c d p q r s = rw (p, q, r, s) refl
 
 -- what the listener takes of each RMU in stage 2
 abbrev pub taken_second : Scenario → Ear → ℕ → NodeState → ℕ → Option ℕ
@@ -142,9 +127,9 @@ takes_call sc hands ear n epoch low s b at in_time st frame j source tick there 
         (subst (λ r. is_good sc Rmu r (moment sc hands n).frame (sync_slot_of sc.sizes) ≡ true) (sym from) good)
         (epoch + (f + sc.plan.l) + i) (omega (arith, lt, in_time)) (record { nth = nth; there = is }) (omega arith) (omega (arith, lt)) in
         let own : SendsIn sc hands n j o.good.sending = subst (λ r. SendsIn sc hands n r o.good.sending) from (subst (λ r. SendsIn sc hands r d.from o.good.sending) o.here o.good.sent) in
-        let states : own.state ≡ sent.state = same_some own.state sent.state (sym own.good.0 ∙ sent.good.0) in
+        let states : own.state ≡ sent.state = same_Some own.state sent.state (sym own.good.0 ∙ sent.good.0) in
         let sending_is : o.good.sending ≡ x =
-        same_some o.good.sending x (sym own.sends ∙ ap (λ y. sending_in sc (moment sc hands n) Rmu j y (window_in sc (moment sc hands n) Rmu y)) states ∙ sent.sends) in
+        same_Some o.good.sending x (sym own.sends ∙ ap (λ y. sending_in sc (moment sc hands n) Rmu j y (window_in sc (moment sc hands n) Rmu y)) states ∙ sent.sends) in
         o.good.is ∙ ap (λ r. coming_to sc ear r (moment sc hands o.good.n).frame o.good.sending) from
         ∙ ap (λ r. coming_to sc ear j (moment sc hands r).frame o.good.sending) o.here ∙ ap (coming_to sc ear j (moment sc hands n).frame) sending_is in
         let list : of_source (collected sc.sizes ear.heard (epoch + (f + sc.plan.l)) sc.plan.v) j ≡ record { stamp = k; bytes = c.bytes } ∷ [] =
@@ -156,7 +141,7 @@ takes_call sc hands ear n epoch low s b at in_time st frame j source tick there 
         let frames : source.frame ≡ st.frame = (b.agree.nodes Rmu j source there).frame ∙ sym frame in
         let suited : suits (expect_of sc.sizes sc.plan.version st slot 2) (call_of sc.sizes source 2) ≡ true =
         all_four (source.frame % 65536 == st.frame % 65536) (slot == slot) (2 == 2) (slot == slot)
-        (ap (λ g. g % 65536 == st.frame % 65536) frames ∙ same-number (st.frame % 65536)) (same-number slot) refl (same-number slot) in
+        (ap (λ g. g % 65536 == st.frame % 65536) frames ∙ eq_self (st.frame % 65536)) (eq_self slot) refl (eq_self slot) in
         let sense : sense_span sc ear (epoch + (f + sc.plan.l)) sc.plan.v st slot 2 j ≡ One k (call_of sc.sizes source 2) =
         ap (sense_of (expect_of sc.sizes sc.plan.version st slot 2)) list
         ∙ spelled_is_one (expect_of sc.sizes sc.plan.version st slot 2) k c.bytes (call_of sc.sizes source 2) (fits, ap (spelling_of sc.plan.version) message) suited in

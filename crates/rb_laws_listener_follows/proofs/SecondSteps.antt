@@ -41,7 +41,7 @@ use Rattle.rb_laws_listener_near.proofs.ListenerNear.{IsCalled, SawTimes, calls_
 use Rattle.rb_laws_listener_near.proofs.NextEpochs.{MiddleIsNear}
 use Rattle.rb_laws_listener_near.proofs.SyncTracks.{tracks_sync}
 use Rattle.rb_laws_listener_near.proofs.Tracking.{Held, Tracks, stays_good}
-use Rattle.rb_laws_listener_follows.proofs.FirstCalls.{IsSpan, sense_span, span_closing, span_window}
+use Rattle.rb_laws_listener_follows.proofs.FirstCalls.{IsSpan, keeps_epoch, sense_span, span_closing, span_window}
 use Rattle.rb_laws_listener_follows.proofs.FollowerRuns.{ClosesWindow, IsWindow, Stands, closes_window, closing}
 use Rattle.rb_laws_listener_follows.proofs.HeardExact.{Beside, comes, ear_time}
 use Rattle.rb_laws_listener_follows.proofs.SecondCalls.{TakesCall, taken_second, takes_call}
@@ -114,10 +114,6 @@ keeps_second : (sizes : Sizes) (st : NodeState) (first middle : ℕ) (sense : �
     → (close_sync sizes Biu st 2 first sense).state.k2 ≡ Some middle
 unfolding close_sync sync_outcome_of
 keeps_second sizes st first middle sense found = ap (λ o. Some (unwrap_or o first)) found
-
-keeps_epoch : (sizes : Sizes) (st : NodeState) (stage first : ℕ) (sense : ℕ → Sense) → (close_sync sizes Biu st stage first sense).state.epoch ≡ st.epoch
-unfolding close_sync sync_outcome_of
-keeps_epoch sizes st stage first sense = refl
 
 -- with the last tick of stage 2 it knows when its next frame begins, and its middle is near those of the good BIUs
 pub record PassesSecond (sc : Scenario) (hands : List HandIn) (ear : Ear) (n epoch : ℕ) (st : NodeState) : Type 0 where

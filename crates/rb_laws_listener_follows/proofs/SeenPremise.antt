@@ -1,17 +1,16 @@
 -- In a frame after the one that it learned, a listener sees what it takes, and the premise with it is that of its windows.
-use Rattle.std.proofs.Common.{◌≡◌, ℕ, zero, suc, ◌+◌, ◌*◌, ◌<◌, ◌≤◌, ◌==◌, if◌then◌else◌, Bool, true, false, List, [], ◌∷◌, map, Option, Some, None, get_or, refl, sym, ◌∙◌, ap, subst, arith}
-use Rattle.std.proofs.lemmas.Bool.Decides.{nat_tests}
+use Rattle.std.proofs.Common.{◌≡◌, ℕ, suc, ◌+◌, ◌*◌, ◌<◌, ◌≤◌, ◌==◌, if◌then◌else◌, Bool, true, false, List, [], Option, None, get_or, refl, sym, ◌∙◌, ap, subst, arith}
+use Rattle.std.proofs.lemmas.Bool.{ltb-true}
 use Rattle.std.proofs.lemmas.List.FromFn.{get_or-map-range_with_len}
 use Rattle.rb_base.specs.Nodes.{set_of, size}
 use Rattle.rb_base.specs.Nodes.Side.{Biu, Rmu}
 use Rattle.rb_base.specs.Sizes.{Sizes, sync_slot_of}
-use Rattle.rb_base.specs.declared.values.Heard.{Heard}
 use Rattle.rb_base.specs.declared.values.See.{See}
 use Rattle.rb_base.specs.declared.values.See.TheVariants.{Nothing}
+use Rattle.rb_base.proofs.Plain.{less-differs, more-differs}
 use Rattle.rb_rules.specs.declared.sense.Sense.{Sense}
-use Rattle.rb_rules.specs.ExactStage.{Outcome, close_exact, each_node, outcome_of, see_value}
+use Rattle.rb_rules.specs.ExactStage.{Outcome, close_exact, each_node, see_value}
 use Rattle.rb_rules.specs.Goodness.{Scenario}
-use Rattle.rb_rules.specs.Hearing.{judged_see}
 use Rattle.rb_rules.specs.Judging.{JudgedStage}
 use Rattle.rb_rules.specs.Lawful.{IsLawful}
 use Rattle.rb_rules.specs.Moments.{IsRunning}
@@ -19,17 +18,19 @@ use Rattle.rb_rules.specs.NodeState.{NodeState}
 use Rattle.rb_rules.specs.NodeSteps.{close}
 use Rattle.rb_rules.specs.Ports.{HandIn}
 use Rattle.rb_rules.specs.Rounds.{moment, windows_in}
-use Rattle.rb_rules.specs.SyncStage.{close_sync, see_time, sync_outcome_of}
+use Rattle.rb_rules.specs.SyncStage.{close_sync, sync_outcome_of}
 use Rattle.rb_laws_agreement.proofs.ExactWindows.{take_at}
+use Rattle.rb_laws_agreement.proofs.Exchanges.{get-see}
 use Rattle.rb_laws_agreement.proofs.Invariant.{is_good_now}
+use Rattle.rb_laws_agreement.proofs.JudgedWindows.{judged_value}
 use Rattle.rb_laws_agreement.proofs.Numbers.{how_many, how_many-is, how_many-le}
-use Rattle.rb_laws_agreement.proofs.Tests.{less_from}
 use Rattle.rb_laws_listener_near.specs.Judged.{verdict_with}
 use Rattle.rb_laws_listener_near.proofs.Tracking.{MostStay, stays_good}
 use Rattle.rb_laws_listener_near.proofs.WindowSteps.{closed_by, closes_parts}
 use Rattle.rb_laws_listener_learns.specs.Ears.{Ear, HearsTheRun, is_always_good}
 use Rattle.rb_laws_listener_learns.specs.Receivers.{HoldsTo, call_time, seen_by, seen_closed, seen_in, seen_learned, stamp_seen, timed_see}
 use Rattle.rb_laws_listener_learns.proofs.TrustedSets.{good-at-moment}
+use Rattle.rb_laws_listener_follows.proofs.ClosesExact.{exact-place}
 use Rattle.rb_laws_listener_follows.proofs.ExactRuns.{GoesOn, goes_on}
 
 -- ---- the premise
@@ -38,14 +39,11 @@ use Rattle.rb_laws_listener_follows.proofs.ExactRuns.{GoesOn, goes_on}
 abbrev pub seen_following : Scenario → Ear → ℕ → ℕ → JudgedStage → Option (ℕ → See)
 seen_following sc ear frame window s = seen_closed sc ear frame (seen_by sc ear frame window ear.ticks)
 
-other_number : (a b : ℕ) → b < a → (a == b) ≡ false
-other_number a b h = grind (arith, nat_tests)
-
 following_verdict : (sc : Scenario) (ear : Ear) (learned frame : ℕ) (records : List Sense) (stages : List JudgedStage) → learned < frame → verdict_with (seen_in sc ear learned records frame) stages ≡ None
     → verdict_with (seen_following sc ear frame) stages ≡ None
 following_verdict sc ear learned frame records stages later h =
     subst (λ (b : Bool). verdict_with (λ window s. if b then seen_learned sc ear learned records window s else seen_closed sc ear frame (seen_by sc ear frame window ear.ticks)) stages ≡ None)
-    (other_number frame learned later) h
+    (more-differs frame learned later) h
 
 -- where it holds up to a moment after the first of a frame, it holds there of what the listener closed
 pub holds_following : (sc : Scenario) (hands : List HandIn) (ear : Ear) (learned : ℕ) (records : List Sense) (last : ℕ) → HoldsTo sc hands ear learned records last
@@ -60,7 +58,7 @@ pub most_stay : (sc : Scenario) (hands : List HandIn) (ear : Ear) → IsLawful s
     → MostStay sc (moment sc hands n)
 most_stay sc hands ear law run n inside running =
     let on : GoesOn sc hands n = goes_on sc hands n inside running in
-    let most : sc.sizes.rmus < 2 * how_many (is_always_good sc hands) = omega (arith, less_from sc.sizes.rmus (2 * size (set_of (is_always_good sc hands))) run.most_good, how_many-is (is_always_good sc hands)) in
+    let most : sc.sizes.rmus < 2 * how_many (is_always_good sc hands) = omega (arith, ltb-true sc.sizes.rmus (2 * size (set_of (is_always_good sc hands))) run.most_good, how_many-is (is_always_good sc hands)) in
     let le : how_many (is_always_good sc hands) ≤ how_many (stays_good sc (moment sc hands n)) =
     how_many-le (is_always_good sc hands) (stays_good sc (moment sc hands n)) (λ i below good.
     subst (λ m. is_good_now sc m Rmu i ≡ true) (sym on.next_is) (good-at-moment sc hands law i (suc n) running good)) in
@@ -69,7 +67,7 @@ most_stay sc hands ear law run n inside running =
 pub most_now : (sc : Scenario) (hands : List HandIn) (ear : Ear) → IsLawful sc → HearsTheRun sc hands ear → (n : ℕ) → IsRunning (moment sc hands n)
     → sc.sizes.rmus < 2 * how_many (is_good_now sc (moment sc hands n) Rmu)
 most_now sc hands ear law run n running =
-    let most : sc.sizes.rmus < 2 * how_many (is_always_good sc hands) = omega (arith, less_from sc.sizes.rmus (2 * size (set_of (is_always_good sc hands))) run.most_good, how_many-is (is_always_good sc hands)) in
+    let most : sc.sizes.rmus < 2 * how_many (is_always_good sc hands) = omega (arith, ltb-true sc.sizes.rmus (2 * size (set_of (is_always_good sc hands))) run.most_good, how_many-is (is_always_good sc hands)) in
     let le : how_many (is_always_good sc hands) ≤ how_many (is_good_now sc (moment sc hands n) Rmu) =
     how_many-le (is_always_good sc hands) (is_good_now sc (moment sc hands n) Rmu) (λ i below good. good-at-moment sc hands law i n running good) in
     omega (arith, most, le)
@@ -79,47 +77,22 @@ most_now sc hands ear law run n running =
 same_place : (j : ℕ) → 0 + j ≡ j
 same_place j = omega arith
 
-mapped_value : (taken : List (Option Heard)) (j : ℕ) → get_or (map see_value taken) j Nothing ≡ see_value (get_or taken j None)
-mapped_value [] j = refl
-mapped_value (x ∷ xs) zero = refl
-mapped_value (x ∷ xs) (suc j) = mapped_value xs j
-
-mapped_time : (taken : List (Option ℕ)) (j : ℕ) → get_or (map see_time taken) j Nothing ≡ see_time (get_or taken j None)
-mapped_time [] j = refl
-mapped_time (x ∷ xs) zero = refl
-mapped_time (x ∷ xs) (suc j) = mapped_time xs j
-
-value_stays : (time : ℕ) (o : Option Heard) → judged_see time (see_value o) ≡ see_value o
-value_stays time None = refl
-value_stays time (Some v) = refl
-
 -- of a window below the sync slot
 pub sees_values : (sc : Scenario) (ear : Ear) (frame slot stage first : ℕ) (st : NodeState) (sense : ℕ → Sense) → slot < sync_slot_of sc.sizes → (j : ℕ) → j < 16
     → timed_see sc ear frame j (get_or (closed_by sc slot stage first st sense).closed.sees j Nothing) ≡ see_value (take_at sc.sizes Biu st slot stage sense j)
 sees_values sc ear frame slot stage first st sense below j small =
     let is : get_or (closed_by sc slot stage first st sense).closed.sees j Nothing ≡ see_value (take_at sc.sizes Biu st slot stage sense j) =
     ap (λ l. get_or l j Nothing) (closes_parts sc slot stage first st sense below).sees
-    ∙ mapped_value (each_node (take_at sc.sizes Biu st slot stage sense)) j
+    ∙ get-see (each_node (take_at sc.sizes Biu st slot stage sense)) j
     ∙ ap see_value (get_or-map-range_with_len (take_at sc.sizes Biu st slot stage sense) 0 16 j j None small (same_place j)) in
-    ap (timed_see sc ear frame j) is ∙ value_stays (call_time sc ear frame j (stamp_seen (see_value (take_at sc.sizes Biu st slot stage sense j)))) (take_at sc.sizes Biu st slot stage sense j)
-
--- of stage 2 of the sync slot
-pub sees_times : (taken : ℕ → Option ℕ) (j : ℕ) → j < 16 → get_or (map see_time (each_node taken)) j Nothing ≡ see_time (taken j)
-sees_times taken j small = mapped_time (each_node taken) j ∙ ap see_time (get_or-map-range_with_len taken 0 16 j j None small (same_place j))
+    ap (timed_see sc ear frame j) is ∙ judged_value (call_time sc ear frame j (stamp_seen (see_value (take_at sc.sizes Biu st slot stage sense j)))) (take_at sc.sizes Biu st slot stage sense j)
 
 -- ---- its place
-
-exact_place : (sizes : Sizes) (st : NodeState) (slot stage : ℕ) (sense : ℕ → Sense) → (close_exact sizes Biu 16 st slot stage sense).closed.place ≡ record { frame = st.frame; slot = slot; stage = stage }
-unfolding close_exact outcome_of
-exact_place sizes st slot stage sense = refl
-
-not_sync : (slot sync : ℕ) → slot < sync → (slot == sync) ≡ false
-not_sync slot sync h = grind (arith, nat_tests)
 
 pub place_closed : (sizes : Sizes) (st : NodeState) (slot stage first : ℕ) (sense : ℕ → Sense) → slot < sync_slot_of sizes
     → (close sizes Biu 16 st slot stage first sense).closed.place ≡ record { frame = st.frame; slot = slot; stage = stage }
 place_closed sizes st slot stage first sense below =
-    ap (λ x. x.closed.place) (go (slot == sync_slot_of sizes) (not_sync slot (sync_slot_of sizes) below)) ∙ exact_place sizes st slot stage sense
+    ap (λ x. x.closed.place) (go (slot == sync_slot_of sizes) (less-differs slot (sync_slot_of sizes) below)) ∙ exact-place sizes st slot stage sense
   where
     go : (b : Bool) → b ≡ false
         → (elim b as (λ _. Outcome) [ true ↦ close_sync sizes Biu st stage (st.epoch + first) sense | false ↦ close_exact sizes Biu 16 st slot stage sense ])

@@ -1,9 +1,10 @@
 -- What a listener that follows has closed: with the last tick of a window this window, and before it nothing.
 use Rattle.std.proofs.Common.{◌≡◌, ◌⊎◌, ℕ, zero, suc, ◌+◌, ◌/◌, ◌%◌, ◌<◌, ◌≤◌, ◌==◌, ◌&&◌, Bool, true, false, Option, Some, None, [], inl, inr, refl, sym, ◌∙◌, ap, arith}
 use Rattle.std.specs.Option.{option_or}
-use Rattle.std.proofs.lemmas.Bool.Decides.{nat_tests}
+use Rattle.std.proofs.lemmas.Bool.{eq-eqb, eqb-true, false_from_ne_true}
 use Rattle.rb_base.specs.Nodes.Side.{Biu}
 use Rattle.rb_base.specs.Sizes.{Sizes}
+use Rattle.rb_base.proofs.Plain.{and_first, and_second}
 use Rattle.rb_rules.specs.declared.closing.Closed.{Closed}
 use Rattle.rb_rules.specs.declared.plan.Plan.{Plan}
 use Rattle.rb_rules.specs.Core.{Act, Core, act_on, epoch_at, is_last, of_source, window_here}
@@ -13,7 +14,6 @@ use Rattle.rb_rules.specs.Hearing.{close_window}
 use Rattle.rb_rules.specs.NodeState.{NodeState}
 use Rattle.rb_laws_listener_learns.specs.Ears.{Ear}
 use Rattle.rb_laws_listener_learns.specs.Receivers.{closing_at, closing_in, if_window, is_window, seen_by}
-use Rattle.rb_laws_agreement.proofs.Tests.{and_first, and_second, equal_from, so_not}
 use Rattle.rb_laws_listener_follows.proofs.FollowerRuns.{ClosesWindow, IsWindow, Stands, acts_by, closing, core_in, follows_window, state-in}
 
 -- ---- one tick
@@ -87,9 +87,6 @@ IsFrom frame w g v = (frame < g) ⊎ ((frame ≡ g) × (w ≤ v))
 abbrev pub NoneSeen : Scenario → Ear → ℕ → ℕ → ℕ → Type 0
 NoneSeen sc ear frame w k = (g v : ℕ) → IsFrom frame w g v → seen_by sc ear g v k ≡ None
 
-same_test : (a b : ℕ) → a ≡ b → (a == b) ≡ true
-same_test a b e = grind (arith, nat_tests, e)
-
 three_tests : (a b c : Bool) → a ≡ true → b ≡ true → c ≡ true → (a && b && c) ≡ true
 three_tests a b c p q r = rw (p, q, r) refl
 
@@ -99,19 +96,19 @@ IsPlaceOf c frame w = c.place ≡ record { frame = frame; slot = w / 3; stage = 
 
 is_this : (c : Closed) (frame w : ℕ) → IsPlaceOf c frame w → is_window frame w (Some c) ≡ true
 is_this c frame w is =
-    three_tests (c.place.frame == frame) (c.place.slot == w / 3) (c.place.stage == w % 3 + 1) (same_test c.place.frame frame (ap (λ p. p.frame) is))
-    (same_test c.place.slot (w / 3) (ap (λ p. p.slot) is)) (same_test c.place.stage (w % 3 + 1) (ap (λ p. p.stage) is))
+    three_tests (c.place.frame == frame) (c.place.slot == w / 3) (c.place.stage == w % 3 + 1) (eq-eqb c.place.frame frame (ap (λ p. p.frame) is))
+    (eq-eqb c.place.slot (w / 3) (ap (λ p. p.slot) is)) (eq-eqb c.place.stage (w % 3 + 1) (ap (λ p. p.stage) is))
 
 -- it is no other
 is_other : (c : Closed) (frame w g v : ℕ) → IsPlaceOf c frame w → IsFrom frame (w + 1) g v → is_window g v (Some c) ≡ false
-is_other c frame w g v is later = so_not (is_window g v (Some c)) (λ h. differs h later)
+is_other c frame w g v is later = false_from_ne_true (is_window g v (Some c)) (λ h. differs h later)
   where
     differs : ((c.place.frame == g) && (c.place.slot == v / 3) && (c.place.stage == v % 3 + 1)) ≡ true → IsFrom frame (w + 1) g v → ⊥
     differs h later =
         let front : ((c.place.frame == g) && (c.place.slot == v / 3)) ≡ true = and_first ((c.place.frame == g) && (c.place.slot == v / 3)) (c.place.stage == v % 3 + 1) h in
-        let f : c.place.frame ≡ g = equal_from c.place.frame g (and_first (c.place.frame == g) (c.place.slot == v / 3) front) in
-        let s : c.place.slot ≡ v / 3 = equal_from c.place.slot (v / 3) (and_second (c.place.frame == g) (c.place.slot == v / 3) front) in
-        let t : c.place.stage ≡ v % 3 + 1 = equal_from c.place.stage (v % 3 + 1) (and_second ((c.place.frame == g) && (c.place.slot == v / 3)) (c.place.stage == v % 3 + 1) h) in
+        let f : c.place.frame ≡ g = eqb-true c.place.frame g (and_first (c.place.frame == g) (c.place.slot == v / 3) front) in
+        let s : c.place.slot ≡ v / 3 = eqb-true c.place.slot (v / 3) (and_second (c.place.frame == g) (c.place.slot == v / 3) front) in
+        let t : c.place.stage ≡ v % 3 + 1 = eqb-true c.place.stage (v % 3 + 1) (and_second ((c.place.frame == g) && (c.place.slot == v / 3)) (c.place.stage == v % 3 + 1) h) in
         let f2 : c.place.frame ≡ frame = ap (λ p. p.frame) is in
         let s2 : c.place.slot ≡ w / 3 = ap (λ p. p.slot) is in
         let t2 : c.place.stage ≡ w % 3 + 1 = ap (λ p. p.stage) is in

@@ -1,13 +1,12 @@
 -- A follower in a window below the sync slot senses of each RMU that stays good what that one says.
-use Rattle.std.proofs.Common.{◌≡◌, ℕ, zero, suc, ◌+◌, ◌-◌, ◌*◌, ◌^◌, ◌<◌, ◌≤◌, ◌==◌, true, false, List, [], ◌∷◌, Option, Some, None, option_and_then, option_map, slice_get, refl, sym, ◌∙◌, ap, subst, arith}
+use Rattle.std.proofs.Common.{◌≡◌, ℕ, zero, suc, ◌+◌, ◌-◌, ◌*◌, ◌^◌, ◌<◌, ◌≤◌, ◌==◌, true, false, List, [], ◌∷◌, Option, Some, None, option_map, slice_get, refl, sym, ◌∙◌, ap, subst, arith}
 use Rattle.std.specs.Prelude.{IfSome}
-use Rattle.std.proofs.lemmas.Bool.Decides.{nat_tests}
-use Rattle.rb_base.specs.Nodes.{Side}
+use Rattle.std.proofs.lemmas.Option.{same_Some}
 use Rattle.rb_base.specs.Nodes.Side.{Rmu}
-use Rattle.rb_base.specs.Sizes.{Sizes, sync_slot_of}
+use Rattle.rb_base.specs.Sizes.{sync_slot_of}
 use Rattle.rb_base.specs.declared.values.Heard.{Heard}
+use Rattle.rb_base.proofs.Plain.{less-differs}
 use Rattle.rb_rules.specs.declared.message.Message.{Message}
-use Rattle.rb_rules.specs.declared.plan.Plan.{Plan}
 use Rattle.rb_rules.specs.declared.sense.Expect.{Expect}
 use Rattle.rb_rules.specs.declared.sense.Sense.{Sense}
 use Rattle.rb_rules.specs.Clock.{IsStamp, stamp_of}
@@ -16,22 +15,21 @@ use Rattle.rb_rules.specs.ExactStage.{message_of, says}
 use Rattle.rb_rules.specs.Goodness.{Scenario, is_good}
 use Rattle.rb_rules.specs.Hearing.{Coming, Sending, sending}
 use Rattle.rb_rules.specs.NodeState.{NodeState}
-use Rattle.rb_rules.specs.NodeSteps.{expect_of, message_said}
+use Rattle.rb_rules.specs.NodeSteps.{expect_of}
 use Rattle.rb_rules.specs.Plan.{shortest_of}
 use Rattle.rb_rules.specs.Ports.{HandIn}
-use Rattle.rb_rules.specs.Rounds.{Moment, after_window, moment, sending_in, window_in}
+use Rattle.rb_rules.specs.Rounds.{Moment, after_window, moment, sending_in}
 use Rattle.rb_rules.specs.Sense.{Arrival, sense_of}
 use Rattle.rb_rules.specs.Spelling.{spelling_of}
-use Rattle.rb_rules.specs.SyncStage.{send_tick_of}
 use Rattle.rb_rules.specs.Windows.{send_offset_of}
 use Rattle.rb_rules.proofs.Senses.{IsCarried, spelled_is_one, value_is_message, value_suits}
+use Rattle.rb_rules.proofs.Slots.{few_slots}
 use Rattle.rb_rules.proofs.Stamps.{one_stamp, stamp_of-is}
-use Rattle.rb_laws_agreement.proofs.Tests.{same_some}
 use Rattle.rb_laws_agreement.proofs.ExactWindows.{IsSenseOf}
 use Rattle.rb_laws_agreement.proofs.FirstStages.{carried_1}
-use Rattle.rb_laws_agreement.proofs.Goodnesses.{few_slots, good_counts, slot_here}
+use Rattle.rb_laws_agreement.proofs.Goodnesses.{good_counts, slot_here}
 use Rattle.rb_laws_agreement.proofs.Invariant.{IsGoodNode, Shared, slot_numbered}
-use Rattle.rb_laws_agreement.proofs.NodeWindows.{IsOne, Windows, exact_windows, word_at}
+use Rattle.rb_laws_agreement.proofs.NodeWindows.{IsOne, Windows, exact_windows, sending-none, sending-some, word_at}
 use Rattle.rb_laws_agreement.proofs.SecondStages.{carried_2}
 use Rattle.rb_laws_agreement.proofs.Settings.{AllCarried, Setting}
 use Rattle.rb_laws_agreement.proofs.ThirdStages.{carried_3}
@@ -39,6 +37,7 @@ use Rattle.rb_laws_synchrony.proofs.PlanNumbers.{drift_of}
 use Rattle.rb_laws_synchrony.proofs.Times.{Steady}
 use Rattle.rb_laws_listener_learns.specs.Ears.{Ear, IsHeard, IsOfGood, SendsIn, coming_to}
 use Rattle.rb_laws_listener_learns.proofs.CallsSent.{sends-at}
+use Rattle.rb_laws_listener_learns.proofs.Moments.{same-sent}
 use Rattle.rb_laws_listener_learns.proofs.Together.{steady-ear}
 use Rattle.rb_laws_listener_near.proofs.Tracking.{Senses}
 use Rattle.rb_laws_listener_follows.proofs.Arrivals.{none_collected, none_with_stamp, one_collected, one_with_stamp}
@@ -51,29 +50,6 @@ carried sc hands n m s slot zero c = carried_1 sc hands n m s slot c
 carried sc hands n m s slot (suc zero) c = carried_2 sc hands n m s slot c
 carried sc hands n m s slot (suc (suc zero)) c = carried_3 sc hands n m s slot c
 carried sc hands n m s slot (suc (suc (suc q))) c = let small : suc (suc (suc q)) < 3 = c.small in absurd (omega arith)
-
-not-sync : (slot sync : ℕ) → slot < sync → (slot == sync) ≡ false
-not-sync slot sync h = grind (arith, nat_tests)
-
-sending-some : (sizes : Sizes) (plan : Plan) (me : Side) (j : ℕ) (st : NodeState) (slot stage word tick : ℕ) (message : Message)
-    → message_said sizes me j st slot stage word ≡ Some message → send_tick_of sizes plan st slot stage ≡ Some tick
-    → sending sizes plan me j st slot stage word ≡ Some (record { tick = tick; message = message })
-unfolding sending
-sending-some sizes plan me j st slot stage word tick message is at =
-    ap (option_and_then (λ m. option_map (λ tick. record { tick = tick; message = m }) (send_tick_of sizes plan st slot stage))) is
-    ∙ ap (option_map (λ tick. record { tick = tick; message = message })) at
-
-none-said : (sizes : Sizes) (plan : Plan) (me : Side) (j : ℕ) (st : NodeState) (slot stage word : ℕ)
-    → message_said sizes me j st slot stage word ≡ None → sending sizes plan me j st slot stage word ≡ None
-unfolding sending
-none-said sizes plan me j st slot stage word none =
-    ap (option_and_then (λ m. option_map (λ tick. record { tick = tick; message = m }) (send_tick_of sizes plan st slot stage))) none
-
--- an RMU sends one message in a window
-pub same-sent : (sc : Scenario) (hands : List HandIn) (n j : ℕ) (s t : Sending) → SendsIn sc hands n j s → SendsIn sc hands n j t → s ≡ t
-same-sent sc hands n j s t a b =
-    let states : a.state ≡ b.state = same_some a.state b.state (sym a.good.0 ∙ b.good.0) in
-    same_some s t (sym a.sends ∙ ap (λ st. sending_in sc (moment sc hands n) Rmu j st (window_in sc (moment sc hands n) Rmu st)) states ∙ b.sends)
 
 -- all that comes with the stamps of the window's ticks
 abbrev pub inbox_of : Scenario → Ear → ℕ → ℕ → List (ℕ × Arrival)
@@ -103,7 +79,7 @@ senses_exact sc hands ear n epoch low s slot q b c st frame in_time j source the
     ws = exact_windows sc (moment sc hands n) slot q c.below c.small c.at
 
     away : (slot == sync_slot_of sc.sizes) ≡ false
-    away = not-sync slot (sync_slot_of sc.sizes) c.below
+    away = less-differs slot (sync_slot_of sc.sizes) c.below
 
     good : is_good sc Rmu j (moment sc hands n).frame (slot_numbered sc.sizes ((moment sc hands n).window + 1)) ≡ true
     good = stays
@@ -134,13 +110,13 @@ senses_exact sc hands ear n epoch low s slot q b c st frame in_time j source the
         → IsSenseOf (sense_heard sc ear epoch (moment sc hands n).window st slot (q + 1) j) source slot (q + 1) said
     by None saying =
         let silent : sending sc.sizes sc.plan Rmu j source slot (q + 1) (word_at sc (moment sc hands n) slot j) ≡ None =
-        none-said sc.sizes sc.plan Rmu j source slot (q + 1) (word_at sc (moment sc hands n) slot j) (rw away (ap (option_map (message_of source slot (q + 1))) saying)) in
+        sending-none sc.sizes sc.plan Rmu j source slot (q + 1) (word_at sc (moment sc hands n) slot j) (rw away (ap (option_map (message_of source slot (q + 1))) saying)) in
         let nothing : of_source (inbox_of sc ear epoch (moment sc hands n).window) j ≡ [] =
         none_collected sc.sizes ear.heard (epoch + (moment sc hands n).window * sc.plan.l) sc.plan.l j (λ i lt.
         none_with_stamp sc.sizes (epoch + (moment sc hands n).window * sc.plan.l + i) (ear.heard (epoch + (moment sc hands n).window * sc.plan.l + i)) j (λ nth d is from.
         let o : IsOwn sc hands ear n d = own i lt nth d is from in
         let sent : SendsIn sc hands n j o.good.sending = own_sends d o from in
-        let states : sent.state ≡ source = same_some sent.state source (sym sent.good.0 ∙ there.there) in
+        let states : sent.state ≡ source = same_Some sent.state source (sym sent.good.0 ∙ there.there) in
         let both : None ≡ Some o.good.sending =
         sym silent ∙ ap (λ x. sending sc.sizes sc.plan Rmu j x slot (q + 1) (word_at sc (moment sc hands n) slot j)) (sym states)
         ∙ sends-at sc hands n j o.good.sending sent slot (q + 1) ws in

@@ -22,7 +22,7 @@ use Rattle.rb_laws_agreement.proofs.ExactAgrees.{has_ticks}
 use Rattle.rb_laws_agreement.proofs.Invariant.{Shared}
 use Rattle.rb_laws_agreement.proofs.Places.{running_earlier}
 use Rattle.rb_laws_agreement.proofs.SyncAgrees.{stage_setting}
-use Rattle.rb_laws_synchrony.proofs.CallSights.{stages_with}
+use Rattle.rb_laws_synchrony.proofs.CallSights.{get-see, stages_with}
 use Rattle.rb_laws_listener_near.specs.Judged.{verdict_with}
 use Rattle.rb_laws_listener_near.proofs.ListenerNear.{SawTimes}
 use Rattle.rb_laws_listener_learns.specs.Ears.{Ear}
@@ -35,7 +35,7 @@ use Rattle.rb_laws_listener_follows.proofs.FirstCalls.{IsSpan, PassesFirst, firs
 use Rattle.rb_laws_listener_follows.proofs.FollowerRuns.{ClosesWindow, IsWindow, Stands, closes_window, closing}
 use Rattle.rb_laws_listener_follows.proofs.SecondCalls.{taken_second}
 use Rattle.rb_laws_listener_follows.proofs.SecondSteps.{PassesSecond, StandsSecond, passes_second, second_span}
-use Rattle.rb_laws_listener_follows.proofs.SeenPremise.{holds_following, most_now, place_synced, seen_following, sees_times}
+use Rattle.rb_laws_listener_follows.proofs.SeenPremise.{holds_following, most_now, place_synced, seen_following}
 use Rattle.rb_laws_listener_follows.proofs.SeenWindows.{IsPlaceOf, NoneSeen, SeesWindow, seen_stays, sees_window}
 use Rattle.rb_laws_listener_follows.proofs.SyncRuns.{held_in_sync, stands_second}
 
@@ -269,7 +269,7 @@ through_second sc hands ear learned records f last epoch low h x complete le = r
       sight = λ j. timed_see sc ear (suc f) j (get_or c.sees j Nothing);
       here = ap (λ k. seen_closed sc ear (suc f) (seen_by sc ear (suc f) k ear.ticks)) number ∙ ap (seen_closed sc ear (suc f)) seen_end;
       is = λ j small.
-          ap (timed_see sc ear (suc f) j) (ap (λ l. get_or l j Nothing) (sees_second sc.sizes x.st (x.st.epoch + (f0 + sc.plan.l)) sense) ∙ sees_times (taken_second sc ear epoch x.st) j small)
+          ap (timed_see sc ear (suc f) j) (ap (λ l. get_or l j Nothing) (sees_second sc.sizes x.st (x.st.epoch + (f0 + sc.plan.l)) sense) ∙ get-see (taken_second sc ear epoch x.st) j small)
           ∙ ap (λ g. timed_see sc ear g j (see_time (taken_second sc ear epoch x.st j))) (sym frame);
     }
 

@@ -1,7 +1,7 @@
 -- What a listener that follows tells with a tick.
-use Rattle.std.proofs.Common.{◌≡◌, ℕ, ◌+◌, ◌^◌, ◌<◌, ◌==◌, ◌&&◌, not, nat_lt, Bool, true, false, Option, Some, None, [], refl, sym, ◌∙◌, ap, arith}
+use Rattle.std.proofs.Common.{◌≡◌, ℕ, ◌+◌, ◌^◌, ◌<◌, ◌&&◌, not, nat_lt, Bool, true, false, Option, Some, None, [], refl, sym, ◌∙◌, ap}
 use Rattle.std.specs.Option.{option_and_then}
-use Rattle.std.proofs.lemmas.Bool.Decides.{nat_tests}
+use Rattle.std.proofs.lemmas.Bool.{eq-eqb}
 use Rattle.rb_base.specs.Nodes.{Side, has, set_of}
 use Rattle.rb_base.specs.Nodes.Side.{Biu, Rmu}
 use Rattle.rb_base.specs.Sizes.{Sizes}
@@ -44,10 +44,6 @@ pub tells_epoch : (sc : Scenario) (ear : Ear) (k : ℕ) (c : Core) (st : NodeSta
 tells_epoch sc ear k c st is below at =
     ap (λ x. x.heed.epoch) is ∙ ap (λ a. a.epoch) (acts_by sc.sizes sc.plan c st below at) ∙ act-epoch sc.sizes sc.plan c st
 
-pub heeds_follow : (sc : Scenario) (ear : Ear) (k : ℕ) (c : Core) → listening_at sc ear k ≡ now.Following c → heed sc.sizes sc.plan (listening_at sc ear k) ≡ followed (follow sc.sizes sc.plan c)
-unfolding heed
-heeds_follow sc ear k c is = ap (heed sc.sizes sc.plan) is
-
 -- what the window delivers that it closes
 pub tells_close : (sc : Scenario) (ear : Ear) (k : ℕ) (core : Core) (x : Closed) → listening_at sc ear k ≡ now.Following core → (follow sc.sizes sc.plan core).closed ≡ Some x
     → (told_at sc ear k).delivered ≡ x.delivered
@@ -55,15 +51,12 @@ unfolding heed
 tells_close sc ear k core x is closed =
     ap (λ l. (heed sc.sizes sc.plan l).heed.delivered) is ∙ ap (option_and_then (λ (c : Closed). c.delivered)) closed
 
-same : (a b : ℕ) → a ≡ b → (a == b) ≡ true
-same a b e = grind (arith, nat_tests, e)
-
 -- where it begins the frame in a state with the trusted nodes of another one, it tells what a node in that state does
 pub tells_frame : (sc : Scenario) (ear : Ear) (frame tick : ℕ) (st : NodeState) → (told_at sc ear tick).epoch ≡ epoch_at sc.sizes Biu st tick → st.frame ≡ frame → st.epoch ≡ tick
     → (me : Side) (b : NodeState) → st.near ≡ trusted_of Biu me b → st.far.trusted ≡ trusted_of Rmu me b → (told_at sc ear tick).epoch ≡ Some (epoch_with sc frame tick me b)
 tells_frame sc ear frame tick st told frame_is epoch_is me b near far =
     told
-    ∙ ap (λ (t : Bool). elim t as (λ _. Option Epoch) [ true ↦ Some (epoch_of sc.sizes Biu st) | false ↦ None ]) (same st.epoch tick epoch_is)
+    ∙ ap (λ (t : Bool). elim t as (λ _. Option Epoch) [ true ↦ Some (epoch_of sc.sizes Biu st) | false ↦ None ]) (eq-eqb st.epoch tick epoch_is)
     ∙ ap (λ f. Some (record { frame = f; tick = st.epoch; biu = convicted_of sc.sizes Biu Biu st; rmu = convicted_of sc.sizes Rmu Biu st })) frame_is
     ∙ ap (λ k. Some (record { frame = frame; tick = k; biu = convicted_of sc.sizes Biu Biu st; rmu = convicted_of sc.sizes Rmu Biu st })) epoch_is
     ∙ ap (λ set. Some (record { frame = frame; tick = tick; biu = left Biu set; rmu = convicted_of sc.sizes Rmu Biu st })) (near ∙ sym (trusted-either me Biu b))

@@ -15,8 +15,8 @@ use Rattle.rb_laws_listener_learns.specs.Ears.{Ear, listening_at, told_at}
 use Rattle.rb_laws_listener_learns.proofs.FrameStages.{first_of_frame}
 use Rattle.rb_laws_listener_follows.specs.Following.{epoch_with}
 use Rattle.rb_laws_listener_follows.proofs.ExactPasses.{StandsAt}
-use Rattle.rb_laws_listener_follows.proofs.FollowerRuns.{Stands, arrivals, hears_all}
-use Rattle.rb_laws_listener_follows.proofs.Tellings.{heeds_follow, tells_epoch, tells_frame}
+use Rattle.rb_laws_listener_follows.proofs.FollowerRuns.{Stands, arrivals, hears_all, heeds_core}
+use Rattle.rb_laws_listener_follows.proofs.Tellings.{tells_epoch, tells_frame}
 use Rattle.rb_laws_listener_follows.proofs.TurnSets.{HoldsSets}
 
 pub tells_at : (sc : Scenario) (hands : List HandIn) (ear : Ear) (f epoch low : ℕ) → StandsAt sc hands ear (suc f) 0 epoch low → epoch < ear.ticks
@@ -66,4 +66,4 @@ tells_at sc hands ear f epoch low x in_time me i b good =
     turned = subst (λ k. state_at sc.sizes sc.plan Biu x.before k ≡ x.st) here x.abides.turns
 
     told : (told_at sc ear epoch).epoch ≡ epoch_at sc.sizes Biu x.st epoch
-    told = tells_epoch sc ear epoch c x.st (heeds_follow sc ear epoch c follows) below turned
+    told = tells_epoch sc ear epoch c x.st (heeds_core sc ear epoch c follows) below turned

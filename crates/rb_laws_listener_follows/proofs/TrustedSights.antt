@@ -5,6 +5,7 @@ use Rattle.rb_base.specs.Nodes.{Side, has, set_of}
 use Rattle.rb_base.specs.Nodes.Side.{Biu, Rmu}
 use Rattle.rb_base.specs.declared.values.See.{See}
 use Rattle.rb_base.specs.declared.values.See.TheVariants.{Nothing}
+use Rattle.rb_base.proofs.Plain.{and-same}
 use Rattle.rb_base.proofs.Sets.{same_set_of}
 use Rattle.rb_rules.specs.Judging.{JudgedStage, are_alike, cause_of, good_now, is_something, is_suspect, some_receiver, trusted_now, was_taken, was_unlike}
 use Rattle.rb_laws_listener_near.specs.Judged.{classes_with, heard_stages, is_asymmetric_with, is_benign_with, took_of, unlike_some, verdict_with, was_taken_with, was_unlike_with}
@@ -59,10 +60,6 @@ unlike-list set seen kind j h (s ∷ earlier) =
 in-set : (set : ℕ) (stages : List JudgedStage) → AllIn set stages → (kind : Side) (j : ℕ) → is_suspect kind stages j ≡ true → InSet set kind j
 in-set set stages all Biu j s = refl
 in-set set stages all Rmu j s = all j s
-
-and-same : (a x y : Bool) → (a ≡ true → x ≡ y) → (a && x) ≡ (a && y)
-and-same true x y h = h refl
-and-same false x y h = refl
 
 two-same : (a x y u v : Bool) → (a ≡ true → x ≡ y) → (a ≡ true → u ≡ v) → (a && not x && not u) ≡ (a && not y && not v)
 two-same true x y u v h k = ap (λ b. not b && not u) (h refl) ∙ ap (λ b. not y && not b) (k refl)

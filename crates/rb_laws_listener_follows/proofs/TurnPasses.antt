@@ -1,8 +1,10 @@
 -- From the end of the sync slot a listener comes through the tail, which may be empty, to the first window of its next frame.
 use Rattle.std.proofs.Common.{◌≡◌, ℕ, suc, ◌+◌, ◌-◌, ◌*◌, ◌/◌, ◌%◌, ◌<◌, ◌≤◌, ◌==◌, ◌&&◌, true, false, List, Option, Some, None, unwrap_or, inl, inr, refl, sym, ◌∙◌, ap, subst, arith}
-use Rattle.std.proofs.lemmas.Bool.{cases_lt}
+use Rattle.std.proofs.lemmas.Bool.{cases_lt, eqb-true, false_from_ne_true}
+use Rattle.std.proofs.lemmas.Option.{same_Some}
 use Rattle.rb_base.specs.Nodes.Side.{Biu}
 use Rattle.rb_base.specs.Sizes.{sync_slot_of}
+use Rattle.rb_base.proofs.Plain.{and_second}
 use Rattle.rb_rules.specs.declared.closing.Closed.{Closed}
 use Rattle.rb_rules.specs.declared.sense.Sense.{Sense}
 use Rattle.rb_rules.specs.Conviction.{turn}
@@ -27,7 +29,6 @@ use Rattle.rb_laws_agreement.proofs.NodeWindows.{tail_windows}
 use Rattle.rb_laws_agreement.proofs.Places.{running_earlier}
 use Rattle.rb_laws_agreement.proofs.SlotRuns.{next-frame, next-window}
 use Rattle.rb_laws_agreement.proofs.SyncAgrees.{SyncSetting, agree_sync, tail_setting}
-use Rattle.rb_laws_agreement.proofs.Tests.{and_second, equal_from, same_some, so_not}
 use Rattle.rb_laws_events.proofs.TurnTicks.{not-yet}
 use Rattle.rb_laws_synchrony.proofs.LastStage.{near_tail}
 use Rattle.rb_laws_synchrony.proofs.Synchronous.{Synchronous}
@@ -53,8 +54,8 @@ use Rattle.rb_laws_listener_follows.proofs.TurnSets.{HoldsSets, turned_sets}
 -- the tail is no window of a number
 no_number : (c : Closed) (g v : ℕ) → c.place.stage ≡ 4 → is_window g v (Some c) ≡ false
 no_number c g v is =
-    so_not (is_window g v (Some c)) (λ h.
-    let t : c.place.stage ≡ v % 3 + 1 = equal_from c.place.stage (v % 3 + 1) (and_second ((c.place.frame == g) && (c.place.slot == v / 3)) (c.place.stage == v % 3 + 1) h) in
+    false_from_ne_true (is_window g v (Some c)) (λ h.
+    let t : c.place.stage ≡ v % 3 + 1 = eqb-true c.place.stage (v % 3 + 1) (and_second ((c.place.frame == g) && (c.place.slot == v / 3)) (c.place.stage == v % 3 + 1) h) in
     absurd (omega (arith, t, is)))
 
 tail_span : (sc : Scenario) (st : NodeState) (w epoch next_epoch ticks : ℕ) → w ≡ 3 * sync_slot_of sc.sizes + 3 → st.epoch ≡ epoch → new_epoch_of sc.plan Biu st ≡ Some next_epoch
@@ -150,7 +151,7 @@ through_tail sc hands ear n epoch low next_epoch later frame w s st at x none st
         here =
             span_window sc st st (moment sc hands n).window (sync_slot_of sc.sizes) 4 first ticks epoch deaf.span (has_ticks sc law) x.epoch_is
             (not-yet sc.sizes sc.plan Biu st next_epoch (epoch + first) x.known less)
-            (λ y known. let same : next_epoch ≡ y = same_some next_epoch y (sym x.known ∙ known) in omega (arith, same, end)) (omega (arith, end, in_time, x.beside.is.ticks))
+            (λ y known. let same : next_epoch ≡ y = same_Some next_epoch y (sym x.known ∙ known) in omega (arith, same, end)) (omega (arith, end, in_time, x.beside.is.ticks))
 
         c : Closed
         c = (closing sc ear st (epoch + tail_start_of sc.sizes sc.plan) (next_epoch - (epoch + tail_start_of sc.sizes sc.plan) - 1)).closed

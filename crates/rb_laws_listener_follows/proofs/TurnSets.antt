@@ -1,16 +1,14 @@
 -- With its turn a listener holds the trusted nodes that all good nodes hold then.
-use Rattle.std.proofs.Common.{◌≡◌, ℕ, ◌+◌, true, List, get_or, sym, ◌∙◌, ap, arith}
+use Rattle.std.proofs.Common.{◌≡◌, ℕ, ◌+◌, true, List, sym, ◌∙◌, ap, arith}
 use Rattle.rb_base.specs.Nodes.{has}
 use Rattle.rb_base.specs.Nodes.Side.{Biu, Rmu}
-use Rattle.rb_base.specs.Sizes.{Sizes, sync_slot_of}
-use Rattle.rb_base.specs.declared.values.Heard.{Heard}
-use Rattle.rb_base.specs.declared.values.Heard.TheVariants.{Fault}
-use Rattle.rb_rules.specs.Conviction.{convicted_at, convicted_by, turn, voted_vector}
+use Rattle.rb_base.specs.Sizes.{sync_slot_of}
+use Rattle.rb_base.proofs.Plain.{and_second}
+use Rattle.rb_rules.specs.Conviction.{convicted_at, turn}
 use Rattle.rb_rules.specs.Goodness.{Scenario, is_good}
 use Rattle.rb_rules.specs.NodeState.{NodeState}
 use Rattle.rb_rules.specs.Ports.{HandIn}
 use Rattle.rb_rules.specs.Rounds.{Moment}
-use Rattle.rb_rules.specs.Slots.{first_diagnosis_of}
 use Rattle.rb_rules.specs.Standing.{without}
 use Rattle.rb_laws_agreement.proofs.FrameAgrees.{next-trusted, shared_next}
 use Rattle.rb_laws_agreement.proofs.FrameTurns.{AtEnd, convicted_held}
@@ -20,21 +18,9 @@ use Rattle.rb_laws_agreement.proofs.Numbers.{one_of_many}
 use Rattle.rb_laws_agreement.proofs.Premises.{Premise, is_sound}
 use Rattle.rb_laws_agreement.proofs.SecondStages.{GoodOne}
 use Rattle.rb_laws_agreement.proofs.Settings.{good_state}
-use Rattle.rb_laws_agreement.proofs.Tests.{Passing, and_second}
+use Rattle.rb_laws_agreement.proofs.Tests.{Passing}
 use Rattle.rb_laws_listener_near.specs.Holding.{HoldAlike}
-use Rattle.rb_laws_listener_near.proofs.SyncTracks.{IsLike}
-
-bius_convicted : (sizes : Sizes) (a b : NodeState) → HoldAlike a b → convicted_at sizes Biu a Biu ≡ convicted_at sizes Biu b Biu
-bius_convicted sizes a b h =
-    ap (λ t. convicted_by sizes.bius t a.near (voted_vector sizes Rmu a)) h.far
-    ∙ ap (λ t. convicted_by sizes.bius b.far.trusted t (voted_vector sizes Rmu a)) h.near
-    ∙ ap (λ (v : List Heard). convicted_by sizes.bius b.far.trusted b.near (λ i. get_or v (first_diagnosis_of Rmu sizes + i) Fault)) h.votes
-
-rmus_convicted : (sizes : Sizes) (a b : NodeState) → HoldAlike a b → convicted_at sizes Biu a Rmu ≡ convicted_at sizes Biu b Rmu
-rmus_convicted sizes a b h =
-    ap (λ t. convicted_by sizes.rmus t a.far.trusted (voted_vector sizes Biu a)) h.near
-    ∙ ap (λ t. convicted_by sizes.rmus b.near t (voted_vector sizes Biu a)) h.far
-    ∙ ap (λ (v : List Heard). convicted_by sizes.rmus b.near b.far.trusted (λ i. get_or v (first_diagnosis_of Biu sizes + i) Fault)) h.votes
+use Rattle.rb_laws_listener_near.proofs.SyncTracks.{IsLike, bius_convicted, rmus_convicted}
 
 -- the premise of the sync slot gives a good BIU
 good_biu : (sc : Scenario) (hands : List HandIn) (n : ℕ) (m : Moment) (s : Shared) → AtEnd sc hands n m s → GoodOne sc m Biu

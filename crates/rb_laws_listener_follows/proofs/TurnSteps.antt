@@ -9,7 +9,7 @@ use Rattle.rb_rules.specs.Goodness.{Scenario, is_good}
 use Rattle.rb_rules.specs.Moments.{IsRunning}
 use Rattle.rb_rules.specs.NodeState.{NodeState}
 use Rattle.rb_rules.specs.Ports.{HandIn}
-use Rattle.rb_rules.specs.Rounds.{Moment, begin_frame, moment, next_frame, windows_in}
+use Rattle.rb_rules.specs.Rounds.{moment, next_frame, windows_in}
 use Rattle.rb_rules.specs.SyncStage.{new_epoch_of}
 use Rattle.rb_laws_agreement.proofs.FrameAgrees.{agree_frame, shared_next}
 use Rattle.rb_laws_agreement.proofs.FrameTurns.{AtEnd}
@@ -18,6 +18,8 @@ use Rattle.rb_laws_events.proofs.NodeMoves.{turn-at}
 use Rattle.rb_laws_listener_learns.specs.Ears.{Ear}
 use Rattle.rb_laws_listener_near.proofs.SyncTracks.{tracks_turn, turns_with}
 use Rattle.rb_laws_listener_near.proofs.Tracking.{Tracks}
+use Rattle.rb_laws_synchrony.proofs.EpochTicks.{turned-frame}
+use Rattle.rb_laws_synchrony.proofs.CallTicks.{begins-at}
 use Rattle.rb_laws_listener_follows.proofs.ExactSteps.{Abides}
 use Rattle.rb_laws_listener_follows.proofs.FollowerRuns.{Stands}
 use Rattle.rb_laws_listener_follows.proofs.LateSteps.{StandsLate}
@@ -27,17 +29,9 @@ turned-epoch : (sizes : Sizes) (probation epoch : ℕ) (st : NodeState) → (tur
 unfolding turn
 turned-epoch sizes probation epoch st = refl
 
-turned-unknown : (sizes : Sizes) (plan : Plan) (epoch : ℕ) (st : NodeState) → new_epoch_of plan Biu (turn sizes plan.probation Biu epoch st) ≡ None
+pub turned-unknown : (sizes : Sizes) (plan : Plan) (epoch : ℕ) (st : NodeState) → new_epoch_of plan Biu (turn sizes plan.probation Biu epoch st) ≡ None
 unfolding turn
 turned-unknown sizes plan epoch st = refl
-
-begins-frame : (sc : Scenario) (hands : List HandIn) (m : Moment) → (next_frame sc hands m).frame ≡ m.frame + 1
-unfolding begin_frame
-begins-frame sc hands m = refl
-
-begins-window : (sc : Scenario) (hands : List HandIn) (m : Moment) → (next_frame sc hands m).window ≡ 0
-unfolding begin_frame
-begins-window sc hands m = refl
 
 -- at the end of the frame it stands before the first tick of the next one
 pub turns_next : (sc : Scenario) (hands : List HandIn) (ear : Ear) (n epoch low : ℕ) (s : Shared) (st : NodeState) (a next_epoch later : ℕ)
@@ -75,17 +69,17 @@ turns_next sc hands ear n epoch low s st a next_epoch later x at_end at next_is 
     end = record { law = x.beside.law; agree = x.beside.agree; at = at }
 
     frame : (moment sc hands (suc n)).frame ≡ (moment sc hands n).frame + 1
-    frame = ap (λ m. m.frame) (sym next_is) ∙ begins-frame sc hands (moment sc hands n)
+    frame = ap (λ m. m.frame) (sym next_is) ∙ turned-frame sc hands (moment sc hands n)
 
     window : (moment sc hands (suc n)).window ≡ 0
-    window = ap (λ m. m.window) (sym next_is) ∙ begins-window sc hands (moment sc hands n)
+    window = ap (λ m. m.window) (sym next_is) ∙ begins-at sc hands (moment sc hands n)
 
     here : next_epoch ≡ next_epoch + (moment sc hands (suc n)).window * sc.plan.l
     here = let e : (moment sc hands (suc n)).window * sc.plan.l ≡ 0 * sc.plan.l = ap (λ w. w * sc.plan.l) window in omega (arith, e)
 
     slot_is : slot_numbered sc.sizes (next_frame sc hands (moment sc hands n)).window ≡ 0
-    slot_is = omega (arith, begins-window sc hands (moment sc hands n))
+    slot_is = omega (arith, begins-at sc hands (moment sc hands n))
 
     good_next : (j : ℕ) → is_good_now sc (next_frame sc hands (moment sc hands n)) Rmu j ≡ true
         → is_good sc Rmu j ((moment sc hands n).frame + 1) (slot_numbered sc.sizes (next_frame sc hands (moment sc hands n)).window) ≡ true
-    good_next j good = ap (λ f. is_good sc Rmu j f (slot_numbered sc.sizes (next_frame sc hands (moment sc hands n)).window)) (sym (begins-frame sc hands (moment sc hands n))) ∙ good
+    good_next j good = ap (λ f. is_good sc Rmu j f (slot_numbered sc.sizes (next_frame sc hands (moment sc hands n)).window)) (sym (turned-frame sc hands (moment sc hands n))) ∙ good

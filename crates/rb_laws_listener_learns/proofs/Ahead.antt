@@ -1,9 +1,11 @@
 -- The first frame of a listener begins after the tick at which it decides.
 use Rattle.std.proofs.Common.{◌≡◌, ℕ, ◌+◌, ◌-◌, ◌*◌, ◌<◌, ◌≤◌, ◌==◌, ◌&&◌, not, nat_lt, Bool, true, false, Option, Some, None, is_some, option_map, if◌then◌else◌, List, refl, sym, ◌∙◌, ap, arith}
+use Rattle.std.proofs.lemmas.Bool.{eqb-true, ltb-true}
 use Rattle.rb_base.specs.Counting.{count_if, numbers}
 use Rattle.rb_base.specs.Nodes.{has, set_of, size}
 use Rattle.rb_base.specs.Nodes.Side.{Rmu}
 use Rattle.rb_base.specs.Sizes.{Sizes, sync_slot_of}
+use Rattle.rb_base.proofs.Plain.{and_first, and_second}
 use Rattle.rb_base.proofs.Sets.{has-set_of}
 use Rattle.rb_rules.specs.declared.message.Message.{Message}
 use Rattle.rb_rules.specs.declared.plan.Plan.{Plan}
@@ -19,9 +21,9 @@ use Rattle.rb_rules.specs.Sense.{stamp_in}
 use Rattle.rb_rules.specs.Slots.{first_diagnosis_of, role_of}
 use Rattle.rb_rules.specs.Middle.{IsMiddle}
 use Rattle.rb_rules.proofs.Middles.{IsBetween}
+use Rattle.rb_rules.proofs.Slots.{sync_role}
 use Rattle.rb_laws_agreement.proofs.Agreement.{IsAgreed, agreement}
 use Rattle.rb_laws_agreement.proofs.Numbers.{how_many, how_many-is}
-use Rattle.rb_laws_agreement.proofs.Tests.{and_first, and_second, equal_from, less_from}
 use Rattle.rb_laws_synchrony.proofs.Middles.{HasStamp, middle_within, some_middle}
 use Rattle.rb_laws_synchrony.proofs.PlanNumbers.{drift_of, eps_of}
 use Rattle.rb_laws_synchrony.proofs.Synchronous.{from_2, to_2}
@@ -43,7 +45,7 @@ use Rattle.rb_laws_listener_learns.proofs.Fresh.{always-good-at}
 use Rattle.rb_laws_listener_learns.proofs.Seeks.{always-counts}
 use Rattle.rb_laws_listener_learns.proofs.Together.{call-time, min-either, near-stamps, steady-ear}
 use Rattle.rb_laws_listener_learns.proofs.TrustedSets.{GoodThere, IsIn, KnowsAt, good-there, knows-at}
-use Rattle.rb_laws_listener_learns.proofs.Whole.{HasLesson, has-lesson, sync-role}
+use Rattle.rb_laws_listener_learns.proofs.Whole.{HasLesson, has-lesson}
 
 -- Calls of one frame come with stamps less than the reach apart.
 
@@ -108,8 +110,8 @@ come-near sc hands law ear is n i j s t at sends_i sends_j a b some is_a is_b =
 -- a call is of stage 2 of the sync slot
 pub call-place : (sizes : Sizes) (m : Message) → is_call sizes m ≡ true → (m.slot ≡ sync_slot_of sizes) × (m.stage ≡ 2)
 call-place sizes m call = (
-  equal_from m.slot (sync_slot_of sizes) (and_second (is_sync m.tag) (m.slot == sync_slot_of sizes) (and_first (is_sync m.tag && (m.slot == sync_slot_of sizes)) (m.stage == 2) call)),
-  equal_from m.stage 2 (and_second (is_sync m.tag && (m.slot == sync_slot_of sizes)) (m.stage == 2) call),
+  eqb-true m.slot (sync_slot_of sizes) (and_second (is_sync m.tag) (m.slot == sync_slot_of sizes) (and_first (is_sync m.tag && (m.slot == sync_slot_of sizes)) (m.stage == 2) call)),
+  eqb-true m.stage 2 (and_second (is_sync m.tag && (m.slot == sync_slot_of sizes)) (m.stage == 2) call),
 )
 
 pub record FindsFirst (sc : Scenario) (s : Search) (tick : ℕ) : Type 0 where
@@ -208,10 +210,10 @@ finds-first sc hands law ear is run learned tick s decides = record {
         r : IsRecorded sc hands ear s.lesson.records call.n j calls.sending
         r =
             k.whole j good_there call.n calls.sending calls.sent l.1.frame
-            (parts.1 ∙ sym (ap (λ t. stage_recorded (role_of sc.sizes t)) parts.0 ∙ ap stage_recorded (sync-role sc.sizes)))
+            (parts.1 ∙ sym (ap (λ t. stage_recorded (role_of sc.sizes t)) parts.0 ∙ ap stage_recorded (sync_role sc.sizes)))
 
     most : sc.sizes.rmus < 2 * how_many (is_always_good sc hands)
-    most = omega (arith, less_from sc.sizes.rmus (2 * size (set_of (is_always_good sc hands))) run.most_good, how_many-is (is_always_good sc hands))
+    most = omega (arith, ltb-true sc.sizes.rmus (2 * size (set_of (is_always_good sc hands))) run.most_good, how_many-is (is_always_good sc hands))
 
     fewer : count_if (λ j. not (is_always_good sc hands j) && is_some (recorded_of stamp_in s.lesson.records (trusted_rmus sc.sizes s.lesson.records) (sync_slot_of sc.sizes) j)) (numbers 16)
         < count_if (is_always_good sc hands) (numbers 16)
@@ -220,7 +222,7 @@ finds-first sc hands law ear is run learned tick s decides = record {
         (λ j below good. always-counts sc hands j good)
         (λ j below some.
         let in_set : has (trusted_rmus sc.sizes s.lesson.records) j ≡ true = if-none (has (trusted_rmus sc.sizes s.lesson.records) j) (stamp_in (record_of s.lesson.records (sync_slot_of sc.sizes) j)) some in
-        less_from j sc.sizes.rmus
+        ltb-true j sc.sizes.rmus
         (and_first (nat_lt j sc.sizes.rmus) (are_most sc.sizes (ones_in s.lesson.records (first_diagnosis_of Rmu sc.sizes + j))) (sym (has-set_of j (trusts_rmu sc.sizes s.lesson.records) below) ∙ in_set))) most
 
     found : (m : ℕ) × (middle_in sc.sizes s.lesson.records (trusted_rmus sc.sizes s.lesson.records) ≡ Some m)

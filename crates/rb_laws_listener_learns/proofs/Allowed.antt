@@ -2,6 +2,7 @@
 use Rattle.std.proofs.Common.{◌≡◌, ℕ, ◌+◌, ◌-◌, ◌*◌, ◌≤◌, ◌&&◌, true, List, sym, ◌∙◌, ap, subst, arith}
 use Rattle.rb_base.specs.Nodes.{has, set_of}
 use Rattle.rb_base.specs.Nodes.Side.{Rmu}
+use Rattle.rb_base.proofs.Plain.{and_first}
 use Rattle.rb_rules.specs.Clock.{time_of}
 use Rattle.rb_rules.specs.Goodness.{Scenario, clock_of}
 use Rattle.rb_rules.specs.Lawful.{IsLawful}
@@ -10,7 +11,7 @@ use Rattle.rb_rules.specs.Plan.{shortest_of}
 use Rattle.rb_rules.specs.Ports.{HandIn}
 use Rattle.rb_rules.specs.Rounds.{moment, windows_in}
 use Rattle.rb_laws_agreement.proofs.Places.{IsPlaced, placed, running_earlier}
-use Rattle.rb_laws_agreement.proofs.Tests.{Passing, and_first}
+use Rattle.rb_laws_agreement.proofs.Tests.{Passing}
 use Rattle.rb_laws_synchrony.proofs.PlanNumbers.{drift_of}
 use Rattle.rb_laws_synchrony.proofs.StageCalls.{clock_now}
 use Rattle.rb_listen.specs.Passes.{are_most}

@@ -13,10 +13,11 @@ use Rattle.rb_rules.specs.Moments.{IsRunning}
 use Rattle.rb_rules.specs.NodeState.{NodeState}
 use Rattle.rb_rules.specs.Plan.{f0_of, shortest_of, tail_start_of}
 use Rattle.rb_rules.specs.Ports.{HandIn}
-use Rattle.rb_rules.specs.Rounds.{Moment, begin_frame, moment, next_frame, windows_in}
+use Rattle.rb_rules.specs.Rounds.{Moment, moment, next_frame, windows_in}
 use Rattle.rb_rules.proofs.Drift.{times_rise_to}
 use Rattle.rb_laws_agreement.proofs.Agreement.{IsAgreed, agreement, running_before, step_is}
 use Rattle.rb_laws_agreement.proofs.FrameAgrees.{TurnedFrom, turned_from}
+use Rattle.rb_laws_agreement.proofs.FrameTimes.{turned-epoch}
 use Rattle.rb_laws_agreement.proofs.Goodnesses.{slot_last}
 use Rattle.rb_laws_agreement.proofs.Invariant.{IsGoodNode}
 use Rattle.rb_laws_agreement.proofs.NextMoments.{CameFrom, came_from, next}
@@ -26,9 +27,10 @@ use Rattle.rb_laws_synchrony.proofs.PlanNumbers.{drift_of, eps_of}
 use Rattle.rb_laws_synchrony.proofs.StageCalls.{clock_now}
 use Rattle.rb_laws_synchrony.proofs.SyncSteps.{epoch_after}
 use Rattle.rb_laws_synchrony.proofs.Synchronous.{KnowNext, KnowsEpoch, from_2, to_2}
-use Rattle.rb_laws_synchrony.proofs.Synchrony.{IsSynchronous, synchrony, turned_epoch}
+use Rattle.rb_laws_synchrony.proofs.Synchrony.{IsSynchronous, synchrony}
 use Rattle.rb_laws_synchrony.proofs.Times.{Steady, lawful_fits, plan_fits}
 use Rattle.rb_listen.specs.Passes.{reach_of}
+use Rattle.rb_laws_synchrony.proofs.EpochTicks.{turned-frame}
 use Rattle.rb_laws_listener_learns.specs.Ears.{Ear, IsEar, SendsIn, coming_to}
 use Rattle.rb_laws_listener_learns.specs.Together.{LaterCallsComeLater}
 use Rattle.rb_laws_listener_learns.proofs.Together.{call-time, steady-ear}
@@ -63,10 +65,6 @@ next-at sc hands n k agreed before me i now h =
       later = λ less. omega (arith, w.later (omega (arith, less, f)), e);
     }
 
-pub turn-number : (sc : Scenario) (hands : List HandIn) (m : Moment) → (next_frame sc hands m).frame ≡ m.frame + 1
-unfolding begin_frame
-turn-number sc hands m = refl
-
 -- where the frame was the same the epoch was, and else it was the earlier by as much
 once-more : (first then_at : ℕ) (old mid now tail : ℕ) → first ≤ then_at → (first ≡ then_at → old ≡ mid) → (first < then_at → old + tail ≤ mid) → mid + tail ≤ now → old + tail ≤ now
 once-more first then_at old mid now tail le same later more =
@@ -81,8 +79,8 @@ turn-at sc hands n k x known before me i now h =
     let from : TurnedFrom sc (moment sc hands k) me i now = turned_from sc hands k (moment sc hands k) x.shared x.agree me i now h in
     let w : WasAt sc hands n (moment sc hands k) me i from.st = before me i from.st from.was in
     let at : KnowsEpoch sc me i from.st known.0 = known.1 me i from.st from.was in
-    let e : at.takes.epoch ≡ now.epoch = sym (turned_epoch sc.sizes sc.plan me from.st at.takes.epoch at.takes.known) ∙ ap (λ x. x.epoch) from.is in
-    let f : (next_frame sc hands (moment sc hands k)).frame ≡ (moment sc hands k).frame + 1 = turn-number sc hands (moment sc hands k) in
+    let e : at.takes.epoch ≡ now.epoch = sym (turned-epoch sc.sizes sc.plan me from.st at.takes.epoch at.takes.known) ∙ ap (λ x. x.epoch) from.is in
+    let f : (next_frame sc hands (moment sc hands k)).frame ≡ (moment sc hands k).frame + 1 = turned-frame sc hands (moment sc hands k) in
     record {
       st = w.st;
       was = w.was;

@@ -2,13 +2,15 @@
 use Rattle.std.proofs.Common.{◌≡◌, ℕ, zero, suc, ◌+◌, ◌-◌, ◌*◌, ◌<◌, ◌≤◌, ◌==◌, ◌&&◌, ◌||◌, not, nat_lt, nat_le, Bool, true, false, List, [], ◌∷◌, Option, Some, None, get_or, slice_get, if◌then◌else◌, inl, inr, lit<, lit≤, refl, sym, ◌∙◌, ap, subst, arith, zero-add}
 use Rattle.std.specs.Prelude.{All, is_none, ◌^◌}
 use Rattle.std.specs.List.{list_all}
-use Rattle.std.proofs.lemmas.Bool.{cases_lt, le-leb}
+use Rattle.std.proofs.lemmas.Bool.{cases_lt, eqb-true, le-leb, lt-ltb, ltb-true, not-false, or_from}
 use Rattle.std.proofs.lemmas.Bool.Decides.{nat_tests}
 use Rattle.std.proofs.lemmas.List.Elements.{All-cons, All-nil}
 use Rattle.std.proofs.lemmas.List.FromFn.{get_or-range_with_len}
 use Rattle.std.proofs.lemmas.List.Sums.{AllPass-from_list_all}
+use Rattle.std.proofs.lemmas.Option.{same_Some}
 use Rattle.rb_base.specs.Counting.{numbers}
 use Rattle.rb_base.specs.Nodes.{set_of, set_below, size}
+use Rattle.rb_base.proofs.Plain.{and_first, and_second}
 use Rattle.rb_rules.specs.declared.cause.Cause.{Cause}
 use Rattle.rb_rules.specs.declared.sense.Sense.{Sense}
 use Rattle.rb_rules.specs.Book.{with_stage, with_frame}
@@ -33,7 +35,7 @@ use Rattle.rb_listen.specs.Passes.{pass_of}
 use Rattle.rb_laws_listener_near.specs.Judged.{verdict_with}
 use Rattle.rb_rules.proofs.Feasibility.{feasible_exactly}
 use Rattle.rb_rules.proofs.Books.{GoesOn, moments-on}
-use Rattle.rb_laws_agreement.proofs.Tests.{and_first, and_second, equal_from, less_from, less_true, not_false, or_neither, or_neither_first, or_neither_second, same_some}
+use Rattle.rb_laws_agreement.proofs.Tests.{or_neither_first, or_neither_second}
 use Rattle.rb_laws_listener_learns.specs.Beside.{comes, decided, ear, found_by, heard_with, if_stamped, is_offset, plan, search_in, sends_at, sends_by, steady, two_frames, window_of}
 use Rattle.rb_laws_listener_learns.specs.Deciding.{DecidesBy}
 use Rattle.rb_laws_listener_learns.specs.Receivers.{HoldsTo, IsCalm, seen_in}
@@ -76,7 +78,7 @@ came-if k None nth c e h = absurd (cc)
 came-if k (Some s) nth c e h = go (suc s.tick == k) refl nth h
   where
     go : (b : Bool) → (suc s.tick == k) ≡ b → (nth : ℕ) → slice_get (if b then comes s ∷ [] else []) nth ≡ Some c → Came k c nth
-    go true is zero h = record { s = s; sent = e; is = sym (same_some (comes s) c h); tick = equal_from (suc s.tick) k is; first = refl }
+    go true is zero h = record { s = s; sent = e; is = sym (same_Some (comes s) c h); tick = eqb-true (suc s.tick) k is; first = refl }
     go true is (suc nth) h = absurd (cc)
     go false is nth h = absurd (cc)
 
@@ -106,19 +108,19 @@ sends-in n s h = go (m.book.ended || not (nat_lt m.window (windows_in two_frames
     go true e h = absurd (cc)
     go false e h =
         by (slice_get m.nodes.rmus 0) refl (or_neither_first m.book.ended (not (nat_lt m.window (windows_in two_frames.sizes))) e)
-        (less_from m.window (windows_in two_frames.sizes) (not_false (nat_lt m.window (windows_in two_frames.sizes)) (or_neither_second m.book.ended (not (nat_lt m.window (windows_in two_frames.sizes))) e))) h
+        (ltb-true m.window (windows_in two_frames.sizes) (not-false (nat_lt m.window (windows_in two_frames.sizes)) (or_neither_second m.book.ended (not (nat_lt m.window (windows_in two_frames.sizes))) e))) h
 
 -- the one RMU
 first-rmu : (n j : ℕ) (s : Sending) → SendsIn two_frames [] n j s → j ≡ 0
 first-rmu n j s sent =
-    let less : j < 1 = less_from j 1 (and_first (nat_lt j 1) (is_before (get_or two_frames.rmu_onsets j None) (moment two_frames [] n).frame _) sent.good.1) in omega arith
+    let less : j < 1 = ltb-true j 1 (and_first (nat_lt j 1) (is_before (get_or two_frames.rmu_onsets j None) (moment two_frames [] n).frame _) sent.good.1) in omega arith
 
 sends-so : (n : ℕ) (s : Sending) → SendsIn two_frames [] n 0 s → sends_at n ≡ Some s
 unfolding sends_at
 sends-so n s sent =
     let m : Moment = moment two_frames [] n in
-    let inside : not (nat_lt m.window (windows_in two_frames.sizes)) ≡ false = ap not (less_true m.window (windows_in two_frames.sizes) sent.in_frame) in
-    let on : (m.book.ended || not (nat_lt m.window (windows_in two_frames.sizes))) ≡ false = or_neither m.book.ended (not (nat_lt m.window (windows_in two_frames.sizes))) sent.running inside in
+    let inside : not (nat_lt m.window (windows_in two_frames.sizes)) ≡ false = ap not (lt-ltb m.window (windows_in two_frames.sizes) sent.in_frame) in
+    let on : (m.book.ended || not (nat_lt m.window (windows_in two_frames.sizes))) ≡ false = or_from m.book.ended (not (nat_lt m.window (windows_in two_frames.sizes))) sent.running inside in
     ap (λ (b : Bool). elim b as (λ _. Option Sending) [ true ↦ None | false ↦ sends_by m (slice_get m.nodes.rmus 0) ]) on
     ∙ ap (sends_by m) sent.good.0 ∙ sent.sends
 
@@ -160,7 +162,7 @@ unfolding heard_with
 heard-so n s less sent =
     let both : (is_offset (suc s.tick) && (window_of (suc s.tick) == n)) ≡ true = ap (is_placed n) (sym sent) ∙ placed n less in
     let offset : is_offset (suc s.tick) ≡ true = and_first (is_offset (suc s.tick)) (window_of (suc s.tick) == n) both in
-    let window : window_of (suc s.tick) ≡ n = equal_from (window_of (suc s.tick)) n (and_second (is_offset (suc s.tick)) (window_of (suc s.tick) == n) both) in
+    let window : window_of (suc s.tick) ≡ n = eqb-true (window_of (suc s.tick)) n (and_second (is_offset (suc s.tick)) (window_of (suc s.tick) == n) both) in
     let self : (suc s.tick == suc s.tick) ≡ true = grind (arith, nat_tests) in
     ap (λ (b : Bool). slice_get (elim b as (λ _. List Coming) [ true ↦ if_stamped (suc s.tick) (sends_at (window_of (suc s.tick))) | false ↦ [] ]) 0) offset
     ∙ ap (λ o. slice_get (if_stamped (suc s.tick) o) 0) (ap sends_at window ∙ sent)

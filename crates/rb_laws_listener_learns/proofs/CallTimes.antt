@@ -1,8 +1,10 @@
 -- When the calls came that are recorded.
 use Rattle.std.proofs.Common.{◌≡◌, ◌⊎◌, ℕ, zero, suc, ◌%◌, ◌<◌, ◌≤◌, ◌==◌, ◌&&◌, Bool, true, false, Option, Some, None, cond, List, [], ◌∷◌, filter, slice_get, inl, inr, refl, sym, ◌∙◌, ap, subst, arith}
-use Rattle.std.proofs.lemmas.Bool.Decides.{nat_tests}
+use Rattle.std.proofs.lemmas.Bool.{and_from, eq-eqb, eqb-true}
+use Rattle.std.proofs.lemmas.Option.{same_Some}
 use Rattle.rb_base.specs.Nodes.Side.{Rmu}
 use Rattle.rb_base.specs.Sizes.{sync_slot_of}
+use Rattle.rb_base.proofs.Plain.{and_first, and_second}
 use Rattle.rb_rules.specs.declared.message.Message.{Message}
 use Rattle.rb_rules.specs.declared.message.Tag.{Tag}
 use Rattle.rb_rules.specs.declared.message.Tag.TheVariants.{Word, Fault, Sync as Call}
@@ -16,7 +18,7 @@ use Rattle.rb_rules.specs.Ports.{HandIn}
 use Rattle.rb_rules.specs.Sense.{stamp_in, tag_suits}
 use Rattle.rb_rules.specs.Slots.{role_of}
 use Rattle.rb_rules.specs.Spelling.{message_in}
-use Rattle.rb_laws_agreement.proofs.Tests.{and_both, and_first, and_second, equal_from, same_some}
+use Rattle.rb_rules.proofs.Slots.{sync_role}
 use Rattle.rb_listen.specs.Lessons.{stage_recorded}
 use Rattle.rb_listen.specs.Passes.{is_call, is_sync}
 use Rattle.rb_listen.specs.declared.search.Search.{Search}
@@ -28,7 +30,7 @@ use Rattle.rb_laws_listener_learns.proofs.Deciding.{some-stamp}
 use Rattle.rb_laws_listener_learns.proofs.Latest.{earlier-le}
 use Rattle.rb_laws_listener_learns.proofs.Noting.{IsNotedBy, IsPlacedAt}
 use Rattle.rb_laws_listener_learns.proofs.Recorded.{placed}
-use Rattle.rb_laws_listener_learns.proofs.Whole.{HasLesson, all-good, has-place, same-place-of, sync-role}
+use Rattle.rb_laws_listener_learns.proofs.Whole.{HasLesson, all-good, has-place, same-place-of}
 
 -- The last that passes.
 
@@ -73,7 +75,7 @@ none-passes p (y ∷ ys) i x none there pass = by (p y) refl (λ rest o is. none
   where
     by : (b : Bool) → p y ≡ b → (filter p ys ≡ [] → (o : ℕ) → slice_get ys o ≡ Some x → ⊥) → (i : ℕ) → slice_get (y ∷ ys) i ≡ Some x → ⊥
     by true e again i is = let some : y ∷ filter p ys ≡ [] = sym (ap (λ b. cond b (y ∷ filter p ys) (filter p ys)) e) ∙ none in cc
-    by false e again zero is = let same : y ≡ x = same_some y x is in let both : true ≡ false = sym pass ∙ ap p (sym same) ∙ e in cc
+    by false e again zero is = let same : y ≡ x = same_Some y x is in let both : true ≡ false = sym pass ∙ ap p (sym same) ∙ e in cc
     by false e again (suc i) is = again (sym (ap (λ b. cond b (y ∷ filter p ys) (filter p ys)) e) ∙ none) i is
 
 pub last-is : (p : Coming → Bool) (xs : List Coming) (i : ℕ) (x : Coming) → slice_get xs i ≡ Some x → p x ≡ true → LastIs p xs
@@ -81,14 +83,11 @@ last-is p xs i x there pass = elim (last-cases p xs) [ inl none ↦ absurd (none
 
 -- Calls.
 
-pub eq-true : (a b : ℕ) → a ≡ b → (a == b) ≡ true
-eq-true a b e = grind (arith, nat_tests, e)
-
 -- the test by which calls are found
 abbrev pub finds-call : Scenario → ℕ → ℕ → Coming → Bool
 finds-call sc frame j c = is_call_of sc frame j (message_in sc.plan.version c.bytes) c
 
-tag-sync : (t : Tag) → tag_suits true t ≡ true → is_sync t ≡ true
+pub tag-sync : (t : Tag) → tag_suits true t ≡ true → is_sync t ≡ true
 tag-sync Word h = cc
 tag-sync Fault h = cc
 tag-sync Call h = refl
@@ -98,21 +97,21 @@ place-call : (sc : Scenario) (ear : Ear) (frame j at i : ℕ) (m : Message) → 
     → finds-call sc frame j p.coming ≡ true
 place-call sc ear frame j at i m p suits =
     ap (λ o. is_call_of sc frame j o p.coming) p.reads
-    ∙ and_both ((p.coming.from == j) && is_call sc.sizes m) (m.frame == frame % 65536) (and_both (p.coming.from == j) (is_call sc.sizes m) (eq-true p.coming.from j p.from) call) (eq-true m.frame (frame % 65536) here.frame_is)
+    ∙ and_from ((p.coming.from == j) && is_call sc.sizes m) (m.frame == frame % 65536) (and_from (p.coming.from == j) (is_call sc.sizes m) (eq-eqb p.coming.from j p.from) call) (eq-eqb m.frame (frame % 65536) here.frame_is)
   where
     here : IsOfPlace sc (frame % 65536) m.slot m
     here = placed sc (frame % 65536) m p.place
 
     in_sync : (m.slot == sync_slot_of sc.sizes) ≡ true
-    in_sync = eq-true m.slot (sync_slot_of sc.sizes) p.slot_is
+    in_sync = eq-eqb m.slot (sync_slot_of sc.sizes) p.slot_is
 
     stage : m.stage ≡ 2
-    stage = here.stage_is ∙ ap (λ t. stage_recorded (role_of sc.sizes t)) p.slot_is ∙ ap stage_recorded (sync-role sc.sizes)
+    stage = here.stage_is ∙ ap (λ t. stage_recorded (role_of sc.sizes t)) p.slot_is ∙ ap stage_recorded (sync_role sc.sizes)
 
     call : is_call sc.sizes m ≡ true
     call =
-        and_both (is_sync m.tag && (m.slot == sync_slot_of sc.sizes)) (m.stage == 2)
-        (and_both (is_sync m.tag) (m.slot == sync_slot_of sc.sizes) (tag-sync m.tag (ap (λ b. tag_suits b m.tag) (sym in_sync) ∙ suits)) in_sync) (eq-true m.stage 2 stage)
+        and_from (is_sync m.tag && (m.slot == sync_slot_of sc.sizes)) (m.stage == 2)
+        (and_from (is_sync m.tag) (m.slot == sync_slot_of sc.sizes) (tag-sync m.tag (ap (λ b. tag_suits b m.tag) (sym in_sync) ∙ suits)) in_sync) (eq-eqb m.stage 2 stage)
 
 -- and a call has its place there
 pub record CallFound (sc : Scenario) (ear : Ear) (frame j at i : ℕ) (c : Coming) : Type 0 where
@@ -131,10 +130,10 @@ call-found sc ear frame j at i c there (Some m) reads h =
       placed_at = record {
         coming = c;
         there = there;
-        from = equal_from c.from j (and_first (c.from == j) (is_call sc.sizes m) front);
+        from = eqb-true c.from j (and_first (c.from == j) (is_call sc.sizes m) front);
         reads = reads;
-        place = has-place sc (frame % 65536) m (equal_from m.frame (frame % 65536) (and_second ((c.from == j) && is_call sc.sizes m) (m.frame == frame % 65536) h)) (omega (arith, parts.0))
-            (parts.1 ∙ sym (ap (λ t. stage_recorded (role_of sc.sizes t)) parts.0 ∙ ap stage_recorded (sync-role sc.sizes)));
+        place = has-place sc (frame % 65536) m (eqb-true m.frame (frame % 65536) (and_second ((c.from == j) && is_call sc.sizes m) (m.frame == frame % 65536) h)) (omega (arith, parts.0))
+            (parts.1 ∙ sym (ap (λ t. stage_recorded (role_of sc.sizes t)) parts.0 ∙ ap stage_recorded (sync_role sc.sizes)));
         slot_is = parts.0;
       };
       is = refl;
@@ -148,7 +147,7 @@ stamped-call sc hands ear is learned k n since j stamp in_time Silent h e = let 
     no-stamp : (t : ℕ) → (let o : Option ℕ = None in o) ≡ Some t → ⊥
     no-stamp t x = cc
 stamped-call sc hands ear is learned k n since j stamp in_time (One at m) h e =
-    let same : at ≡ stamp = same_some at stamp e in
+    let same : at ≡ stamp = same_Some at stamp e in
     let before : at < ear.ticks = omega (arith, in_time, earlier-le at h.i k n h.earlier) in
     let l : LastIs (finds-call sc learned j) (ear.heard at) =
     last-is (finds-call sc learned j) (ear.heard at) h.i h.placed.coming h.placed.there (place-call sc ear learned j at h.i m h.placed h.suits) in
@@ -185,4 +184,4 @@ found-call sc hands law ear is run learned k n s in_time lesson j good at i c le
         (of_good i c mine) (of_good l.at l.coming last)
 
     same : l.coming ≡ c
-    same = same_some l.coming c (sym l.there ∙ ap (slice_get (ear.heard at)) (sym places.1) ∙ there)
+    same = same_Some l.coming c (sym l.there ∙ ap (slice_get (ear.heard at)) (sym places.1) ∙ there)

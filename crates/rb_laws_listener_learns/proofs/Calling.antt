@@ -24,7 +24,7 @@ use Rattle.rb_listen.specs.Passes.{is_call}
 use Rattle.rb_laws_listener_learns.specs.Calling.{EachIsHeardToCall}
 use Rattle.rb_laws_listener_learns.specs.Ears.{Ear, HearsTheRun, SendsIn}
 
-call-sending : (sizes : Sizes) (plan : Plan) (j : ℕ) (st : NodeState) (word tick : ℕ) → call_tick_of sizes plan st 2 ≡ Some tick
+pub call-sending : (sizes : Sizes) (plan : Plan) (j : ℕ) (st : NodeState) (word tick : ℕ) → call_tick_of sizes plan st 2 ≡ Some tick
     → sending sizes plan Rmu j st (sync_slot_of sizes) 2 word ≡ Some (record { tick = tick; message = call_of sizes st 2 })
 unfolding sending
 call-sending sizes plan j st word tick at =

@@ -1,12 +1,14 @@
 -- What the listener hears of a good RMU as a call is the RMU's call of a frame of the bus.
 use Rattle.std.proofs.Common.{◌≡◌, ℕ, ◌+◌, ◌-◌, ◌*◌, ◌/◌, ◌%◌, ◌<◌, ◌==◌, ◌&&◌, nat_le, Bool, true, false, Option, Some, None, option_map, if◌then◌else◌, List, slice_index, slice_range, inl, inr, refl, sym, ◌∙◌, ap, subst, arith}
 use Rattle.std.specs.Int.{from_be_bytes, w16, w32}
-use Rattle.std.proofs.lemmas.Bool.{cases_lt}
+use Rattle.std.proofs.lemmas.Bool.{cases_lt, eqb-true}
 use Rattle.std.proofs.lemmas.Bool.Decides.{nat_tests}
+use Rattle.std.proofs.lemmas.Option.{same_Some}
 use Rattle.rb_base.specs.Nodes.Side.{Biu, Rmu}
 use Rattle.rb_base.specs.Sizes.{Sizes, sync_slot_of}
 use Rattle.rb_base.specs.declared.values.Heard.{Heard}
 use Rattle.rb_base.specs.declared.values.Heard.TheVariants as heard
+use Rattle.rb_base.proofs.Plain.{and_first}
 use Rattle.rb_rules.specs.declared.message.Message.{Message}
 use Rattle.rb_rules.specs.declared.message.Tag.{Tag}
 use Rattle.rb_rules.specs.declared.message.Tag.TheVariants.{Word, Fault, Sync}
@@ -25,12 +27,12 @@ use Rattle.rb_rules.specs.Rounds.{Moment, moment, sending_in, window_in, windows
 use Rattle.rb_rules.specs.Slots.{listens}
 use Rattle.rb_rules.specs.Spelling.{IsMessage, has_form, may_have, message_in, message_with, spelling_of, tag_byte, tag_in}
 use Rattle.rb_rules.specs.SyncStage.{call_of, calls}
+use Rattle.rb_rules.proofs.Slots.{few_slots}
 use Rattle.rb_rules.proofs.Spellings.{read_back}
 use Rattle.rb_laws_agreement.proofs.Agreement.{IsAgreed, agreement}
-use Rattle.rb_laws_agreement.proofs.Goodnesses.{few_slots, slot_last}
+use Rattle.rb_laws_agreement.proofs.Goodnesses.{slot_last}
 use Rattle.rb_laws_agreement.proofs.Invariant.{IsGoodNode}
 use Rattle.rb_laws_agreement.proofs.NodeWindows.{Windows, exact_windows, sync_windows_are, tail_windows, word_at}
-use Rattle.rb_laws_agreement.proofs.Tests.{and_first, equal_from, same_some}
 use Rattle.rb_laws_synchrony.proofs.TakenCalls.{call_sent}
 use Rattle.rb_laws_synchrony.proofs.TimelyWindows.{IsSent, sent_parts}
 use Rattle.rb_listen.specs.Passes.{is_call, is_sync}
@@ -75,8 +77,8 @@ spelled-tag (Two bus) a m h =
 
 not-sync : (st : NodeState) (slot stage : ℕ) (o : Option Heard) (m : Message) → option_map (message_of st slot stage) o ≡ Some m → is_sync m.tag ≡ false
 not-sync st slot stage None m h = cc
-not-sync st slot stage (Some (heard.Word word)) m h = ap (λ x. is_sync x.tag) (sym (same_some (message_of st slot stage (heard.Word word)) m h))
-not-sync st slot stage (Some heard.Fault) m h = ap (λ x. is_sync x.tag) (sym (same_some (message_of st slot stage heard.Fault) m h))
+not-sync st slot stage (Some (heard.Word word)) m h = ap (λ x. is_sync x.tag) (sym (same_Some (message_of st slot stage (heard.Word word)) m h))
+not-sync st slot stage (Some heard.Fault) m h = ap (λ x. is_sync x.tag) (sym (same_Some (message_of st slot stage heard.Fault) m h))
 
 exact-is-no-call : (sizes : Sizes) (plan-slot : ℕ) (j : ℕ) (st : NodeState) (stage word : ℕ) (m : Message) → plan-slot < sync_slot_of sizes
     → message_said sizes Rmu j st plan-slot stage word ≡ Some m → is_sync m.tag ≡ false
@@ -94,7 +96,7 @@ call-is sizes j st stage word m h =
     go (listens Biu role.Sync stage) (sym same ∙ h)
   where
     go : (b : Bool) → (if b then Some (call_of sizes st stage) else None) ≡ Some m → m ≡ call_of sizes st stage
-    go true p = sym (same_some (call_of sizes st stage) m p)
+    go true p = sym (same_Some (call_of sizes st stage) m p)
     go false p = cc
 
 -- A frame of the bus in which the RMUs called, by the number that messages have of it.
@@ -154,13 +156,13 @@ call-of-frame sc hands law n j s sent m read call =
         let sends : sending sc.sizes sc.plan Rmu j sent.state sync (q + 1) word ≡ Some s = sends-at sc hands n j s sent sync (q + 1) ws in
         let parts : IsSent sc.sizes sc.plan Rmu j sent.state sync (q + 1) word s = sent_parts sc.sizes sc.plan Rmu j sent.state sync (q + 1) word s sends in
         let heard : listens Biu role.Sync (q + 1) ≡ true = (call_sent sc.sizes sc.plan Rmu j sent.state (q + 1) word s sends).1 in
-        let second : q + 1 ≡ 2 = equal_from (q + 1) 2 heard in
+        let second : q + 1 ≡ 2 = eqb-true (q + 1) 2 heard in
         let is : s.message ≡ call_of sc.sizes sent.state (q + 1) = call-is sc.sizes j sent.state (q + 1) word s.message parts.message in
         let fits : IsMessage (call_of sc.sizes sent.state (q + 1)) =
         record { frame = omega arith; slot = omega (arith, few_slots sc.sizes law.sizes); some_stage = omega arith; most_stages = omega (arith, small); value = refl } in
         let back : Some (call_of sc.sizes sent.state (q + 1)) ≡ Some m =
         sym (read_back sc.plan.version (call_of sc.sizes sent.state (q + 1)) fits) ∙ ap (λ x. message_in sc.plan.version (spelling_of sc.plan.version x)) (sym is) ∙ read in
-        let same : call_of sc.sizes sent.state (q + 1) ≡ m = same_some (call_of sc.sizes sent.state (q + 1)) m back in
+        let same : call_of sc.sizes sent.state (q + 1) ≡ m = same_Some (call_of sc.sizes sent.state (q + 1)) m back in
         let slot_is : (window_in sc now Rmu sent.state).slot ≡ sync = ap (λ w. w.slot) (ws.are Rmu sent.state) in
         let good : is_good sc Rmu j now.frame sync ≡ true = ap (is_good sc Rmu j now.frame) (sym slot_is) ∙ sent.good.1 in
         let node : IsGoodNode sc now Rmu j sent.state =

@@ -1,8 +1,10 @@
 -- A decision comes as many ticks after a pass as calls of good RMUs may lie apart, and in a pass there is such a call.
 use Rattle.std.proofs.Common.{◌≡◌, ℕ, zero, suc, ◌+◌, ◌*◌, ◌%◌, ◌^◌, ◌<◌, ◌≤◌, ◌==◌, ◌&&◌, nat_lt, Bool, true, false, Option, Some, None, is_some, List, get_or, slice_get, if◌then◌else◌, inl, inr, refl, sym, ◌∙◌, ap, subst, arith}
-use Rattle.std.proofs.lemmas.Bool.{cases_lt}
+use Rattle.std.proofs.lemmas.Bool.{cases_lt, eqb-true, ltb-true}
+use Rattle.std.proofs.lemmas.Option.{same_Some}
 use Rattle.rb_base.specs.Nodes.{has, set_of}
 use Rattle.rb_base.specs.Sizes.{IsShape, Sizes, sync_slot_of}
+use Rattle.rb_base.proofs.Plain.{and_first, and_second}
 use Rattle.rb_base.proofs.Sets.{has-set_of}
 use Rattle.rb_rules.specs.declared.message.Message.{Message}
 use Rattle.rb_rules.specs.Clock.{IsStamp}
@@ -12,7 +14,7 @@ use Rattle.rb_rules.specs.Lawful.{IsLawful}
 use Rattle.rb_rules.specs.Ports.{HandIn}
 use Rattle.rb_rules.specs.Rounds.{moment}
 use Rattle.rb_rules.specs.Spelling.{message_in}
-use Rattle.rb_laws_agreement.proofs.Tests.{Passing, and_first, and_second, equal_from, less_from, same_some}
+use Rattle.rb_laws_agreement.proofs.Tests.{Passing}
 use Rattle.rb_listen.specs.Lessons.{frame_after, has_place, noted, with_record}
 use Rattle.rb_listen.specs.Listening.{first_search, if_message, if_pass, later, learning, newest_with, passing, recorded, searching, timed, with_message, with_pass}
 use Rattle.rb_listen.specs.Passes.{are_most, calling, falls_in, is_call, is_sync, pass_of, reach_of}
@@ -21,7 +23,7 @@ use Rattle.rb_listen.specs.declared.passes.Call.{Call}
 use Rattle.rb_listen.specs.declared.search.Search.{Search}
 use Rattle.rb_laws_listener_learns.specs.Deciding.{CallsHaveCome, DecidesAfterTheCalls}
 use Rattle.rb_laws_listener_learns.specs.Ears.{Ear, HearsTheRun, IsEar, IsHeard, IsOfGood, SendsIn, coming_to, is_always_good, listening_at}
-use Rattle.rb_laws_listener_learns.proofs.Inside.{not-over}
+use Rattle.rb_laws_listener_learns.proofs.Latest.{not-yet}
 use Rattle.rb_laws_listener_learns.proofs.Meeting.{meet}
 use Rattle.rb_laws_listener_learns.proofs.Recorded.{reads-sent}
 use Rattle.rb_laws_listener_learns.proofs.Seeks.{Begins, falls, good-inside, good-rmus, good-set, no-onset, none-there, pass-begins, set-case, set-other}
@@ -115,7 +117,7 @@ pass-well sc hands ear k n frame s after h = by (s.learns && (frame == s.lesson.
       newest = h.newest;
       inside = h.inside;
       decides = λ tick is.
-          subst (λ f. IsAfterCall sc hands ear f tick) same (subst (IsAfterCall sc hands ear frame) (same_some (s.had + reach_of sc.plan) tick is) after);
+          subst (λ f. IsAfterCall sc hands ear f tick) same (subst (IsAfterCall sc hands ear frame) (same_Some (s.had + reach_of sc.plan) tick is) after);
     }
 
     by : (a : Bool) → (s.learns && (frame == s.lesson.frame)) ≡ a → (b : Bool)
@@ -123,7 +125,7 @@ pass-well sc hands ear k n frame s after h = by (s.learns && (frame == s.lesson.
           | true ↦ record s { lesson = timed (s.had + reach_of sc.plan) s.lesson }
           | false ↦ elim b as (λ _. Search) [ true ↦ s | false ↦ learning (frame_after frame) s ]
         ])
-    by true e b = fixed (equal_from frame s.lesson.frame (and_second s.learns (frame == s.lesson.frame) e)) (is_some s.lesson.decides)
+    by true e b = fixed (eqb-true frame s.lesson.frame (and_second s.learns (frame == s.lesson.frame) e)) (is_some s.lesson.decides)
     by false e true = h
     by false e false = learning-well sc hands ear k n (frame_after frame) s h
 
@@ -219,10 +221,10 @@ heard-call sc hands law ear is k c in_time heard good m reads call = record {
     put = in-place sc hands law good.n c.from good.sending good.sent
 
     slot : m.slot ≡ sync_slot_of sc.sizes
-    slot = equal_from m.slot (sync_slot_of sc.sizes) (and_second (is_sync m.tag) (m.slot == sync_slot_of sc.sizes) (and_first (is_sync m.tag && (m.slot == sync_slot_of sc.sizes)) (m.stage == 2) call))
+    slot = eqb-true m.slot (sync_slot_of sc.sizes) (and_second (is_sync m.tag) (m.slot == sync_slot_of sc.sizes) (and_first (is_sync m.tag && (m.slot == sync_slot_of sc.sizes)) (m.stage == 2) call))
 
     stage : m.stage ≡ 2
-    stage = equal_from m.stage 2 (and_second (is_sync m.tag && (m.slot == sync_slot_of sc.sizes)) (m.stage == 2) call)
+    stage = eqb-true m.stage 2 (and_second (is_sync m.tag && (m.slot == sync_slot_of sc.sizes)) (m.stage == 2) call)
 
 heard-well : (sc : Scenario) (hands : List HandIn) → IsLawful sc → (ear : Ear) → IsEar sc ear → HearsTheRun sc hands ear → (k n : ℕ) (c : Coming) → k < ear.ticks
     → slice_get (ear.heard k) n ≡ Some c → (s : Search) → IsWell sc hands ear k n s → IsWell sc hands ear k (suc n) (searching sc.sizes sc.plan c.from c.bytes s)
@@ -243,7 +245,7 @@ heard-well sc hands law ear is run k n c in_time there s h = by (nat_lt c.from s
     by : (a : Bool) → nat_lt c.from sc.sizes.rmus ≡ a → (b : Bool)
         → IsWell sc hands ear k (suc n) (elim (a && b) as (λ _. Search) [ true ↦ if_message sc.sizes sc.plan c.from (message_in sc.plan.version c.bytes) s | false ↦ s ])
     by true e true =
-        let within : c.from < sc.sizes.rmus = less_from c.from sc.sizes.rmus e in
+        let within : c.from < sc.sizes.rmus = ltb-true c.from sc.sizes.rmus e in
         onward (if_message sc.sizes sc.plan c.from (message_in sc.plan.version c.bytes) s)
         (message-well sc hands ear law.sizes run.most_good k n c.from (message_in sc.plan.version c.bytes) s within (calls within) h)
     by true e false = onward s h
@@ -255,7 +257,7 @@ kept-well sc hands law ear is run = record {
   heard = heard-well sc hands law ear is run;
   decided = λ k n s in_time whole h deciding. learning-well sc hands ear (suc k) 0 (frame_after s.lesson.frame) (later s) (on k n s h);
   later = λ k n s in_time whole h going. on k n s h;
-  lasts = λ k n s in_time h. not-over sc ear is k s.had in_time h.had;
+  lasts = λ k n s in_time h. not-yet sc ear is k s.had in_time h.had;
 }
   where
     on : (k n : ℕ) (s : Search) → IsWell sc hands ear k n s → IsWell sc hands ear (suc k) 0 (later s)

@@ -1,7 +1,7 @@
 -- The stages of a frame as they are judged: one for each window, the newest first.
-use Rattle.std.proofs.Common.{◌≡◌, ℕ, zero, suc, ◌+◌, ◌-◌, ◌*◌, ◌/◌, ◌%◌, ◌<◌, ◌≤◌, ◌&&◌, not, Bool, true, false, Option, Some, None, List, [], ◌∷◌, ◌++◌, length, slice_get, inl, inr, refl, sym, ◌∙◌, ap, subst, arith}
+use Rattle.std.proofs.Common.{◌≡◌, ℕ, zero, suc, ◌+◌, ◌-◌, ◌*◌, ◌/◌, ◌%◌, ◌<◌, ◌≤◌, not, Bool, true, false, Option, Some, None, List, [], ◌∷◌, ◌++◌, length, slice_get, inl, inr, refl, sym, ◌∙◌, ap, subst, arith}
 use Rattle.std.specs.List.{list_any}
-use Rattle.std.proofs.lemmas.Bool.{cases_lt}
+use Rattle.std.proofs.lemmas.Bool.{and_from, cases_lt, not_from_false}
 use Rattle.rb_base.specs.Nodes.{Side, has}
 use Rattle.rb_base.specs.Nodes.Side.{Biu}
 use Rattle.rb_base.specs.Sizes.{sync_slot_of}
@@ -20,16 +20,15 @@ use Rattle.rb_laws_agreement.proofs.Agreement.{running_before}
 use Rattle.rb_laws_agreement.proofs.FrameBegins.{IsTurn, frame_turns}
 use Rattle.rb_laws_agreement.proofs.Goodnesses.{slot_last}
 use Rattle.rb_laws_agreement.proofs.Invariant.{IsGoodNode}
-use Rattle.rb_laws_agreement.proofs.JudgedWindows.{IsPassed, first_row_trusts, passed, rows_of}
+use Rattle.rb_laws_agreement.proofs.JudgedWindows.{IsPassed, first_row_trusts, nobody_trusted, passed, rows_of}
 use Rattle.rb_laws_agreement.proofs.NextMoments.{book_exact, next}
 use Rattle.rb_laws_agreement.proofs.NodeWindows.{Windows, sync_windows_are}
-use Rattle.rb_laws_agreement.proofs.Numbers.{how_many, one_of_many}
 use Rattle.rb_laws_agreement.proofs.Places.{IsPlaced, placed}
 use Rattle.rb_laws_agreement.proofs.Premises.{Premise, premise_holds}
 use Rattle.rb_laws_agreement.proofs.SlotRuns.{next-frame, next-window, step_through}
 use Rattle.rb_laws_agreement.proofs.SyncAgrees.{book_sync, book_tail}
-use Rattle.rb_laws_agreement.proofs.Tests.{Passing, and_both, and_first, not_so, or_neither_second}
-use Rattle.rb_base.proofs.Sets.{has-set_of, has_none}
+use Rattle.rb_laws_agreement.proofs.Tests.{or_neither_second}
+use Rattle.rb_base.proofs.Sets.{has-set_of}
 use Rattle.rb_laws_listener_near.specs.Judged.{HeardStage, heard_stages}
 
 -- A stage more.
@@ -162,13 +161,6 @@ fewer-none p seen (s ∷ more) stages h =
 
 -- The last stage.
 
-nobody-trusted : (p : ℕ → Bool) → 0 < how_many (λ j. has 0 j && p j) → ⊥
-nobody-trusted p some =
-    let one : Passing (λ j. has 0 j && p j) 0 16 = one_of_many (λ j. has 0 j && p j) some in
-    let yes_it : has 0 one.at ≡ true = and_first (has 0 one.at) (p one.at) one.passes in
-    let no_it : has 0 one.at ≡ false = has_none one.at in
-    cc
-
 -- the judge is told whom all trust
 pub told-now : (sc : Scenario) (m : Moment) (slot stage : ℕ) (ws : Windows sc m slot stage) (p : Place) (trusted : Side → ℕ)
     → ((me : Side) (i : ℕ) (st : NodeState) → slice_get (of_kind me m.nodes) i ≡ Some st → is_good sc me i m.frame slot ≡ true → (side : Side) → trusted_of side me st ≡ trusted side)
@@ -179,7 +171,7 @@ told-now sc m slot stage ws p trusted all none kind = go (present (in_order (row
     go [] is =
         let nobody : Premise sc p.frame p.slot (λ kind. 0) (judged_of sc p (rows_of sc m) ∷ m.book.stages) =
         premise_holds sc p.frame p.slot (λ kind. 0) (judged_of sc p (rows_of sc m) ∷ m.book.stages) (λ kind. ap (trusted_by kind) is) (λ kind. refl) none in
-        absurd (nobody-trusted (λ j. is_good sc Biu j p.frame p.slot) (omega (arith, nobody.most Biu)))
+        absurd (nobody_trusted (λ j. is_good sc Biu j p.frame p.slot) (omega (arith, nobody.most Biu)))
     go (r ∷ rs) is = ap (trusted_by kind) is ∙ first_row_trusts sc m slot stage ws trusted all r rs is kind
 
 -- after it a trusted node that is not good is suspect
@@ -188,8 +180,8 @@ pub last-suspects : (sc : Scenario) (hands : List HandIn) → IsLawful sc → (k
     → has (trusted kind) j ≡ true → is_good sc kind j (moment sc hands k).frame (sync_slot_of sc.sizes) ≡ false → is_suspect kind (moment sc hands (suc k)).book.stages j ≡ true
 last-suspects sc hands law k at running kind j small trusted all t faulty =
     subst (λ l. is_suspect kind l j ≡ true) (sym (ap (λ m. m.book.stages) s.is ∙ s.judged.stages))
-    (and_both (has newest_trusted j) (not (has newest_good j)) (ap (λ x. has x j) told ∙ t)
-    (not_so (has newest_good j)
+    (and_from (has newest_trusted j) (not (has newest_good j)) (ap (λ x. has x j) told ∙ t)
+    (not_from_false (has newest_good j)
     (has-set_of j (λ i. is_good sc kind i (moment sc hands k).frame ((moment sc hands k).window / 3)) small ∙ ap (is_good sc kind j (moment sc hands k).frame) slot ∙ faulty)))
   where
     s : IsStepped sc hands k

@@ -2,13 +2,14 @@
 -- ticks after a tick at which not all such calls of the learned frame had come.
 use Rattle.std.proofs.Common.{◌≡◌, ◌⊎◌, ℕ, ◌+◌, ◌-◌, ◌*◌, ◌%◌, ◌<◌, ◌≤◌, ◌==◌, ◌&&◌, ◌||◌, not, nat_lt, Bool, true, false, Option, Some, None, List, length, get_or, slice_set, inl, inr, refl, sym, ◌∙◌, ap, subst, arith}
 use Rattle.std.specs.List.{list_any}
-use Rattle.std.proofs.lemmas.Bool.{cases_lt, cases_order}
+use Rattle.std.proofs.lemmas.Bool.{and_from, cases_lt, cases_order, eq-eqb, eqb-true, false_from_ne_true, not-false, not-true}
 use Rattle.std.proofs.lemmas.Bool.Decides.{nat_tests}
 use Rattle.std.proofs.Math.Nat.{mul-le-mul_right}
 use Rattle.rb_base.specs.Counting.{numbers}
 use Rattle.rb_base.specs.Nodes.{has, set_of, size}
 use Rattle.rb_base.specs.Nodes.Side.{Rmu}
 use Rattle.rb_base.specs.Sizes.{IsShape, sync_slot_of}
+use Rattle.rb_base.proofs.Plain.{and_first, and_second}
 use Rattle.rb_base.proofs.Sets.{has-set_of}
 use Rattle.rb_base.proofs.SetSizes.{size_within}
 use Rattle.rb_rules.specs.Clock.{IsStamp, stamp_of}
@@ -19,7 +20,7 @@ use Rattle.rb_rules.specs.Ports.{HandIn}
 use Rattle.rb_rules.specs.Rounds.{moment, windows_in}
 use Rattle.rb_rules.proofs.Spellings.{read_back}
 use Rattle.rb_rules.proofs.Stamps.{stamp_of-is}
-use Rattle.rb_laws_agreement.proofs.Tests.{Passing, and_both, and_first, and_second, equal_from, not_false, not_true, passes_at, passing, so_not}
+use Rattle.rb_laws_agreement.proofs.Tests.{Passing, passes_at, passing}
 use Rattle.rb_laws_agreement.proofs.Agreement.{agreement}
 use Rattle.rb_laws_agreement.proofs.Places.{running_earlier}
 use Rattle.rb_rules.proofs.Middles.{IsBetween}
@@ -36,6 +37,7 @@ use Rattle.rb_laws_listener_learns.proofs.Calling.{heard-to-call}
 use Rattle.rb_laws_listener_learns.proofs.Deciding.{IsHeardCall, IsWell}
 use Rattle.rb_laws_listener_learns.proofs.Latest.{IsCallAt, IsLate}
 use Rattle.rb_laws_listener_learns.proofs.Meeting.{meet}
+use Rattle.rb_laws_listener_learns.proofs.Moments.{same-frame}
 use Rattle.rb_laws_listener_learns.proofs.PassSets.{AreOfRmus, BeginsAt, FallsIn, FallsThere, all-falls, begins-pass, in-set, more-than, new-or-old, of-rmus, pass-at}
 use Rattle.rb_laws_listener_learns.proofs.Recorded.{IsEarlier}
 use Rattle.rb_laws_listener_learns.proofs.Seeks.{always-counts, good-inside, good-rmus, good-set}
@@ -50,9 +52,6 @@ pub record IsGoodCall (sc : Scenario) (hands : List HandIn) (ear : Ear) (number 
 
 -- Frames by their numbers.
 
-same-number : (a b most : ℕ) → a ≤ most → b ≤ most → most ≤ 4096 → a % 65536 ≡ b % 65536 → a ≡ b
-same-number a b most le_a le_b small e = omega (arith, e, le_a, le_b, small)
-
 next-number : (a b most : ℕ) → a ≤ most → b ≤ most → most ≤ 4096 → b % 65536 ≡ (a % 65536 + 1) % 65536 → b ≡ a + 1
 next-number a b most le_a le_b small e = omega (arith, e, le_a, le_b, small)
 
@@ -65,7 +64,7 @@ within sc hands ear j number at c = within_run sc hands c.n c.sent.running
 pub same-frame-number : (sc : Scenario) (hands : List HandIn) → IsLawful sc → (ear : Ear) (i j p q a b : ℕ) (c : IsHeardCall sc hands ear i p a) (d : IsHeardCall sc hands ear j q b) → p ≡ q
     → (moment sc hands c.n).frame ≡ (moment sc hands d.n).frame
 same-frame-number sc hands law ear i j p q a b c d e =
-    same-number (moment sc hands c.n).frame (moment sc hands d.n).frame sc.frames (within sc hands ear i p a c) (within sc hands ear j q b d) law.frames.1
+    same-frame (moment sc hands c.n).frame (moment sc hands d.n).frame sc.frames (within sc hands ear i p a c) (within sc hands ear j q b d) law.frames.1
     (sym c.number_is ∙ e ∙ d.number_is)
 
 pub next-frame-number : (sc : Scenario) (hands : List HandIn) → IsLawful sc → (ear : Ear) (i j p q a b : ℕ) (c : IsHeardCall sc hands ear i p a) (d : IsHeardCall sc hands ear j q b)
@@ -127,17 +126,17 @@ onset-in sc law j frame slot counted is =
 pub always-good-in : (sc : Scenario) (hands : List HandIn) → IsLawful sc → (j frame slot : ℕ) → IsRunning (before_slot sc hands frame slot) → is_always_good sc hands j ≡ true
     → is_good sc Rmu j frame slot ≡ true
 always-good-in sc hands law j frame slot running good =
-    and_both (nat_lt j sc.sizes.rmus) (is_before (get_or sc.rmu_onsets j None) frame slot)
+    and_from (nat_lt j sc.sizes.rmus) (is_before (get_or sc.rmu_onsets j None) frame slot)
     (and_first (nat_lt j sc.sizes.rmus) (not (comes_to sc hands (get_or sc.rmu_onsets j None))) good)
     (by (get_or sc.rmu_onsets j None) refl
-    (not_true (comes_to sc hands (get_or sc.rmu_onsets j None)) (and_second (nat_lt j sc.sizes.rmus) (not (comes_to sc hands (get_or sc.rmu_onsets j None))) good)))
+    (not-true (comes_to sc hands (get_or sc.rmu_onsets j None)) (and_second (nat_lt j sc.sizes.rmus) (not (comes_to sc hands (get_or sc.rmu_onsets j None))) good)))
   where
     by : (o : Option (ℕ × ℕ)) → get_or sc.rmu_onsets j None ≡ o → comes_to sc hands o ≡ false → is_before o frame slot ≡ true
     by None is never = refl
-    by (Some onset) is never = not_false (is_before (Some onset) frame slot) (so_not (not (is_before (Some onset) frame slot)) (λ later.
+    by (Some onset) is never = not-false (is_before (Some onset) frame slot) (false_from_ne_true (not (is_before (Some onset) frame slot)) (λ later.
         let began : IsRunning (before_slot sc hands onset.0 onset.1) =
         running_earlier sc hands (onset.0 * (windows_in sc.sizes + 1) + 3 * onset.1 + 1 - 1) (frame * (windows_in sc.sizes + 1) + 3 * slot + 1 - 1)
-        (not-later (windows_in sc.sizes + 1) (sync_slot_of sc.sizes) onset.0 onset.1 frame slot (omega arith) (onset-in sc law j onset.0 onset.1 (always-counts sc hands j good) is) (not_true (is_before (Some onset) frame slot) later)) running in
+        (not-later (windows_in sc.sizes + 1) (sync_slot_of sc.sizes) onset.0 onset.1 frame slot (omega arith) (onset-in sc law j onset.0 onset.1 (always-counts sc hands j good) is) (not-true (is_before (Some onset) frame slot) later)) running in
         let both : true ≡ false = sym (ap not began) ∙ never in cc))
 
 -- and in the slot of each moment of the run, and in those before it in its frame
@@ -252,7 +251,7 @@ pub record HasCalled (newest : List (Option Call)) (q j : ℕ) : Type 0 where
 
 called-of : (newest : List (Option Call)) (q j : ℕ) (o : Option Call) → get_or newest j None ≡ o → is_of q o ≡ true → HasCalled newest q j
 called-of newest q j None e h = cc
-called-of newest q j (Some c) e h = record { call = c; there = e; frame_is = equal_from c.frame q h }
+called-of newest q j (Some c) e h = record { call = c; there = e; frame_is = eqb-true c.frame q h }
 
 -- where none is missing there is a pass
 none-missing : (sc : Scenario) (hands : List HandIn) → IsLawful sc → (ear : Ear) → IsEar sc ear → are_most sc.sizes (set_of (is_always_good sc hands)) ≡ true → (k q : ℕ) (newest : List (Option Call))
@@ -312,9 +311,6 @@ none-missing sc hands law ear is most k q newest known i good called = by least.
     by (inl nobody) = let both : true ≡ false = sym good ∙ nobody i (below-16 sc hands law.sizes i good) in absurd (cc)
     by (inr one) = begins-pass sc.sizes sc.plan newest q law.sizes.most_rmus known.inside (begins one.0 one.1 one.2)
 
-eq-true : (a b : ℕ) → a ≡ b → (a == b) ≡ true
-eq-true a b e = grind (arith, nat_tests, e)
-
 -- a good call of the frame comes now or later
 pub record IsStillToCome (sc : Scenario) (hands : List HandIn) (ear : Ear) (number k : ℕ) : Type 0 where
   pub at : ℕ
@@ -366,7 +362,7 @@ still-to-come sc hands law ear is run k n p q newest in_time known latest before
                 | inr le ↦
                     let frames : (moment sc hands known_it.0.n).frame ≡ (moment sc hands soon.call.call.n).frame = omega (arith, ge, le) in
                     let of_q : c.frame ≡ q = known_it.0.number_is ∙ ap (λ f. f % 65536) frames ∙ sym soon.call.call.number_is in
-                    let is_it : is_of q (Some c) ≡ true = eq-true c.frame q of_q in
+                    let is_it : is_of q (Some c) ≡ true = eq-eqb c.frame q of_q in
                     let both : true ≡ false = sym is_it ∙ ap (is_of q) (sym e) ∙ other in cc
               ]
             ]
@@ -389,9 +385,9 @@ still-to-come sc hands law ear is run k n p q newest in_time known latest before
     all : list_any (is_missing sc hands newest q) (numbers 16) ≡ false → (j : ℕ) → is_always_good sc hands j ≡ true → HasCalled newest q j
     all nobody j good =
         let b : is_of q (get_or newest j None) ≡ true =
-        not_false (is_of q (get_or newest j None)) (so_not (not (is_of q (get_or newest j None))) (λ missing.
+        not-false (is_of q (get_or newest j None)) (false_from_ne_true (not (is_of q (get_or newest j None))) (λ missing.
         let found : list_any (is_missing sc hands newest q) (numbers 16) ≡ true =
-        passes_at (is_missing sc hands newest q) j (below-16 sc hands law.sizes j good) (and_both (is_always_good sc hands j) (not (is_of q (get_or newest j None))) good missing) in
+        passes_at (is_missing sc hands newest q) j (below-16 sc hands law.sizes j good) (and_from (is_always_good sc hands j) (not (is_of q (get_or newest j None))) good missing) in
         let both : true ≡ false = sym found ∙ nobody in cc)) in
         called-of newest q j (get_or newest j None) refl b
 
@@ -399,5 +395,5 @@ still-to-come sc hands law ear is run k n p q newest in_time known latest before
     by true e =
         let one : Passing (is_missing sc hands newest q) 0 16 = passing (is_missing sc hands newest q) 0 16 e in
         comes one.at (and_first (is_always_good sc hands one.at) (not (is_of q (get_or newest one.at None))) one.passes)
-        (not_true (is_of q (get_or newest one.at None)) (and_second (is_always_good sc hands one.at) (not (is_of q (get_or newest one.at None))) one.passes))
+        (not-true (is_of q (get_or newest one.at None)) (and_second (is_always_good sc hands one.at) (not (is_of q (get_or newest one.at None))) one.passes))
     by false e = absurd (none (none-missing sc hands law ear is run.most_good k q newest known soon.call.j soon.call.good (all e)))

@@ -1,20 +1,20 @@
 -- Nothing is recorded of RMUs that there are not.
 use Rattle.std.proofs.Common.{◌≡◌, ℕ, suc, ◌+◌, ◌^◌, ◌<◌, ◌≤◌, ◌==◌, ◌&&◌, nat_lt, Bool, true, false, Option, Some, None, is_some, if◌then◌else◌, inl, inr, refl, ◌∙◌, arith}
-use Rattle.std.proofs.lemmas.Bool.Decides.{nat_tests}
+use Rattle.std.proofs.lemmas.Bool.{ltb-true}
 use Rattle.rb_base.specs.Sizes.{IsShape, Sizes, sync_slot_of}
 use Rattle.rb_rules.specs.declared.message.Message.{Message}
 use Rattle.rb_rules.specs.declared.sense.Sense.TheVariants.{Silent}
 use Rattle.rb_rules.specs.Goodness.{Scenario}
 use Rattle.rb_rules.specs.Hearing.{Coming}
 use Rattle.rb_rules.specs.Spelling.{message_in}
-use Rattle.rb_laws_agreement.proofs.Tests.{less_from}
 use Rattle.rb_listen.specs.Lessons.{frame_after, has_place, noted, place_of, record_of, with_message, with_record}
-use Rattle.rb_listen.specs.Listening.{first_search, if_message, if_pass, is_over, later, learning, newest_with, passing, recorded, searching, timed, with_pass}
+use Rattle.rb_listen.specs.Listening.{first_search, if_message, if_pass, later, learning, newest_with, passing, recorded, searching, timed, with_pass}
 use Rattle.rb_listen.specs.Listening.{with_message as hearing_of}
 use Rattle.rb_listen.specs.Passes.{is_call, pass_of, reach_of}
 use Rattle.rb_listen.specs.declared.lesson.Lesson.{Lesson}
 use Rattle.rb_listen.specs.declared.search.Search.{Search}
 use Rattle.rb_laws_listener_learns.specs.Ears.{Ear, IsEar}
+use Rattle.rb_laws_listener_learns.proofs.Latest.{not-yet}
 use Rattle.rb_laws_listener_learns.proofs.Recorded.{nothing-there, same-place, set-either}
 use Rattle.rb_laws_listener_learns.proofs.Walks.{IsKept}
 
@@ -97,16 +97,10 @@ heard-inside sc shape k n c s h = by (nat_lt c.from sc.sizes.rmus) refl (nat_lt 
         → IsInside sc k (suc n) (elim (a && b) as (λ _. Search) [ true ↦ if_message sc.sizes sc.plan c.from (message_in sc.plan.version c.bytes) s | false ↦ s ])
     by true e true =
         let x : IsInside sc k n (if_message sc.sizes sc.plan c.from (message_in sc.plan.version c.bytes) s) =
-        message-inside sc k n c.from (message_in sc.plan.version c.bytes) s (less_from c.from sc.sizes.rmus e) shape.most_rmus h in
+        message-inside sc k n c.from (message_in sc.plan.version c.bytes) s (ltb-true c.from sc.sizes.rmus e) shape.most_rmus h in
         record { had = x.had; none = x.none }
     by true e false = record { had = h.had; none = h.none }
     by false e b = record { had = h.had; none = h.none }
-
-pub not-over : (sc : Scenario) (ear : Ear) → IsEar sc ear → (k had : ℕ) → k < ear.ticks → had ≡ k → is_over had ≡ false
-not-over sc ear is k had in_time same = by had (omega (arith, in_time, is.ticks, same))
-  where
-    by : (had : ℕ) → had < 2 ^ 31 → is_over had ≡ false
-    by had below = grind (arith, nat_tests, below)
 
 pub kept-inside : (sc : Scenario) → IsShape sc.sizes → (ear : Ear) → IsEar sc ear → IsKept sc ear (IsInside sc)
 kept-inside sc shape ear is = record {
@@ -114,5 +108,5 @@ kept-inside sc shape ear is = record {
   heard = λ k n c in_time there s h. heard-inside sc shape k n c s h;
   decided = λ k n s in_time whole h deciding. record { had = omega (arith, h.had); none = begun-none sc.sizes (frame_after s.lesson.frame) (later s) };
   later = λ k n s in_time whole h going. record { had = omega (arith, h.had); none = h.none };
-  lasts = λ k n s in_time h. not-over sc ear is k s.had in_time h.had;
+  lasts = λ k n s in_time h. not-yet sc ear is k s.had in_time h.had;
 }

@@ -19,7 +19,7 @@ use Rattle.rb_laws_agreement.proofs.NodeWindows.{sync_windows_are, tail_windows}
 use Rattle.rb_laws_agreement.proofs.SlotRuns.{next-frame, next-window}
 use Rattle.rb_laws_agreement.proofs.SyncAgrees.{book_sync, leaves, stage_setting, tail_setting}
 use Rattle.rb_laws_agreement.proofs.ThirdStages.{other_votes_kept}
-use Rattle.rb_laws_listener_learns.proofs.Apart.{turn-number}
+use Rattle.rb_laws_synchrony.proofs.EpochTicks.{turned-frame}
 
 -- the good node was good at moment n of the frame, trusted the same, and had the votes on slots that were finished then
 pub record LastsFrom (sc : Scenario) (hands : List HandIn) (n : ℕ) (me : Side) (i : ℕ) (now : NodeState) : Type 0 where
@@ -97,7 +97,7 @@ frames-rise sc hands n (suc d) running =
     let now : (moment sc hands (suc d + n)).frame ≡ (moment sc hands (suc (d + n))).frame = ap (λ k. (moment sc hands k).frame) e in
     elim (step_is sc hands (moment sc hands (d + n)) on) [
       | inl window ↦ omega (arith, before, now, ap (λ m. m.frame) window.1, next-frame sc (moment sc hands (d + n)))
-      | inr turn ↦ omega (arith, before, now, ap (λ m. m.frame) turn.1, turn-number sc hands (moment sc hands (d + n)))
+      | inr turn ↦ omega (arith, before, now, ap (λ m. m.frame) turn.1, turned-frame sc hands (moment sc hands (d + n)))
     ]
 
 pub all-last : (sc : Scenario) (hands : List HandIn) → IsLawful sc → (n d : ℕ) → IsRunning (moment sc hands (d + n)) → (moment sc hands (d + n)).frame ≡ (moment sc hands n).frame
@@ -118,7 +118,7 @@ all-last sc hands law n (suc d) running same =
           next-lasts sc hands law n (d + n) open_before window.0 (ap (λ x. x.book.ended) (sym window.1) ∙ on) window.1
           (all-last sc hands law n d open_before (omega (arith, same, now, ap (λ m. m.frame) window.1, next-frame sc (moment sc hands (d + n)))))
       | inr turn ↦
-          absurd (omega (arith, same, now, ap (λ m. m.frame) turn.1, turn-number sc hands (moment sc hands (d + n)), frames-rise sc hands n d open_before))
+          absurd (omega (arith, same, now, ap (λ m. m.frame) turn.1, turned-frame sc hands (moment sc hands (d + n)), frames-rise sc hands n d open_before))
     ])
 
 -- from any moment of the frame to a later one

@@ -1,13 +1,13 @@
 -- Of each RMU a search has the newest call that came.
 use Rattle.std.proofs.Common.{◌≡◌, ◌⊎◌, ℕ, zero, suc, ◌+◌, ◌^◌, ◌<◌, ◌≤◌, nat_lt, true, false, Option, Some, None, List, [], ◌∷◌, length, get_or, slice_get, slice_set, inl, inr, refl, sym, ◌∙◌, ap, subst, arith}
-use Rattle.std.proofs.lemmas.Bool.{cases_lt}
+use Rattle.std.proofs.lemmas.Bool.{cases_lt, lt-ltb}
 use Rattle.std.proofs.lemmas.Bool.Decides.{nat_tests}
 use Rattle.std.proofs.lemmas.List.{get_or-set_same, length-set}
+use Rattle.std.proofs.lemmas.Option.{same_Some}
 use Rattle.rb_rules.specs.declared.message.Message.{Message}
 use Rattle.rb_rules.specs.Goodness.{Scenario}
 use Rattle.rb_rules.specs.Hearing.{Coming}
 use Rattle.rb_rules.specs.Spelling.{message_in}
-use Rattle.rb_laws_agreement.proofs.Tests.{less_true, same_some}
 use Rattle.rb_base.specs.Sizes.{IsShape}
 use Rattle.rb_listen.specs.Lessons.{frame_after}
 use Rattle.rb_listen.specs.Listening.{first_search, if_pass, is_over, later, learning, recorded, searching}
@@ -146,10 +146,10 @@ call-latest sc ear k n from m s shape within only h = record {
         subst (λ x. IsLate at (get_or (slice_set (recorded sc.sizes from m s).newest from (Some call)) x None)) (sym same) (new at (earlier-le at i k (suc n) before))
 
 pub going : (sc : Scenario) (ear : Ear) → IsEar sc ear → (k had : ℕ) → k < ear.ticks → had ≡ k → nat_lt had (2 ^ 31) ≡ true
-going sc ear is k had in_time same = less_true had (2 ^ 31) (omega (arith, in_time, is.ticks, same))
+going sc ear is k had in_time same = lt-ltb had (2 ^ 31) (omega (arith, in_time, is.ticks, same))
 
 same-coming-at : (ear : Ear) (k n : ℕ) (c d : Coming) → slice_get (ear.heard k) n ≡ Some c → slice_get (ear.heard k) n ≡ Some d → d ≡ c
-same-coming-at ear k n c d a b = same_some d c (sym b ∙ a)
+same-coming-at ear k n c d a b = same_Some d c (sym b ∙ a)
 
 heard-latest : (sc : Scenario) (ear : Ear) → IsShape sc.sizes → IsEar sc ear → (k n : ℕ) (c : Coming) → k < ear.ticks → slice_get (ear.heard k) n ≡ Some c → (s : Search) → IsLatest sc ear k n s
     → IsLatest sc ear k (suc n) (searching sc.sizes sc.plan c.from c.bytes s)
@@ -158,7 +158,7 @@ heard-latest sc ear shape is k n c in_time there s h =
       nothing = λ none. no-call sc ear k n s (λ j within call. none (subst (λ x. x < sc.sizes.rmus) (sym (mine j call)) within) call.message (read j call)) h;
       message = λ within m reads other.
           no-call sc ear k n (recorded sc.sizes c.from m s)
-          (λ j within call. let both : false ≡ true = sym other ∙ ap (is_call sc.sizes) (same_some m call.message (sym reads ∙ read j call)) ∙ call.call in cc)
+          (λ j within call. let both : false ≡ true = sym other ∙ ap (is_call sc.sizes) (same_Some m call.message (sym reads ∙ read j call)) ∙ call.call in cc)
           (recorded-latest sc ear k n c.from m s h);
       call = λ within m reads calls o pass.
           same-latest sc ear k (suc n) (with_call sc.sizes c.from m s) (if_pass sc.plan o (with_call sc.sizes c.from m s)) (pass-calls sc.plan o (with_call sc.sizes c.from m s))

@@ -1,10 +1,12 @@
 -- The votes of a listener on the vectors of the learned frame are those of the bus.
 use Rattle.std.proofs.Common.{◌≡◌, ℕ, suc, ◌+◌, ◌-◌, ◌*◌, ◌<◌, ◌≤◌, nat_lt, Bool, true, false, Option, Some, None, is_some, if◌then◌else◌, List, refl, sym, ◌∙◌, ap, subst, arith}
+use Rattle.std.proofs.lemmas.Bool.{ltb-true}
 use Rattle.rb_base.specs.Counting.{numbers}
 use Rattle.rb_base.specs.Nodes.{Side, has, set_of, size}
 use Rattle.rb_base.specs.Nodes.Side.{Biu, Rmu}
-use Rattle.rb_base.specs.Sizes.{Sizes, sync_slot_of}
+use Rattle.rb_base.specs.Sizes.{sync_slot_of}
 use Rattle.rb_base.specs.declared.values.Heard.{Heard}
+use Rattle.rb_base.proofs.Plain.{and_first}
 use Rattle.rb_base.proofs.Sets.{has-set_of}
 use Rattle.rb_rules.specs.declared.role.Role.TheVariants.{DiagRmu}
 use Rattle.rb_rules.specs.declared.sense.Sense.{Sense}
@@ -16,13 +18,13 @@ use Rattle.rb_rules.specs.NodeState.{NodeState, sender_at, trusted_of}
 use Rattle.rb_rules.specs.Ports.{HandIn}
 use Rattle.rb_rules.specs.Rounds.{Moment, moment, windows_in}
 use Rattle.rb_rules.specs.Sense.{value_in}
-use Rattle.rb_rules.specs.Slots.{count_of, has_third_stage, listens, role_of, same_side, sender_in, sender_kind}
+use Rattle.rb_rules.specs.Slots.{count_of, listens, role_of, sender_in, sender_kind}
 use Rattle.rb_rules.specs.Slots.Sender.{Node}
-use Rattle.rb_rules.specs.StandsFor.{votes_on}
 use Rattle.rb_rules.proofs.Votes.{vote_is}
 use Rattle.rb_laws_agreement.proofs.Agreement.{IsAgreed, agreement, exact-setting}
+use Rattle.rb_laws_agreement.proofs.Convicting.{vector-votes}
 use Rattle.rb_laws_agreement.proofs.Exchanges.{sender-held}
-use Rattle.rb_laws_agreement.proofs.FrameTurns.{role-sender, role-votes}
+use Rattle.rb_laws_agreement.proofs.FrameTurns.{role-sender}
 use Rattle.rb_laws_agreement.proofs.Invariant.{HasVoted, IsFinished, IsGoodNode, Shared, kind_in}
 use Rattle.rb_laws_agreement.proofs.NextMoments.{CameFrom, came_from}
 use Rattle.rb_laws_agreement.proofs.NodeWindows.{word_at}
@@ -31,7 +33,6 @@ use Rattle.rb_laws_agreement.proofs.Places.{running_earlier}
 use Rattle.rb_laws_agreement.proofs.SlotRuns.{next-frame, next-window}
 use Rattle.rb_laws_agreement.proofs.Settings.{Setting}
 use Rattle.rb_laws_agreement.proofs.Speaking.{vote_is_said}
-use Rattle.rb_laws_agreement.proofs.Tests.{and_first, less_from}
 use Rattle.rb_laws_agreement.proofs.ThirdStages.{held_3, voted}
 use Rattle.rb_laws_agreement.proofs.Vectors.{vector_slot, vector_slot-lt, vector_slot-role}
 use Rattle.rb_listen.specs.Lessons.{ones_in, record_of, recorded_of, stage_recorded, trusted_rmus, trusts_rmu, vote_on}
@@ -126,9 +127,9 @@ votes-for sc hands law most records slot value trusted said =
     (λ j below good. always-counts sc hands j good)
     (λ j below some.
     let in_set : has (trusted_rmus sc.sizes records) j ≡ true = if-none (has (trusted_rmus sc.sizes records) j) (value_in (record_of records slot j)) some in
-    less_from j sc.sizes.rmus
+    ltb-true j sc.sizes.rmus
     (and_first (nat_lt j sc.sizes.rmus) (are_most sc.sizes (ones_in records (2 * sc.sizes.bius + sc.sizes.data_slots + j))) (sym (has-set_of j (trusts_rmu sc.sizes records) below) ∙ in_set)))
-    (omega (arith, less_from sc.sizes.rmus (2 * size (set_of (is_always_good sc hands))) most, how_many-is (is_always_good sc hands))))
+    (omega (arith, ltb-true sc.sizes.rmus (2 * size (set_of (is_always_good sc hands))) most, how_many-is (is_always_good sc hands))))
 
 pub good-trusted : (sc : Scenario) (hands : List HandIn) (ear : Ear) (f : ℕ) (records : List Sense) (c : Learner sc hands ear f records) (slot q : ℕ) → slot < sync_slot_of sc.sizes → q < 3 → (j : ℕ)
     → is_always_good sc hands j ≡ true → has (trusted_rmus sc.sizes records) j ≡ true
@@ -140,9 +141,6 @@ good-trusted sc hands ear f records c slot q below small j good =
     ∙ s.setting.agree.trusted Rmu j mine.node.good
 
 -- The values that the bus ends with.
-
-vector-votes : (sizes : Sizes) (kind : Side) (i : ℕ) (me : Side) → i < count_of kind sizes → votes_on sizes (vector_slot sizes kind i) me ≡ true
-vector-votes sizes kind i me count = ap (λ r. if has_third_stage r then true else same_side me Biu) (vector_slot-role sizes kind i count) ∙ role-votes kind i me
 
 pub value-at-end : (sc : Scenario) (hands : List HandIn) (ear : Ear) (f : ℕ) (records : List Sense) (c : Learner sc hands ear f records) (kind : Side) (i : ℕ) → i < count_of kind sc.sizes
     → (s : AtStage sc hands f (vector_slot sc.sizes kind i) 2)

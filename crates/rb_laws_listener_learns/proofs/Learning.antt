@@ -1,8 +1,10 @@
 -- What holds of a search at each tick: what it has recorded it has since soon after calls of good RMUs, and when it decides.
 use Rattle.std.proofs.Common.{◌≡◌, ◌⊎◌, ℕ, suc, ◌+◌, ◌*◌, ◌<◌, ◌≤◌, ◌==◌, ◌&&◌, Bool, true, false, Option, Some, None, is_some, List, length, get_or, replicate, slice_get, if◌then◌else◌, inl, inr, refl, sym, ◌∙◌, ap, subst, arith}
-use Rattle.std.proofs.lemmas.Bool.Decides.{nat_tests}
+use Rattle.std.proofs.lemmas.Bool.{eq-eqb, eqb-true}
 use Rattle.std.proofs.lemmas.List.{length-replicate, length-set}
+use Rattle.std.proofs.lemmas.Option.{same_Some}
 use Rattle.rb_base.specs.Sizes.{IsShape, Sizes, sync_slot_of}
+use Rattle.rb_base.proofs.Plain.{and_first, and_second}
 use Rattle.rb_rules.specs.declared.message.Message.{Message}
 use Rattle.rb_rules.specs.declared.sense.Sense.TheVariants.{Silent}
 use Rattle.rb_rules.specs.Core.{is_tick}
@@ -13,7 +15,6 @@ use Rattle.rb_rules.specs.Ports.{HandIn}
 use Rattle.rb_rules.specs.Rounds.{moment}
 use Rattle.rb_rules.specs.Spelling.{message_in}
 use Rattle.rb_rules.proofs.Spellings.{read_back}
-use Rattle.rb_laws_agreement.proofs.Tests.{and_first, and_second, equal_from, same_some}
 use Rattle.rb_listen.specs.Lessons.{frame_after, has_place, lesson_on, noted, nothing_recorded, record_of, with_message, with_record}
 use Rattle.rb_listen.specs.Listening.{first_search, if_pass, is_deciding, later, learning, recorded, searching, timed}
 use Rattle.rb_listen.specs.Passes.{is_call, pass_of, reach_of}
@@ -29,7 +30,7 @@ use Rattle.rb_laws_listener_learns.proofs.Noting.{AreNotedBy, HasRoom, begun-not
 use Rattle.rb_laws_listener_learns.proofs.PassSets.{BeginsAt, pass-at}
 use Rattle.rb_laws_listener_learns.proofs.Recorded.{IsEarlier}
 use Rattle.rb_laws_listener_learns.proofs.Searchings.{RecordsOnly, pass-by, recorded-only, search-by, with_call}
-use Rattle.rb_laws_listener_learns.proofs.Seeks.{always-counts, no-onset, none-there}
+use Rattle.rb_laws_listener_learns.proofs.Seeks.{always-counts, no-onset, none-there, timed-frame}
 use Rattle.rb_laws_listener_learns.proofs.Sendings.{in-place}
 use Rattle.rb_laws_listener_learns.proofs.Walks.{HoldsAt, IsKept, always-at}
 
@@ -140,7 +141,7 @@ not-there sc hands ear k n c s there none h = record {
       let l : LearnsFrom sc hands ear k n s.lesson = h.lesson learns in
       with-noted sc hands ear k n k (suc n) s.lesson s.lesson l refl refl refl
       (none-noted sc ear l.since k n s.lesson (λ slot j m within placed.
-      let same : placed.coming ≡ c = same_some placed.coming c (sym placed.there ∙ there) in
+      let same : placed.coming ≡ c = same_Some placed.coming c (sym placed.there ∙ there) in
       let from : j ≡ c.from = sym placed.from ∙ ap (λ (x : Coming). x.from) same in
       none (omega (arith, within, from)) m (ap (λ (x : Coming). message_in sc.plan.version x.bytes) (sym same) ∙ placed.reads)) l.noted);
 }
@@ -177,13 +178,6 @@ timed-some tick lesson = by (is_some lesson.decides) refl
     by true e = e
     by false e = refl
 
-timed-frame : (tick : ℕ) (lesson : Lesson) → (timed tick lesson).frame ≡ lesson.frame
-timed-frame tick lesson = by (is_some lesson.decides)
-  where
-    by : (b : Bool) → (elim b as (λ _. Lesson) [ true ↦ lesson | false ↦ record lesson { decides = Some tick } ]).frame ≡ lesson.frame
-    by true = refl
-    by false = refl
-
 timed-learns : (sc : Scenario) (hands : List HandIn) (ear : Ear) (k n tick : ℕ) (lesson : Lesson) → (is_some lesson.decides ≡ false → IsFixed sc hands ear lesson.frame tick)
     → LearnsFrom sc hands ear k n lesson → LearnsFrom sc hands ear k n (timed tick lesson)
 timed-learns sc hands ear k n tick lesson fixed h = by (is_some lesson.decides) refl
@@ -199,7 +193,7 @@ timed-learns sc hands ear k n tick lesson fixed h = by (is_some lesson.decides) 
       soon = h.soon;
       long = h.long;
       noted = h.noted;
-      fixed = λ t is. subst (IsFixed sc hands ear lesson.frame) (same_some tick t is) (fixed e);
+      fixed = λ t is. subst (IsFixed sc hands ear lesson.frame) (same_Some tick t is) (fixed e);
     }
 
 not-after : (q : ℕ) → q ≡ frame_after q → ⊥
@@ -209,9 +203,6 @@ both-false : (a b : Bool) → (a && b) ≡ false → a ≡ true → b ≡ true �
 both-false true true h p q = cc
 both-false true false h p q = cc
 both-false false b h p q = cc
-
-eq-true : (a b : ℕ) → a ≡ b → (a == b) ≡ true
-eq-true a b e = grind (arith, nat_tests, e)
 
 -- a call, and the pass that it may make
 pass-learns : (sc : Scenario) (hands : List HandIn) → IsLawful sc → (ear : Ear) → IsEar sc ear → HearsTheRun sc hands ear → (k n from q : ℕ) (m : Message) (s : Search) → k < ear.ticks
@@ -233,7 +224,7 @@ pass-learns sc hands law ear is run k n from q m s in_time within before after l
         (well-known sc hands ear k n (with_call sc.sizes from m s) after) none made
 
     same-pass : (p : ℕ) → pass_of sc.sizes sc.plan (with_call sc.sizes from m s).newest ≡ Some p → q ≡ p
-    same-pass p is_p = same_some q p (sym made ∙ is_p)
+    same-pass p is_p = same_Some q p (sym made ∙ is_p)
 
     fixes : (with_call sc.sizes from m s).learns ≡ true → q ≡ (with_call sc.sizes from m s).lesson.frame
         → LearnsWell sc hands ear k (suc n) (record (with_call sc.sizes from m s) { lesson = timed ((with_call sc.sizes from m s).had + reach_of sc.plan) (with_call sc.sizes from m s).lesson })
@@ -280,10 +271,10 @@ pass-learns sc hands law ear is run k n from q m s in_time within before after l
         let known = h.pass q was in
         elim known.1 [
           | inl both ↦
-              both-false (recorded sc.sizes from m s).learns (q == (recorded sc.sizes from m s).lesson.frame) a known.0 (eq-true q (recorded sc.sizes from m s).lesson.frame (sym both.0))
+              both-false (recorded sc.sizes from m s).learns (q == (recorded sc.sizes from m s).lesson.frame) a known.0 (eq-eqb q (recorded sc.sizes from m s).lesson.frame (sym both.0))
           | inr next ↦
               both-false (recorded sc.sizes from m s).learns (frame_after q == (recorded sc.sizes from m s).lesson.frame) b known.0
-              (eq-true (frame_after q) (recorded sc.sizes from m s).lesson.frame (sym next))
+              (eq-eqb (frame_after q) (recorded sc.sizes from m s).lesson.frame (sym next))
         ] in
         let s1 : IsSoon sc hands ear q k = soon no_pass in
         record {
@@ -325,7 +316,7 @@ heard-learns sc hands law ear is run k n c in_time there s h =
 
 pub ticked : (o : Option ℕ) (k : ℕ) → is_tick o k ≡ true → o ≡ Some k
 ticked None k h = cc
-ticked (Some t) k h = ap (λ x. Some x) (equal_from t k h)
+ticked (Some t) k h = ap (λ x. Some x) (eqb-true t k h)
 
 -- where it decides there is no pass of the frame before
 decides-late : (sc : Scenario) (hands : List HandIn) → IsLawful sc → (ear : Ear) → IsEar sc ear → HearsTheRun sc hands ear → (k n : ℕ) (s : Search) → k < ear.ticks

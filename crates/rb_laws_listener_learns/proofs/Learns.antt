@@ -1,9 +1,10 @@
 -- What a listener has learned where it decides by a frame that comes to its end before the first breach of the premise with it.
 use Rattle.std.proofs.Common.{◌≡◌, ℕ, zero, suc, ◌+◌, ◌-◌, ◌*◌, ◌%◌, ◌≤◌, ◌==◌, ◌&&◌, Bool, true, Some, None, if◌then◌else◌, List, refl, sym, ◌∙◌, ap, subst, arith}
-use Rattle.std.proofs.lemmas.Bool.Decides.{nat_tests}
+use Rattle.std.proofs.lemmas.Bool.{and_from, eq-eqb}
 use Rattle.rb_base.specs.Nodes.{Side, has}
 use Rattle.rb_base.specs.Nodes.Side.{Biu, Rmu}
 use Rattle.rb_base.specs.Sizes.{sync_slot_of}
+use Rattle.rb_base.proofs.Plain.{eq_self}
 use Rattle.rb_rules.specs.declared.sense.Sense.{Sense}
 use Rattle.rb_rules.specs.Clock.{IsStamp}
 use Rattle.rb_rules.specs.Conviction.{convicted_by}
@@ -17,11 +18,11 @@ use Rattle.rb_rules.specs.Rounds.{moment, windows_in}
 use Rattle.rb_rules.specs.Sense.{stamp_in}
 use Rattle.rb_rules.specs.Slots.{first_diagnosis_of, role_of}
 use Rattle.rb_rules.specs.Standing.{without}
+use Rattle.rb_rules.proofs.Slots.{sync_role}
 use Rattle.rb_rules.proofs.Spellings.{read_back}
 use Rattle.rb_laws_agreement.proofs.Agreement.{agreement}
 use Rattle.rb_laws_agreement.proofs.FrameTurns.{convicted_all}
 use Rattle.rb_laws_agreement.proofs.Places.{running_earlier}
-use Rattle.rb_laws_agreement.proofs.Tests.{and_both}
 use Rattle.rb_laws_agreement.proofs.Vectors.{convicted_same, vector_slot}
 use Rattle.rb_listen.specs.Lessons.{convicted_bius, convicted_rmus, first_by, first_of, record_of, stage_recorded, trusted_bius, trusted_rmus, vote_on}
 use Rattle.rb_listen.specs.Passes.{is_call}
@@ -36,7 +37,7 @@ use Rattle.rb_laws_listener_learns.specs.Receivers.{IsCalm, is_call_of, seen_clo
 use Rattle.rb_laws_listener_learns.specs.Records.{IsRecorded}
 use Rattle.rb_laws_listener_learns.proofs.Ahead.{FindsFirst, call-place, finds-first}
 use Rattle.rb_laws_listener_learns.proofs.Calling.{heard-to-call}
-use Rattle.rb_laws_listener_learns.proofs.CallTimes.{eq-true, finds-call, found-call, stamped-call}
+use Rattle.rb_laws_listener_learns.proofs.CallTimes.{finds-call, found-call, stamped-call}
 use Rattle.rb_laws_listener_learns.proofs.FrameStages.{IsAtWindow, at-window, first_of_frame}
 use Rattle.rb_laws_listener_learns.proofs.LearnedVotes.{Learner, rmu-vote}
 use Rattle.rb_laws_listener_learns.proofs.Noting.{IsNotedBy}
@@ -44,18 +45,15 @@ use Rattle.rb_laws_listener_learns.proofs.RelayedVotes.{biu-vote}
 use Rattle.rb_laws_listener_learns.proofs.Sendings.{IsInPlace, in-place}
 use Rattle.rb_laws_listener_learns.proofs.TrustedSets.{GoodThere, IsIn, KnowsAt, good-there, in-run, knows-at, trusted-in-sync}
 use Rattle.rb_laws_listener_learns.proofs.Turning.{EndOf, end-of}
-use Rattle.rb_laws_listener_learns.proofs.Whole.{HasLesson, come-by, has-lesson, sync-role}
+use Rattle.rb_laws_listener_learns.proofs.Whole.{HasLesson, come-by, has-lesson}
 
 -- The premise, by what is recorded.
 
-same-true : (a : ℕ) → (a == a) ≡ true
-same-true a = grind (arith, nat_tests)
-
-learned-verdict : (sc : Scenario) (ear : Ear) (learned frame : ℕ) (records : List Sense) (stages : List JudgedStage) → frame ≡ learned → verdict_with (seen_in sc ear learned records frame) stages ≡ None
+pub learned-verdict : (sc : Scenario) (ear : Ear) (learned frame : ℕ) (records : List Sense) (stages : List JudgedStage) → frame ≡ learned → verdict_with (seen_in sc ear learned records frame) stages ≡ None
     → verdict_with (seen_learned sc ear learned records) stages ≡ None
 learned-verdict sc ear learned frame records stages is h =
     subst (λ (b : Bool). verdict_with (λ window s. if b then seen_learned sc ear learned records window s else seen_closed sc ear learned (seen_by sc ear learned window ear.ticks)) stages ≡ None)
-    (same-true learned) (subst (λ x. verdict_with (seen_in sc ear learned records x) stages ≡ None) is h)
+    (eq_self learned) (subst (λ x. verdict_with (seen_in sc ear learned records x) stages ≡ None) is h)
 
 -- The whole.
 
@@ -211,7 +209,7 @@ learns-after sc hands law ear is run f tick s decides calm = (
         r : IsRecorded sc hands ear s.lesson.records n j called.sending
         r =
             k.whole j good n called.sending called.sent l.1.frame
-            (parts.1 ∙ sym (ap (λ t. stage_recorded (role_of sc.sizes t)) parts.0 ∙ ap stage_recorded (sync-role sc.sizes)))
+            (parts.1 ∙ sym (ap (λ t. stage_recorded (role_of sc.sizes t)) parts.0 ∙ ap stage_recorded (sync_role sc.sizes)))
 
         at_learned : IsStamp ear.clock (coming_to sc ear j (suc f) called.sending).time r.stamp
         at_learned = subst (λ x. IsStamp ear.clock (coming_to sc ear j x called.sending).time r.stamp) l.1.frame r.stamped
@@ -225,9 +223,9 @@ learns-after sc hands law ear is run f tick s decides calm = (
         is_found : finds-call sc (suc f) j (coming_to sc ear j (suc f) called.sending) ≡ true
         is_found =
             ap (λ o. is_call_of sc (suc f) j o (coming_to sc ear j (suc f) called.sending)) (read_back sc.plan.version called.sending.message put.fits)
-            ∙ and_both ((j == j) && is_call sc.sizes called.sending.message) (called.sending.message.frame == suc f % 65536)
-            (and_both (j == j) (is_call sc.sizes called.sending.message) (same-true j) called.call)
-            (eq-true called.sending.message.frame (suc f % 65536) (put.frame ∙ ap (λ x. x % 65536) l.1.frame))
+            ∙ and_from ((j == j) && is_call sc.sizes called.sending.message) (called.sending.message.frame == suc f % 65536)
+            (and_from (j == j) (is_call sc.sizes called.sending.message) (eq_self j) called.call)
+            (eq-eqb called.sending.message.frame (suc f % 65536) (put.frame ∙ ap (λ x. x % 65536) l.1.frame))
 
 pub learns : (sc : Scenario) (hands : List HandIn) → IsLawful sc → (ear : Ear) → IsEar sc ear → HearsTheRun sc hands ear → (learned tick : ℕ) (s : Search) → DecidesBy sc hands ear learned tick s
     → IsCalm sc hands ear learned s.lesson.records learned (sync_slot_of sc.sizes)

@@ -1,5 +1,6 @@
 -- A good RMU's message tells the window in which it was sent, so no two of its messages have one place.
 use Rattle.std.proofs.Common.{◌≡◌, ℕ, ◌+◌, ◌*◌, ◌%◌, ◌≤◌, List, sym, ◌∙◌, ap, subst, arith}
+use Rattle.std.proofs.lemmas.Option.{same_Some}
 use Rattle.rb_base.specs.Nodes.Side.{Rmu}
 use Rattle.rb_rules.specs.Goodness.{Scenario}
 use Rattle.rb_rules.specs.Hearing.{Coming, Sending}
@@ -7,14 +8,13 @@ use Rattle.rb_rules.specs.Lawful.{IsLawful}
 use Rattle.rb_rules.specs.Ports.{HandIn}
 use Rattle.rb_rules.specs.Rounds.{moment, sending_in, window_in, windows_in}
 use Rattle.rb_laws_agreement.proofs.Agreement.{IsAgreed, agreement}
-use Rattle.rb_laws_agreement.proofs.Tests.{same_some}
 use Rattle.rb_laws_synchrony.proofs.EpochTicks.{within_run}
 use Rattle.rb_laws_listener_learns.specs.Ears.{Ear, IsOfGood, SendsIn, coming_to}
 use Rattle.rb_laws_listener_learns.proofs.Sendings.{IsInPlace, in-place}
 
 -- The window by the message.
 
-same-frame : (a b most : ℕ) → a ≤ most → b ≤ most → most ≤ 4096 → a % 65536 ≡ b % 65536 → a ≡ b
+pub same-frame : (a b most : ℕ) → a ≤ most → b ≤ most → most ≤ 4096 → a % 65536 ≡ b % 65536 → a ≡ b
 same-frame a b most le_a le_b small e = omega (arith, e, le_a, le_b, small)
 
 pub same-window : (sc : Scenario) (hands : List HandIn) → IsLawful sc → (a b j : ℕ) (s t : Sending) → SendsIn sc hands a j s → SendsIn sc hands b j t
@@ -33,10 +33,10 @@ same-window sc hands law a b j s t sends_a sends_b frame slot stage =
 
 -- One message in a window.
 
-same-sent : (sc : Scenario) (hands : List HandIn) (n j : ℕ) (s t : Sending) → SendsIn sc hands n j s → SendsIn sc hands n j t → s ≡ t
+pub same-sent : (sc : Scenario) (hands : List HandIn) (n j : ℕ) (s t : Sending) → SendsIn sc hands n j s → SendsIn sc hands n j t → s ≡ t
 same-sent sc hands n j s t a b =
-    let states : a.state ≡ b.state = same_some a.state b.state (sym a.good.0 ∙ b.good.0) in
-    same_some s t (sym a.sends ∙ ap (λ st. sending_in sc (moment sc hands n) Rmu j st (window_in sc (moment sc hands n) Rmu st)) states ∙ b.sends)
+    let states : a.state ≡ b.state = same_Some a.state b.state (sym a.good.0 ∙ b.good.0) in
+    same_Some s t (sym a.sends ∙ ap (λ st. sending_in sc (moment sc hands n) Rmu j st (window_in sc (moment sc hands n) Rmu st)) states ∙ b.sends)
 
 pub same-coming : (sc : Scenario) (hands : List HandIn) → IsLawful sc → (ear : Ear) (c d : Coming) (a : IsOfGood sc hands ear c) (b : IsOfGood sc hands ear d) → c.from ≡ d.from
     → a.sending.message.frame ≡ b.sending.message.frame → a.sending.message.slot ≡ b.sending.message.slot → a.sending.message.stage ≡ b.sending.message.stage → c ≡ d

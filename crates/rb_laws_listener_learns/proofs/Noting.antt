@@ -1,5 +1,6 @@
 -- What a lesson has recorded of each RMU in a slot is what came of it since the lesson began.
 use Rattle.std.proofs.Common.{◌≡◌, ◌⊎◌, ℕ, zero, suc, ◌+◌, ◌*◌, ◌<◌, ◌≤◌, ◌==◌, Bool, true, false, Some, None, List, [], ◌∷◌, length, get_or, slice_get, slice_set, if◌then◌else◌, inl, inr, refl, sym, ◌∙◌, ap, subst, arith}
+use Rattle.std.proofs.lemmas.Option.{same_Some}
 use Rattle.rb_base.specs.Sizes.{IsShape, Sizes, sync_slot_of}
 use Rattle.rb_rules.specs.declared.message.Message.{Message}
 use Rattle.rb_rules.specs.declared.sense.Sense.{Sense}
@@ -8,7 +9,6 @@ use Rattle.rb_rules.specs.Goodness.{Scenario}
 use Rattle.rb_rules.specs.Hearing.{Coming}
 use Rattle.rb_rules.specs.Sense.{tag_suits}
 use Rattle.rb_rules.specs.Spelling.{message_in}
-use Rattle.rb_laws_agreement.proofs.Tests.{same_some}
 use Rattle.rb_listen.specs.Lessons.{has_place, noted, nothing_recorded, place_of, record_of, with_message, with_record}
 use Rattle.rb_listen.specs.declared.lesson.Lesson.{Lesson}
 use Rattle.rb_listen.proofs.Passing.{in-a-slot}
@@ -174,9 +174,9 @@ recorded-noted sc ear since k n from m lesson shape below place room coming ther
 
     elsewhere : (x : Message) → IsPlacedAt sc ear lesson.frame slot j k n x → place_of slot j ≡ place_of m.slot from
     elsewhere x placed =
-        let same : placed.coming ≡ coming = same_some placed.coming coming (sym placed.there ∙ there) in
+        let same : placed.coming ≡ coming = same_Some placed.coming coming (sym placed.there ∙ there) in
         let nodes : j ≡ from = sym placed.from ∙ ap (λ (c : Coming). c.from) same ∙ is_from in
-        let read : x ≡ m = same_some x m (sym placed.reads ∙ ap (λ (c : Coming). message_in sc.plan.version c.bytes) same ∙ reads) in
+        let read : x ≡ m = same_Some x m (sym placed.reads ∙ ap (λ (c : Coming). message_in sc.plan.version c.bytes) same ∙ reads) in
         ap (λ t. place_of t j) (sym placed.slot_is ∙ ap (λ (y : Message). y.slot) read) ∙ ap (place_of m.slot) nodes
 
     here : get_or (slice_set lesson.records (place_of m.slot from) new) (place_of slot j) Silent ≡ new → slot ≡ m.slot → j ≡ from
@@ -199,6 +199,6 @@ noted-noted sc ear since k n from m lesson shape below room coming there is_from
     by false e =
         none-noted sc ear since k n lesson
         (λ slot j x within placed.
-        let same : placed.coming ≡ coming = same_some placed.coming coming (sym placed.there ∙ there) in
-        let read : x ≡ m = same_some x m (sym placed.reads ∙ ap (λ (c : Coming). message_in sc.plan.version c.bytes) same ∙ reads) in
+        let same : placed.coming ≡ coming = same_Some placed.coming coming (sym placed.there ∙ there) in
+        let read : x ≡ m = same_Some x m (sym placed.reads ∙ ap (λ (c : Coming). message_in sc.plan.version c.bytes) same ∙ reads) in
         let both : true ≡ false = sym placed.place ∙ ap (has_place sc.sizes lesson.frame) read ∙ e in cc) h

@@ -1,14 +1,16 @@
 -- A pass by the newest calls: where one more call makes a pass that was not there, it is one of the pass.
 use Rattle.std.proofs.Common.{◌≡◌, ◌⊎◌, ℕ, zero, suc, ◌+◌, ◌-◌, ◌*◌, ◌<◌, ◌≤◌, ◌==◌, ◌&&◌, nat_le, nat_lt, Bool, true, false, Option, Some, None, List, [], ◌∷◌, length, get_or, slice_set, inl, inr, refl, sym, ◌∙◌, ap, arith}
-use Rattle.std.proofs.lemmas.Bool.{cases_lt}
+use Rattle.std.proofs.lemmas.Bool.{cases_lt, eqb-true, leb-true, lt-ltb, ltb-true}
 use Rattle.std.proofs.lemmas.Bool.Decides.{nat_tests}
 use Rattle.std.proofs.lemmas.List.{get_or-set_same}
+use Rattle.std.proofs.lemmas.Option.{same_Some}
 use Rattle.rb_base.specs.Nodes.{has, size}
 use Rattle.rb_base.specs.Sizes.{Sizes}
+use Rattle.rb_base.proofs.Plain.{and_first, and_second}
 use Rattle.rb_base.proofs.Sets.{has-set_of}
 use Rattle.rb_base.proofs.SetSizes.{size_within}
 use Rattle.rb_rules.specs.declared.plan.Plan.{Plan}
-use Rattle.rb_laws_agreement.proofs.Tests.{Passing, and_first, and_second, equal_from, le_from, less_from, less_true, same_some}
+use Rattle.rb_laws_agreement.proofs.Tests.{Passing}
 use Rattle.rb_listen.specs.Passes.{are_most, begins_pass, calling, falls_in, frame_in, pass_among, pass_of, reach_of}
 use Rattle.rb_listen.specs.declared.passes.Call.{Call}
 use Rattle.rb_laws_listener_learns.proofs.Meeting.{AreRmus, meet}
@@ -77,10 +79,10 @@ pub record FallsIn (reach frame from : ℕ) (c : Call) : Type 0 where
 pub falls-all : (reach frame from : ℕ) (c : Call) → falls_in reach frame from (Some c) ≡ true → FallsIn reach frame from c
 falls-all reach frame from c h =
     let front : ((c.frame == frame) && nat_le from c.at) ≡ true = and_first ((c.frame == frame) && nat_le from c.at) (nat_le (c.at - from) reach) h in
-    let near : c.at - from ≤ reach = le_from (c.at - from) reach (and_second ((c.frame == frame) && nat_le from c.at) (nat_le (c.at - from) reach) h) in
+    let near : c.at - from ≤ reach = leb-true (c.at - from) reach (and_second ((c.frame == frame) && nat_le from c.at) (nat_le (c.at - from) reach) h) in
     record {
-      frame_is = equal_from c.frame frame (and_first (c.frame == frame) (nat_le from c.at) front);
-      low = le_from from c.at (and_second (c.frame == frame) (nat_le from c.at) front);
+      frame_is = eqb-true c.frame frame (and_first (c.frame == frame) (nat_le from c.at) front);
+      low = leb-true from c.at (and_second (c.frame == frame) (nat_le from c.at) front);
       high = omega (arith, near);
     }
 
@@ -135,7 +137,7 @@ same-pass sizes plan newest p q few inside a b = by (meet sizes in_a in_b few (o
         let y : FallsThere (reach_of plan) b.call.frame b.call.at (get_or newest c.at None) =
         in-set (reach_of plan) b.call.frame b.call.at newest c.at below
         (and_second (has (calling (reach_of plan) a.call.frame a.call.at newest) c.at) (has (calling (reach_of plan) b.call.frame b.call.at newest) c.at) c.passes) in
-        let same : x.call ≡ y.call = same_some x.call y.call (sym x.is ∙ y.is) in
+        let same : x.call ≡ y.call = same_Some x.call y.call (sym x.is ∙ y.is) in
         sym a.frame_is ∙ sym x.falls.frame_is ∙ ap (λ (z : Call). z.frame) same ∙ y.falls.frame_is ∙ b.frame_is
 
 pub begins-pass : (sizes : Sizes) (plan : Plan) (newest : List (Option Call)) (frame : ℕ) → sizes.rmus ≤ 16 → AreOfRmus sizes newest → BeginsAt sizes plan newest frame
@@ -149,7 +151,7 @@ begins-pass sizes plan newest frame few inside b =
 -- One call more.
 
 pub more-than : (rmus a b : ℕ) → a ≤ b → nat_lt rmus (2 * a) ≡ true → nat_lt rmus (2 * b) ≡ true
-more-than rmus a b le h = less_true rmus (2 * b) (omega (arith, le, less_from rmus (2 * a) h))
+more-than rmus a b le h = lt-ltb rmus (2 * b) (omega (arith, le, ltb-true rmus (2 * a) h))
 
 -- it is one of the pass, or the pass was there before
 pub new-or-old : (sizes : Sizes) (plan : Plan) (newest : List (Option Call)) (j frame : ℕ) (call : Call) → j < length newest → (b : BeginsAt sizes plan (slice_set newest j (Some call)) frame)

@@ -1,5 +1,7 @@
 -- What a search has recorded of good RMUs, message by message.
 use Rattle.std.proofs.Common.{◌≡◌, ◌⊎◌, ℕ, zero, suc, ◌+◌, ◌*◌, ◌<◌, ◌==◌, ◌&&◌, nat_le, Bool, true, false, Some, List, [], ◌∷◌, get_or, slice_get, slice_set, replicate, if◌then◌else◌, inl, inr, refl, sym, ◌∙◌, ap, subst, arith}
+use Rattle.std.proofs.lemmas.Bool.{eqb-true}
+use Rattle.std.proofs.lemmas.Option.{same_Some}
 use Rattle.rb_base.specs.Sizes.{sync_slot_of}
 use Rattle.rb_rules.specs.declared.message.Message.{Message}
 use Rattle.rb_rules.specs.declared.sense.Sense.{Sense}
@@ -13,7 +15,6 @@ use Rattle.rb_rules.specs.Slots.{role_of}
 use Rattle.rb_rules.specs.Spelling.{message_in}
 use Rattle.rb_rules.proofs.Spellings.{read_back}
 use Rattle.rb_rules.proofs.Stamps.{one_stamp}
-use Rattle.rb_laws_agreement.proofs.Tests.{equal_from, same_some}
 use Rattle.rb_listen.specs.Lessons.{has_place, nothing_recorded, noted, place_of, record_of, stage_recorded, with_message, with_record}
 use Rattle.rb_listen.specs.declared.lesson.Lesson.{Lesson}
 use Rattle.rb_laws_listener_learns.specs.Ears.{Ear, HearsTheRun, IsEar, IsOfGood, is_always_good}
@@ -114,7 +115,7 @@ pub record IsNext (sc : Scenario) (hands : List HandIn) (ear : Ear) (k n j : ℕ
 pub reads-sent : (sc : Scenario) (hands : List HandIn) → IsLawful sc → (ear : Ear) (c : Coming) (good : IsOfGood sc hands ear c) (m : Message)
     → message_in sc.plan.version c.bytes ≡ Some m → good.sending.message ≡ m
 reads-sent sc hands law ear c good m reads =
-    same_some good.sending.message m
+    same_Some good.sending.message m
     (sym (read_back sc.plan.version good.sending.message (in-place sc hands law good.n c.from good.sending good.sent).fits)
     ∙ ap (λ (x : Coming). message_in sc.plan.version x.bytes) (sym good.is) ∙ reads)
 
@@ -126,7 +127,7 @@ three false b c h = cc
 pub placed : (sc : Scenario) (frame : ℕ) (m : Message) → has_place sc.sizes frame m ≡ true → IsOfPlace sc frame m.slot m
 placed sc frame m h =
     let parts = three (m.frame == frame) (nat_le m.slot (sync_slot_of sc.sizes)) (m.stage == stage_recorded (role_of sc.sizes m.slot)) h in
-    record { frame_is = equal_from m.frame frame parts.0; slot_is = refl; stage_is = equal_from m.stage (stage_recorded (role_of sc.sizes m.slot)) parts.1 }
+    record { frame_is = eqb-true m.frame frame parts.0; slot_is = refl; stage_is = eqb-true m.stage (stage_recorded (role_of sc.sizes m.slot)) parts.1 }
 
 -- it doesn't come a second time
 no-second : (sc : Scenario) (hands : List HandIn) → IsLawful sc → (ear : Ear) → IsEar sc ear → HearsTheRun sc hands ear → (k n frame slot j at : ℕ) (old m : Message)

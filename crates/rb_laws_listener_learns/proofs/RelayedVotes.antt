@@ -1,6 +1,7 @@
 -- The votes of a listener on the vectors of BIUs, which the RMUs relay in stage 2, are those of the bus.
-use Rattle.std.proofs.Common.{◌≡◌, ◌⊎◌, ℕ, zero, suc, ◌+◌, ◌-◌, ◌*◌, ◌/◌, ◌%◌, ◌<◌, ◌==◌, true, false, Option, Some, None, is_some, unwrap_or, if◌then◌else◌, List, [], ◌∷◌, length, map, get_or, slice_get, inl, inr, refl, sym, ◌∙◌, ap, subst, arith}
+use Rattle.std.proofs.Common.{◌≡◌, ◌⊎◌, ℕ, zero, suc, ◌+◌, ◌-◌, ◌*◌, ◌/◌, ◌%◌, ◌<◌, ◌==◌, true, false, Option, Some, None, unwrap_or, if◌then◌else◌, List, [], ◌∷◌, length, map, get_or, slice_get, inl, inr, refl, sym, ◌∙◌, ap, subst, arith}
 use Rattle.std.specs.List.{list_any, range_with_len}
+use Rattle.std.proofs.lemmas.Bool.{false_from_ne_true}
 use Rattle.std.proofs.lemmas.Bool.Decides.{nat_tests}
 use Rattle.rb_base.specs.Nodes.{Side, has, other}
 use Rattle.rb_base.specs.Nodes.Side.{Biu, Rmu}
@@ -9,6 +10,7 @@ use Rattle.rb_base.specs.declared.values.Heard.{Heard}
 use Rattle.rb_base.specs.declared.values.Heard.TheVariants.{Fault}
 use Rattle.rb_base.specs.declared.values.See.{See}
 use Rattle.rb_base.specs.declared.values.See.TheVariants.{Nothing}
+use Rattle.rb_base.proofs.Plain.{less-differs, none-if}
 use Rattle.rb_base.proofs.Sets.{has-set_of}
 use Rattle.rb_rules.specs.declared.role.Role.TheVariants.{DiagBiu}
 use Rattle.rb_rules.specs.declared.sense.Sense.{Sense}
@@ -34,7 +36,7 @@ use Rattle.rb_laws_agreement.proofs.NodeWindows.{word_at}
 use Rattle.rb_laws_agreement.proofs.SecondStages.{GoodOne, all_vote, carried_2, relays, some_good, vote-held, vote_of}
 use Rattle.rb_laws_agreement.proofs.Settings.{all_heard, all_seen, good_here, good_state, taken, ticks, windows}
 use Rattle.rb_laws_agreement.proofs.Speaking.{got_is_said}
-use Rattle.rb_laws_agreement.proofs.Tests.{Present, or_neither_second, so_not, true_or_false}
+use Rattle.rb_laws_agreement.proofs.Tests.{Present, or_neither_second, true_or_false}
 use Rattle.rb_laws_agreement.proofs.ThirdStages.{voted}
 use Rattle.rb_laws_agreement.proofs.Vectors.{vector_slot, vector_slot-lt, vector_slot-role}
 use Rattle.rb_listen.specs.Lessons.{record_of, recorded_of, stage_recorded, trusted_rmus, vote_on}
@@ -54,10 +56,6 @@ same-map x y from zero same = refl
 same-map x y from (suc n) same =
     ap (λ v. v ∷ map x (range_with_len (from + 1) n)) (same from (omega arith))
     ∙ ap (λ l. y from ∷ l) (same-map x y (from + 1) n (λ j below. same j (omega (arith, below))))
-
-some-none : (o : Option Heard) → (is_some o ≡ true → ⊥) → o ≡ None
-some-none None h = refl
-some-none (Some v) h = absurd (h refl)
 
 -- The verdict of the frame's last stage.
 
@@ -109,9 +107,6 @@ alike-in-stage sc hands ear f records c a j small t faulty slot s =
         (ap (λ x. is_good sc a.side j x (sync_slot_of sc.sizes)) last.frame_is ∙ faulty))
 
 -- What the listener saw.
-
-away : (slot sync : ℕ) → slot < sync → (slot == sync) ≡ false
-away slot sync below = grind (arith, nat_tests, below)
 
 timed-value : (sc : Scenario) (ear : Ear) (frame j : ℕ) (o : Option Heard) → timed_see sc ear frame j (see_value o) ≡ see_value o
 timed-value sc ear frame j None = refl
@@ -249,7 +244,7 @@ biu-vote sc hands ear f records c i count t = by a.side refl ∙ sym (value-at-e
             j c.g st g.st (relay j st node) (relay c.g g.st g.node)
           where
             not-later : is_good_now sc m Biu i ≡ false → is_good sc Biu i (suc f) (sync_slot_of sc.sizes) ≡ false
-            not-later now = so_not (is_good sc Biu i (suc f) (sync_slot_of sc.sizes)) (λ good.
+            not-later now = false_from_ne_true (is_good sc Biu i (suc f) (sync_slot_of sc.sizes)) (λ good.
                 let early : is_good sc Biu i (suc f) slot ≡ true = good_earlier sc Biu i (suc f) slot (sync_slot_of sc.sizes) (omega (arith, below)) good in
                 let here : is_good sc Biu i (suc f) slot ≡ false =
                 ap (λ x. is_good sc Biu i x slot) (sym s2.window.frame_is)
@@ -301,7 +296,7 @@ biu-vote sc hands ear f records c i count t = by a.side refl ∙ sym (value-at-e
             ∙ ap (λ x. is_nobody (if has x i then Node i else Nobody)) told ∙ ap (λ x. is_nobody (if x then Node i else Nobody)) trusted
 
         not_sync : (slot == sync_slot_of sc.sizes) ≡ false
-        not_sync = away slot (sync_slot_of sc.sizes) below
+        not_sync = less-differs slot (sync_slot_of sc.sizes) below
 
         -- what the listener saw
         sight-is : (j : ℕ) → see_learned sc ear (suc f) records slot (judged_of sc (place_at sc m) (rows_of sc m)) j ≡ see_value (value_in (record_of records slot j))
@@ -321,7 +316,7 @@ biu-vote sc hands ear f records c i count t = by a.side refl ∙ sym (value-at-e
             elim (true_or_false (has (s2.shared.trusted Rmu) j)) [
               | inr out ↦
                   ap (λ x. if has x j then value_in (record_of records slot j) else None) (sym rmus) ∙ ap (λ x. if x then value_in (record_of records slot j) else None) out
-                  ∙ sym (some-none (taken sc hands n m s2.shared slot 1 s2.setting Biu b.index from.st j) (λ some.
+                  ∙ sym (none-if (taken sc hands n m s2.shared slot 1 s2.setting Biu b.index from.st j) (λ some.
                   let in_it : has (s2.shared.trusted Rmu) j ≡ true = (all_seen sc hands n m s2.shared slot 1 s2.setting Biu b.index j from.st from.was small some).trusts in
                   let both : true ≡ false = sym in_it ∙ out in cc))
               | inl is_in ↦

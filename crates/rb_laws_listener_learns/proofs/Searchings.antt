@@ -1,10 +1,11 @@
 -- What a message makes of a search, case by case.
 use Rattle.std.proofs.Common.{◌≡◌, ℕ, ◌+◌, ◌^◌, ◌<◌, ◌==◌, ◌&&◌, nat_lt, Bool, true, false, Option, Some, None, List, if◌then◌else◌, refl, sym, ◌∙◌}
+use Rattle.std.proofs.lemmas.Bool.{eqb-true, lt-ltb, ltb-true}
 use Rattle.rb_base.specs.Sizes.{Sizes}
+use Rattle.rb_base.proofs.Plain.{and_first, and_second}
 use Rattle.rb_rules.specs.declared.message.Message.{Message}
 use Rattle.rb_rules.specs.declared.plan.Plan.{Plan}
 use Rattle.rb_rules.specs.Spelling.{message_in}
-use Rattle.rb_laws_agreement.proofs.Tests.{and_first, and_second, equal_from, less_from, less_true}
 use Rattle.rb_listen.specs.Lessons.{frame_after, has_place, with_record}
 use Rattle.rb_listen.specs.Listening.{if_message, if_pass, learning, newest_with, passing, recorded, searching, timed, with_message, with_pass}
 use Rattle.rb_listen.specs.Passes.{is_call, pass_of, reach_of}
@@ -25,10 +26,10 @@ pass-by plan frame s Q cases = by (s.learns && (frame == s.lesson.frame)) refl (
           | true ↦ record s { lesson = timed (s.had + reach_of plan) s.lesson }
           | false ↦ elim b as (λ _. Search) [ true ↦ s | false ↦ learning (frame_after frame) s ]
         ])
-    by true e b f = cases.fixes (and_first s.learns (frame == s.lesson.frame) e) (equal_from frame s.lesson.frame (and_second s.learns (frame == s.lesson.frame) e))
+    by true e b f = cases.fixes (and_first s.learns (frame == s.lesson.frame) e) (eqb-true frame s.lesson.frame (and_second s.learns (frame == s.lesson.frame) e))
     by false e true f =
         cases.stays (and_first s.learns (frame_after frame == s.lesson.frame) f)
-        (equal_from (frame_after frame) s.lesson.frame (and_second s.learns (frame_after frame == s.lesson.frame) f))
+        (eqb-true (frame_after frame) s.lesson.frame (and_second s.learns (frame_after frame == s.lesson.frame) f))
     by false e false f = cases.begins e f
 
 -- What stays.
@@ -97,6 +98,6 @@ search-by sizes plan j bytes s Q going cases = by (nat_lt j sizes.rmus) refl (na
   where
     by : (a : Bool) → nat_lt j sizes.rmus ≡ a → (b : Bool) → b ≡ true
         → Q (elim (a && b) as (λ _. Search) [ true ↦ if_message sizes plan j (message_in plan.version bytes) s | false ↦ s ])
-    by true e true f = message-by sizes plan j (message_in plan.version bytes) s Q (less_from j sizes.rmus e) cases
+    by true e true f = message-by sizes plan j (message_in plan.version bytes) s Q (ltb-true j sizes.rmus e) cases
     by true e false f = let both : false ≡ true = f in absurd (cc)
-    by false e b f = cases.nothing (λ within m is. let both : false ≡ true = sym e ∙ less_true j sizes.rmus within in absurd (cc))
+    by false e b f = cases.nothing (λ within m is. let both : false ≡ true = sym e ∙ lt-ltb j sizes.rmus within in absurd (cc))

@@ -1,8 +1,9 @@
 -- What a listener learns is the frame after one in which the RMUs called: most of all RMUs are good, so one of them is in each pass.
 use Rattle.std.proofs.Common.{◌≡◌, ◌⊎◌, ℕ, zero, suc, ◌+◌, ◌-◌, ◌^◌, ◌<◌, ◌≤◌, ◌==◌, ◌&&◌, not, nat_lt, nat_le, Bool, true, false, Option, Some, None, is_some, List, [], ◌∷◌, get_or, slice_get, slice_set, replicate, if◌then◌else◌, inl, inr, refl, sym, ◌∙◌, ap, subst, arith}
-use Rattle.std.proofs.lemmas.Bool.{cases_lt}
+use Rattle.std.proofs.lemmas.Bool.{cases_lt, eqb-true, ltb-true, not-true}
 use Rattle.rb_base.specs.Nodes.{has, set_of}
 use Rattle.rb_base.specs.Sizes.{IsShape, Sizes}
+use Rattle.rb_base.proofs.Plain.{and_first, and_second}
 use Rattle.rb_base.proofs.Sets.{has-set_of}
 use Rattle.rb_rules.specs.declared.message.Message.{Message}
 use Rattle.rb_rules.specs.declared.plan.Plan.{Plan}
@@ -13,7 +14,7 @@ use Rattle.rb_rules.specs.Lawful.{IsLawful}
 use Rattle.rb_rules.specs.Moments.{before_slot}
 use Rattle.rb_rules.specs.Ports.{HandIn}
 use Rattle.rb_rules.specs.Spelling.{message_in}
-use Rattle.rb_laws_agreement.proofs.Tests.{Passing, and_first, and_second, equal_from, less_from, not_true}
+use Rattle.rb_laws_agreement.proofs.Tests.{Passing}
 use Rattle.rb_listen.specs.Lessons.{first_of, frame_after, has_place, noted, with_record}
 use Rattle.rb_listen.specs.Listening.{Heeding, Listening, decided, first_search, hear, heed, if_after, if_call, if_message, if_pass, is_deciding, is_over, later, learning, newest_with, passing, recorded, search_on, searching, timed, untold, wait_on, with_message, with_pass}
 use Rattle.rb_listen.specs.Listening as now
@@ -22,6 +23,7 @@ use Rattle.rb_listen.specs.declared.lesson.First.{First}
 use Rattle.rb_listen.specs.declared.lesson.Lesson.{Lesson}
 use Rattle.rb_listen.specs.declared.passes.Call.{Call}
 use Rattle.rb_listen.specs.declared.search.Search.{Search}
+use Rattle.rb_listen.proofs.Searches.{noted-decides}
 use Rattle.rb_laws_listener_learns.specs.Ears.{Ear, HearsTheRun, IsHeard, IsOfFaulty, comes_to, hears, is_always_good, listening_at}
 use Rattle.rb_laws_listener_learns.specs.Seeking.{SeeksAFrame}
 use Rattle.rb_laws_listener_learns.proofs.CallsSent.{IsCalled, called}
@@ -89,11 +91,11 @@ pass-begins sizes plan newest (call ∷ others) frame h = by (pass-begins sizes 
 pub falls : (reach frame from : ℕ) (o : Option Call) → falls_in reach frame from o ≡ true → (c : Call) × ((o ≡ Some c) × (c.frame ≡ frame))
 falls reach frame from None h = cc
 falls reach frame from (Some c) h =
-    (c, (refl, equal_from c.frame frame (and_first (c.frame == frame) (nat_le from c.at) (and_first ((c.frame == frame) && nat_le from c.at) (nat_le (c.at - from) reach) h))))
+    (c, (refl, eqb-true c.frame frame (and_first (c.frame == frame) (nat_le from c.at) (and_first ((c.frame == frame) && nat_le from c.at) (nat_le (c.at - from) reach) h))))
 
 -- an RMU that is good in the whole run is one of the bus
 pub always-counts : (sc : Scenario) (hands : List HandIn) (j : ℕ) → is_always_good sc hands j ≡ true → j < sc.sizes.rmus
-always-counts sc hands j good = less_from j sc.sizes.rmus (and_first (nat_lt j sc.sizes.rmus) (not (comes_to sc hands (get_or sc.rmu_onsets j None))) good)
+always-counts sc hands j good = ltb-true j sc.sizes.rmus (and_first (nat_lt j sc.sizes.rmus) (not (comes_to sc hands (get_or sc.rmu_onsets j None))) good)
 
 pub good-rmus : (sc : Scenario) (hands : List HandIn) (j : ℕ) → j < 16 → has (set_of (is_always_good sc hands)) j ≡ true → is_always_good sc hands j ≡ true
 good-rmus sc hands j below h = sym (has-set_of j (is_always_good sc hands) below) ∙ h
@@ -155,7 +157,7 @@ learning-finds sc hands number s is finds = record {
   decides = λ learns some. let e : false ≡ true = some in cc;
 }
 
-timed-frame : (tick : ℕ) (lesson : Lesson) → (timed tick lesson).frame ≡ lesson.frame
+pub timed-frame : (tick : ℕ) (lesson : Lesson) → (timed tick lesson).frame ≡ lesson.frame
 timed-frame tick lesson = by (is_some lesson.decides)
   where
     by : (b : Bool) → (elim b as (λ _. Lesson) [ true ↦ lesson | false ↦ record lesson { decides = Some tick } ]).frame ≡ lesson.frame
@@ -181,7 +183,7 @@ pass-finds sc hands frame s is finds = by (s.learns && (frame == s.lesson.frame)
         ])
     by true e b =
         timed-finds sc hands (s.had + reach_of sc.plan) s
-        (subst (IsCalled sc hands) (equal_from frame s.lesson.frame (and_second s.learns (frame == s.lesson.frame) e)) is) finds
+        (subst (IsCalled sc hands) (eqb-true frame s.lesson.frame (and_second s.learns (frame == s.lesson.frame) e)) is) finds
     by false e true = finds
     by false e false = learning-finds sc hands frame s is finds
 
@@ -214,13 +216,6 @@ noted-frame : (sizes : Sizes) (j at : ℕ) (m : Message) (lesson : Lesson) → (
 noted-frame sizes j at m lesson = by (has_place sizes lesson.frame m)
   where
     by : (b : Bool) → (if b then record lesson { records = with_record sizes j at m lesson.records } else lesson).frame ≡ lesson.frame
-    by true = refl
-    by false = refl
-
-noted-decides : (sizes : Sizes) (j at : ℕ) (m : Message) (lesson : Lesson) → (noted sizes j at m lesson).decides ≡ lesson.decides
-noted-decides sizes j at m lesson = by (has_place sizes lesson.frame m)
-  where
-    by : (b : Bool) → (if b then record lesson { records = with_record sizes j at m lesson.records } else lesson).decides ≡ lesson.decides
     by true = refl
     by false = refl
 
@@ -265,7 +260,7 @@ may-message-finds sc hands shape most j (Some m) s within calls finds = message-
 pub no-onset : (sc : Scenario) (hands : List HandIn) (c : Coming) → is_always_good sc hands c.from ≡ true → IsOfFaulty sc hands c → ⊥
 no-onset sc hands c good faulty =
     let never : comes_to sc hands (get_or sc.rmu_onsets c.from None) ≡ false =
-    not_true (comes_to sc hands (get_or sc.rmu_onsets c.from None)) (and_second (nat_lt c.from sc.sizes.rmus) (not (comes_to sc hands (get_or sc.rmu_onsets c.from None))) good) in
+    not-true (comes_to sc hands (get_or sc.rmu_onsets c.from None)) (and_second (nat_lt c.from sc.sizes.rmus) (not (comes_to sc hands (get_or sc.rmu_onsets c.from None))) good) in
     let ended : not (before_slot sc hands faulty.frame faulty.slot).book.ended ≡ false = sym (ap (comes_to sc hands) faulty.onset) ∙ never in
     let both : true ≡ false = sym (ap not faulty.running) ∙ ended in cc
 
@@ -284,7 +279,7 @@ heard-finds sc hands law ear run k c in_time heard s finds = by (nat_lt c.from s
     by : (a : Bool) → nat_lt c.from sc.sizes.rmus ≡ a → (b : Bool)
         → Finds sc hands (elim (a && b) as (λ _. Search) [ true ↦ if_message sc.sizes sc.plan c.from (message_in sc.plan.version c.bytes) s | false ↦ s ])
     by true e true =
-        let within : c.from < sc.sizes.rmus = less_from c.from sc.sizes.rmus e in
+        let within : c.from < sc.sizes.rmus = ltb-true c.from sc.sizes.rmus e in
         may-message-finds sc hands law.sizes run.most_good c.from (message_in sc.plan.version c.bytes) s within (calls within) finds
     by true e false = finds
     by false e b = finds

@@ -1,8 +1,8 @@
 -- What a good RMU sends in a window is one message of the window's place, with a tag that suits it.
 use Rattle.std.proofs.Common.{◌≡◌, ℕ, zero, suc, ◌+◌, ◌-◌, ◌*◌, ◌/◌, ◌%◌, ◌<◌, ◌≤◌, ◌==◌, true, false, Option, Some, None, List, option_map, unwrap_or, get_or, inl, inr, refl, sym, ◌∙◌, ap, subst, arith}
-use Rattle.std.specs.Prelude.{IfSome}
 use Rattle.std.proofs.lemmas.Bool.{cases_lt}
 use Rattle.std.proofs.lemmas.Bool.Decides.{nat_tests}
+use Rattle.std.proofs.lemmas.Option.{same_Some}
 use Rattle.rb_base.specs.Nodes.{Side, other}
 use Rattle.rb_base.specs.Nodes.Side.{Biu, Rmu}
 use Rattle.rb_base.specs.Sizes.{Sizes, sync_slot_of}
@@ -23,12 +23,14 @@ use Rattle.rb_rules.specs.Slots.{listens, role_of, sender_kind}
 use Rattle.rb_rules.specs.Spelling.{IsMessage}
 use Rattle.rb_rules.specs.SyncStage.{call_of}
 use Rattle.rb_rules.proofs.Senses.{IsCarried, value_is_message}
+use Rattle.rb_rules.proofs.Slots.{few_slots}
 use Rattle.rb_laws_agreement.proofs.Agreement.{IsAgreed, agreement}
-use Rattle.rb_laws_agreement.proofs.Goodnesses.{few_slots, slot_here, slot_last}
+use Rattle.rb_laws_agreement.proofs.Goodnesses.{slot_here, slot_last}
 use Rattle.rb_laws_agreement.proofs.Invariant.{Agree, HasRelays, HasVoted, IsGoodNode, Shared, slot_numbered}
 use Rattle.rb_laws_agreement.proofs.NodeWindows.{Windows, exact_windows, sync_windows_are, tail_windows, word_at}
+use Rattle.rb_laws_agreement.proofs.SecondStages.{unwrap-fits}
 use Rattle.rb_laws_agreement.proofs.Speaking.{listens_second, listens_third, only-some, own_fits, says_got, says_nothing, says_own, says_vote, word_fits}
-use Rattle.rb_laws_agreement.proofs.Tests.{same_some, true_or_false}
+use Rattle.rb_laws_agreement.proofs.Tests.{true_or_false}
 use Rattle.rb_laws_synchrony.proofs.TakenCalls.{call_sent}
 use Rattle.rb_laws_synchrony.proofs.TimelyWindows.{IsSent, sent_parts}
 use Rattle.rb_laws_listener_learns.specs.Ears.{SendsIn}
@@ -45,10 +47,6 @@ pub record IsInPlace (sc : Scenario) (m : Moment) (x : Message) : Type 0 where
 -- Below the sync slot.
 
 -- the value that is said is one that messages carry
-
-got-carried : (o : Option Heard) → IfSome o IsCarried → IsCarried (unwrap_or o Fault)
-got-carried None h = tt
-got-carried (Some v) h = h
 
 speaks : (sizes : Sizes) (j : ℕ) (st : NodeState) (slot stage word : ℕ) (v : Heard) → says sizes Rmu j st slot stage word ≡ Some v → listens Biu (role_of sizes slot) stage ≡ true
 speaks sizes j st slot stage word v said =
@@ -68,7 +66,7 @@ said-carried sc hands n m s law agree j st node slot (suc zero) below small at v
     let is : v ≡ unwrap_or st.got Fault = only-some (says sc.sizes Rmu j st slot 2 (word_at sc m slot j)) (unwrap_or st.got Fault) v (says_got sc.sizes Rmu j st slot (word_at sc m slot j)) said in
     let kind : Biu ≡ sender_kind (role_of sc.sizes slot) = listens_second Biu (role_of sc.sizes slot) (speaks sc.sizes j st slot 2 (word_at sc m slot j) v said) in
     let relays : HasRelays sc hands m s slot = agree.relayed slot below at in
-    subst IsCarried (sym is) (got-carried st.got (relays.carried j st (subst (λ k. IsGoodNode sc m (other k) j st) kind node)))
+    subst IsCarried (sym is) (unwrap-fits st.got (relays.carried j st (subst (λ k. IsGoodNode sc m (other k) j st) kind node)))
 said-carried sc hands n m s law agree j st node slot (suc (suc zero)) below small at v said =
     let is : v ≡ get_or st.votes slot Fault = only-some (says sc.sizes Rmu j st slot 3 (word_at sc m slot j)) (get_or st.votes slot Fault) v (says_vote sc.sizes Rmu j st slot (word_at sc m slot j)) said in
     let kind : Biu ≡ other (sender_kind (role_of sc.sizes slot)) = listens_third Biu (role_of sc.sizes slot) (speaks sc.sizes j st slot 3 (word_at sc m slot j) v said) in
@@ -97,7 +95,7 @@ value-in-place sc m st slot q v law frame below small at carried = by v (value_i
 exact-in-place : (sc : Scenario) (m : Moment) (st : NodeState) (slot q : ℕ) (o : Option Heard) (x : Message) → ((v : Heard) → o ≡ Some v → IsInPlace sc m (message_of st slot (q + 1) v))
     → option_map (message_of st slot (q + 1)) o ≡ Some x → IsInPlace sc m x
 exact-in-place sc m st slot q None x is h = cc
-exact-in-place sc m st slot q (Some v) x is h = subst (IsInPlace sc m) (same_some (message_of st slot (q + 1) v) x h) (is v refl)
+exact-in-place sc m st slot q (Some v) x is h = subst (IsInPlace sc m) (same_Some (message_of st slot (q + 1) v) x h) (is v refl)
 
 -- All windows.
 

@@ -1,10 +1,10 @@
 -- What a good RMU says in a stage that is recorded, and what is recorded of it.
 use Rattle.std.proofs.Common.{◌≡◌, ℕ, ◌+◌, ◌<◌, ◌==◌, true, false, Some, List, refl, sym, ◌∙◌, ap, subst, arith}
-use Rattle.std.proofs.lemmas.Bool.Decides.{nat_tests}
 use Rattle.rb_base.specs.Nodes.Side.{Rmu}
 use Rattle.rb_base.specs.Sizes.{Sizes, sync_slot_of}
 use Rattle.rb_base.specs.declared.values.Heard.{Heard}
 use Rattle.rb_base.specs.declared.values.Heard.TheVariants.{Word, Fault}
+use Rattle.rb_base.proofs.Plain.{less-differs}
 use Rattle.rb_rules.specs.declared.plan.Plan.{Plan}
 use Rattle.rb_rules.specs.declared.sense.Sense.{Sense}
 use Rattle.rb_rules.specs.declared.sense.Sense.TheVariants.{One}
@@ -18,6 +18,7 @@ use Rattle.rb_rules.specs.Rounds.{moment, sending_in}
 use Rattle.rb_rules.specs.Sense.{is_one, value_in}
 use Rattle.rb_rules.specs.Slots.{role_of}
 use Rattle.rb_rules.specs.Windows.{send_offset_of}
+use Rattle.rb_rules.proofs.Senses.{value_is_in}
 use Rattle.rb_laws_agreement.proofs.Goodnesses.{slot_here}
 use Rattle.rb_laws_agreement.proofs.Invariant.{IsGoodNode}
 use Rattle.rb_laws_agreement.proofs.NodeWindows.{Windows, exact_windows, word_at}
@@ -26,19 +27,11 @@ use Rattle.rb_laws_listener_learns.specs.Ears.{Ear, SendsIn}
 use Rattle.rb_laws_listener_learns.specs.Records.{IsRecorded, RecordsAreWhole}
 use Rattle.rb_laws_listener_learns.proofs.Within.{IsExactAt}
 
-not-sync : (slot sync : ℕ) → slot < sync → (slot == sync) ≡ false
-not-sync slot sync below = grind (arith, nat_tests, below)
-
 said-sending : (sizes : Sizes) (plan : Plan) (j : ℕ) (st : NodeState) (slot stage word : ℕ) (v : Heard) → slot < sync_slot_of sizes → says sizes Rmu j st slot stage word ≡ Some v
     → sending sizes plan Rmu j st slot stage word ≡ Some (record { tick = st.epoch + send_offset_of plan slot stage; message = message_of st slot stage v })
 unfolding sending
 said-sending sizes plan j st slot stage word v below said =
-    let away : (slot == sync_slot_of sizes) ≡ false = not-sync slot (sync_slot_of sizes) below in rw (away, said) refl
-
--- the value comes back
-pub value-back : (st : NodeState) (slot stage at : ℕ) (v : Heard) → value_in (One at (message_of st slot stage v)) ≡ Some v
-value-back st slot stage at (Word w) = refl
-value-back st slot stage at Fault = refl
+    let away : (slot == sync_slot_of sizes) ≡ false = less-differs slot (sync_slot_of sizes) below in rw (away, said) refl
 
 place-back : (st : NodeState) (slot stage : ℕ) (v : Heard) → ((message_of st slot stage v).slot ≡ slot) × ((message_of st slot stage v).stage ≡ stage)
 place-back st slot stage (Word w) = (refl, refl)
@@ -74,4 +67,4 @@ recorded-value sc hands ear learned records whole m j slot q st v e running fram
     whole j good m (record { tick = st.epoch + send_offset_of sc.plan slot (q + 1); message = message_of st slot (q + 1) v }) (sends-said sc hands m j slot q st v e running node said) frame
     (place.1 ∙ sym staged ∙ ap (λ t. stage_recorded (role_of sc.sizes t)) (sym place.0)) in
     let is : record_of records slot j ≡ One r.stamp (message_of st slot (q + 1) v) = ap (λ t. record_of records t j) (sym place.0) ∙ r.is in
-    record { value = ap value_in is ∙ value-back st slot (q + 1) r.stamp v; one = ap is_one is }
+    record { value = ap value_in is ∙ value_is_in st slot (q + 1) r.stamp v; one = ap is_one is }

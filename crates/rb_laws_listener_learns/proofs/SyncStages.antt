@@ -11,6 +11,7 @@ use Rattle.rb_rules.specs.Rounds.{moment, next_frame, windows_in}
 use Rattle.rb_rules.specs.SyncStage.{new_epoch_of}
 use Rattle.rb_laws_agreement.proofs.Agreement.{step_is}
 use Rattle.rb_laws_agreement.proofs.FrameAgrees.{TurnedFrom, turned_from}
+use Rattle.rb_laws_agreement.proofs.FrameTimes.{turned-epoch}
 use Rattle.rb_laws_agreement.proofs.Goodnesses.{slot_last}
 use Rattle.rb_laws_agreement.proofs.Invariant.{Agree, IsGoodNode, Shared}
 use Rattle.rb_laws_agreement.proofs.JudgedWindows.{IsPassed, passed, rows_of}
@@ -21,7 +22,6 @@ use Rattle.rb_laws_agreement.proofs.SlotRuns.{next-window}
 use Rattle.rb_laws_agreement.proofs.SyncAgrees.{SyncSetting, agree_sync, book_sync, stage_setting, tail_setting}
 use Rattle.rb_laws_agreement.proofs.SyncWindows.{tail_keeps_epoch}
 use Rattle.rb_laws_synchrony.proofs.SyncSteps.{IsPassedStage, passed_stage}
-use Rattle.rb_laws_synchrony.proofs.Synchrony.{turned_epoch}
 
 -- a stage of the sync slot that passes
 pub record StageIs (sc : Scenario) (hands : List HandIn) (k : ℕ) (s : Shared) (q : ℕ) : Type 0 where
@@ -84,7 +84,7 @@ turns_at sc hands law k s agree at last me i now node =
     ends next_is turn_is = record {
       st = from.st;
       was = from.was;
-      epoch = λ tick knows. sym (turned_epoch sc.sizes sc.plan me turned.st tick (known tick knows)) ∙ ap (λ x. x.epoch) turned.is;
+      epoch = λ tick knows. sym (turned-epoch sc.sizes sc.plan me turned.st tick (known tick knows)) ∙ ap (λ x. x.epoch) turned.is;
     }
       where
         agree_end : Agree sc hands (suc k) (moment sc hands (suc k)) s

@@ -1,10 +1,11 @@
 -- An RMU is good in the whole run just where it is good in each slot to which the run comes.
 use Rattle.std.proofs.Common.{◌≡◌, ℕ, ◌==◌, ◌&&◌, ◌||◌, not, nat_lt, Bool, true, false, Option, Some, None, get_or, refl, sym, ◌∙◌, ap, arith}
+use Rattle.std.proofs.lemmas.Bool.{and_from, lt-ltb}
 use Rattle.std.proofs.lemmas.Bool.Decides.{nat_tests}
 use Rattle.rb_base.specs.Nodes.Side.{Rmu}
+use Rattle.rb_base.proofs.Plain.{and_second}
 use Rattle.rb_rules.specs.Goodness.{is_before, is_good}
 use Rattle.rb_rules.specs.Moments.{before_slot}
-use Rattle.rb_laws_agreement.proofs.Tests.{and_both, and_second, less_true}
 use Rattle.rb_laws_listener_learns.specs.Ears.{comes_to}
 use Rattle.rb_laws_listener_learns.specs.Laws.{AlwaysGoodIsGoodInEachSlot}
 use Rattle.rb_laws_listener_learns.specs.Onsets.{IsGoodThroughout}
@@ -17,7 +18,7 @@ pub each-slot : AlwaysGoodIsGoodInEachSlot
 each-slot sc hands law j counted = (
   λ good frame slot le running. always-good-in sc hands law j frame slot running good,
   λ throughout.
-      and_both (nat_lt j sc.sizes.rmus) (not (comes_to sc hands (get_or sc.rmu_onsets j None))) (less_true j sc.sizes.rmus counted) (by throughout (get_or sc.rmu_onsets j None) refl),
+      and_from (nat_lt j sc.sizes.rmus) (not (comes_to sc hands (get_or sc.rmu_onsets j None))) (lt-ltb j sc.sizes.rmus counted) (by throughout (get_or sc.rmu_onsets j None) refl),
 )
   where
     at : IsGoodThroughout sc hands j → (onset : ℕ × ℕ) → get_or sc.rmu_onsets j None ≡ Some onset → (b : Bool) → (before_slot sc hands onset.0 onset.1).book.ended ≡ b → not (not b) ≡ true

@@ -1,5 +1,6 @@
 -- What a listener has recorded of good RMUs at each tick.
 use Rattle.std.proofs.Common.{◌≡◌, ℕ, suc, ◌+◌, ◌^◌, ◌<◌, ◌==◌, ◌&&◌, nat_lt, Bool, true, false, Option, Some, None, is_some, List, slice_get, inl, inr, refl, sym, subst, arith}
+use Rattle.std.proofs.lemmas.Bool.{ltb-true}
 use Rattle.std.proofs.lemmas.Bool.Decides.{nat_tests}
 use Rattle.rb_rules.specs.declared.message.Message.{Message}
 use Rattle.rb_rules.specs.declared.sense.Sense.{Sense}
@@ -9,7 +10,6 @@ use Rattle.rb_rules.specs.Hearing.{Coming}
 use Rattle.rb_rules.specs.Lawful.{IsLawful}
 use Rattle.rb_rules.specs.Ports.{HandIn}
 use Rattle.rb_rules.specs.Spelling.{message_in}
-use Rattle.rb_laws_agreement.proofs.Tests.{less_from}
 use Rattle.rb_listen.specs.Lessons.{frame_after, noted, record_of}
 use Rattle.rb_listen.specs.Listening.{first_search, if_message, if_pass, is_over, later, learning, newest_with, passing, recorded, searching, timed, with_message, with_pass}
 use Rattle.rb_listen.specs.Passes.{is_call, pass_of, reach_of}
@@ -105,7 +105,7 @@ heard-true sc hands law ear is run k n c in_time there s h = by (nat_lt c.from s
     by : (a : Bool) → nat_lt c.from sc.sizes.rmus ≡ a → (b : Bool)
         → IsTrue sc hands ear k (suc n) (elim (a && b) as (λ _. Search) [ true ↦ if_message sc.sizes sc.plan c.from (message_in sc.plan.version c.bytes) s | false ↦ s ])
     by true e true =
-        let within : c.from < sc.sizes.rmus = less_from c.from sc.sizes.rmus e in
+        let within : c.from < sc.sizes.rmus = ltb-true c.from sc.sizes.rmus e in
         may-message-true sc hands law ear is run k n c.from (message_in sc.plan.version c.bytes) s (omega (arith, within, law.sizes.most_rmus)) (next within) h
     by true e false = next-search sc hands ear k n s h
     by false e b = next-search sc hands ear k n s h

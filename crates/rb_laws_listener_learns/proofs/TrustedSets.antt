@@ -1,11 +1,13 @@
 -- Where a listener decides, it knows whom all good nodes trust in the learned frame.
-use Rattle.std.proofs.Common.{◌≡◌, ℕ, suc, ◌+◌, ◌-◌, ◌*◌, ◌%◌, ◌^◌, ◌<◌, ◌≤◌, ◌&&◌, not, nat_lt, Bool, true, false, Some, if◌then◌else◌, unwrap_or, List, get_or, slice_get, inl, inr, refl, sym, ◌∙◌, ap, subst, arith}
-use Rattle.std.proofs.lemmas.Bool.{cases_lt}
+use Rattle.std.proofs.Common.{◌≡◌, ℕ, suc, ◌+◌, ◌-◌, ◌*◌, ◌%◌, ◌^◌, ◌<◌, ◌≤◌, ◌&&◌, not, nat_lt, Bool, true, Some, if◌then◌else◌, unwrap_or, List, get_or, slice_get, inl, inr, refl, sym, ◌∙◌, ap, subst, arith}
+use Rattle.std.proofs.lemmas.Bool.{and_from, cases_lt, lt-ltb, ltb-true}
+use Rattle.std.proofs.lemmas.Option.{same_Some}
 use Rattle.rb_base.specs.Nodes.{Side, has, set_of, size}
 use Rattle.rb_base.specs.Nodes.Side.{Biu, Rmu}
 use Rattle.rb_base.specs.Sizes.{Sizes, sync_slot_of}
 use Rattle.rb_base.specs.declared.values.Heard.{Heard}
 use Rattle.rb_base.specs.declared.values.Heard.TheVariants.{Fault}
+use Rattle.rb_base.proofs.Plain.{and_first, same_bool}
 use Rattle.rb_base.proofs.Sets.{has-set_of, is_set_of, set_of-lt}
 use Rattle.rb_base.proofs.SetSizes.{size_within}
 use Rattle.rb_rules.specs.declared.sense.Sense.{Sense}
@@ -22,6 +24,7 @@ use Rattle.rb_rules.specs.Sense.{is_one}
 use Rattle.rb_rules.specs.Slots.{count_of, first_diagnosis_of, listens, role_of, sender_in, sender_kind}
 use Rattle.rb_rules.specs.Slots.Sender.{Nobody, Node}
 use Rattle.rb_rules.specs.Standing.{without}
+use Rattle.rb_rules.proofs.Slots.{schedule_role}
 use Rattle.rb_laws_agreement.proofs.Agreement.{IsAgreed, agreement}
 use Rattle.rb_laws_agreement.proofs.FrameTurns.{convicted_all}
 use Rattle.rb_laws_agreement.proofs.Invariant.{IsGoodNode, is_good_now, slot_numbered}
@@ -29,7 +32,7 @@ use Rattle.rb_laws_agreement.proofs.NodeWindows.{word_at}
 use Rattle.rb_laws_agreement.proofs.Places.{IsPlaced, good_before_slot, placed, running_earlier}
 use Rattle.rb_laws_agreement.proofs.Settings.{good_state}
 use Rattle.rb_laws_agreement.proofs.Speaking.{got_is_said, vote_is_said}
-use Rattle.rb_laws_agreement.proofs.Tests.{Present, and_both, and_first, less_from, less_true, same_some}
+use Rattle.rb_laws_agreement.proofs.Tests.{Present}
 use Rattle.rb_laws_synchrony.proofs.EpochTicks.{within_run}
 use Rattle.rb_listen.specs.Lessons.{ones_in, record_of, stage_recorded, trusted_bius, trusted_rmus, trusts_biu, trusts_rmu}
 use Rattle.rb_listen.specs.Passes.{are_most}
@@ -40,10 +43,11 @@ use Rattle.rb_laws_listener_learns.specs.Learned.{AreTrusted, IsTrustedIn, Trust
 use Rattle.rb_laws_listener_learns.specs.Records.{RecordsAreWhole}
 use Rattle.rb_laws_listener_learns.proofs.Fresh.{always-good-at, always-good-in}
 use Rattle.rb_laws_listener_learns.proofs.Lasting.{LastsFrom, lasts-to}
+use Rattle.rb_laws_listener_learns.proofs.Moments.{same-frame}
 use Rattle.rb_laws_listener_learns.proofs.PassSets.{more-than}
 use Rattle.rb_laws_listener_learns.proofs.Seeks.{good-set}
 use Rattle.rb_laws_listener_learns.proofs.Spoken.{recorded-value}
-use Rattle.rb_laws_listener_learns.proofs.Trusting.{diagnosis-role, schedule-role, trusts-the-trusted}
+use Rattle.rb_laws_listener_learns.proofs.Trusting.{diagnosis-role, trusts-the-trusted}
 use Rattle.rb_laws_listener_learns.proofs.Turning.{EndOf, end-of}
 use Rattle.rb_laws_listener_learns.proofs.Whole.{HasLesson, has-lesson, records-whole}
 use Rattle.rb_laws_listener_learns.proofs.Within.{IsExactAt}
@@ -76,7 +80,7 @@ good-there sc hands law n j running good =
     record { st = there.value; node = record { there = there.is; good = here } }
 
 one-state : (sc : Scenario) (hands : List HandIn) (n j : ℕ) (a b : NodeState) → IsGoodNode sc (moment sc hands n) Rmu j a → IsGoodNode sc (moment sc hands n) Rmu j b → a ≡ b
-one-state sc hands n j a b x y = same_some a b (sym x.there ∙ y.there)
+one-state sc hands n j a b x y = same_Some a b (sym x.there ∙ y.there)
 
 later-same : (sc : Scenario) (hands : List HandIn) → IsLawful sc → (frame n k j : ℕ) (a b : NodeState) → n ≤ k → IsIn sc hands frame n → IsIn sc hands frame k
     → IsGoodNode sc (moment sc hands n) Rmu j a → IsGoodNode sc (moment sc hands k) Rmu j b → (kind : Side) → trusted_of kind Rmu b ≡ trusted_of kind Rmu a
@@ -122,12 +126,12 @@ told-below Biu sizes i h = omega (arith, h)
 told-below Rmu sizes i h = omega (arith, h)
 
 told-recorded : (kind : Side) (sizes : Sizes) (i : ℕ) → i < count_of kind sizes → stage_recorded (role_of sizes (told_in kind sizes i)) ≡ told_stage kind + 1
-told-recorded Biu sizes i h = ap stage_recorded (schedule-role sizes i h)
+told-recorded Biu sizes i h = ap stage_recorded (schedule_role sizes i h)
 told-recorded Rmu sizes i h = ap stage_recorded (diagnosis-role sizes i h)
 
 told-sender : (kind : Side) (sizes : Sizes) (i : ℕ) (st : NodeState) → i < count_of kind sizes → has (trusted_of kind Rmu st) i ≡ true → sender_at sizes Rmu st (told_in kind sizes i) ≡ Node i
 told-sender Biu sizes i st h t =
-    ap (sender_in (trusted_of Biu Rmu st) (trusted_of Rmu Rmu st) st.owners) (schedule-role sizes i h) ∙ ap (λ b. if b then Node i else Nobody) t
+    ap (sender_in (trusted_of Biu Rmu st) (trusted_of Rmu Rmu st) st.owners) (schedule_role sizes i h) ∙ ap (λ b. if b then Node i else Nobody) t
 told-sender Rmu sizes i st h t =
     ap (sender_in (trusted_of Biu Rmu st) (trusted_of Rmu Rmu st) st.owners) (diagnosis-role sizes i h) ∙ ap (λ b. if b then Node i else Nobody) t
 
@@ -138,7 +142,7 @@ pub record SaysSome (sizes : Sizes) (kind : Side) (i j : ℕ) (st : NodeState) (
 
 says-some : (sizes : Sizes) (kind : Side) (i j : ℕ) (st : NodeState) (word : ℕ) → i < count_of kind sizes → has (trusted_of kind Rmu st) i ≡ true → SaysSome sizes kind i j st word
 says-some sizes Biu i j st word h t =
-    record { value = unwrap_or st.got Fault; is = got_is_said sizes Rmu j i st i word (told-sender Biu sizes i st h t) (sym (ap sender_kind (schedule-role sizes i h))) }
+    record { value = unwrap_or st.got Fault; is = got_is_said sizes Rmu j i st i word (told-sender Biu sizes i st h t) (sym (ap sender_kind (schedule_role sizes i h))) }
 says-some sizes Rmu i j st word h t =
     record {
       value = get_or st.votes (first_diagnosis_of Rmu sizes + i) Fault;
@@ -162,8 +166,8 @@ stage-in sc hands law learned slot q below small called =
     (record { running = running; frame_is = p.frame_is }, record { below = below; small = small; at = omega (arith, p.window_is) })
 
 trusts-true : (kind : Side) (sizes : Sizes) (records : List Sense) (i : ℕ) → i < count_of kind sizes → are_most sizes (ones_in records (told_in kind sizes i)) ≡ true → trusts_of kind sizes records i ≡ true
-trusts-true Biu sizes records i h most = and_both (nat_lt i sizes.bius) (are_most sizes (ones_in records i)) (less_true i sizes.bius h) most
-trusts-true Rmu sizes records i h most = and_both (nat_lt i sizes.rmus) (are_most sizes (ones_in records (first_diagnosis_of Rmu sizes + i))) (less_true i sizes.rmus h) most
+trusts-true Biu sizes records i h most = and_from (nat_lt i sizes.bius) (are_most sizes (ones_in records i)) (lt-ltb i sizes.bius h) most
+trusts-true Rmu sizes records i h most = and_from (nat_lt i sizes.rmus) (are_most sizes (ones_in records (first_diagnosis_of Rmu sizes + i))) (lt-ltb i sizes.rmus h) most
 
 -- whom the bus trusts the listener does
 pub trusts-all : (sc : Scenario) (hands : List HandIn) → IsLawful sc → (ear : Ear) → are_most sc.sizes (set_of (is_always_good sc hands)) ≡ true → (learned : ℕ) (records : List Sense)
@@ -206,9 +210,6 @@ trusts-all sc hands law ear most learned records whole called n j st here good n
         (recorded-value sc hands ear learned records whole m o (told_in kind sc.sizes i) (told_stage kind) their.st said.value there.1 there.0.running there.0.frame_is their.node
         (always-good-in sc hands law o learned (sync_slot_of sc.sizes) sync_begun good_o) (told-recorded kind sc.sizes i count) said.is).one
 
-same-frames : (a b most : ℕ) → a ≤ most → b ≤ most → most ≤ 4096 → a % 65536 ≡ b % 65536 → a ≡ b
-same-frames a b most le_a le_b small e = omega (arith, e, le_a, le_b, small)
-
 -- and no others
 trusted-there : (sc : Scenario) (hands : List HandIn) → IsLawful sc → (learned slot q : ℕ) → slot < sync_slot_of sc.sizes → q < 3 → learned ≤ sc.frames → (number : ℕ) → number ≡ learned % 65536
     → (n j : ℕ) (st : NodeState) → IsIn sc hands learned n → is_always_good sc hands j ≡ true → IsGoodNode sc (moment sc hands n) Rmu j st → (kind : Side) (i : ℕ)
@@ -217,7 +218,7 @@ trusted-there sc hands law learned slot q below small few number is n j st here 
     let p : IsPlaced sc hands t.frame slot (q + 1) = placed sc hands law t.frame slot (q + 1) (omega (arith, below)) (omega arith) (omega (arith, small)) t.running in
     let m : ℕ = t.frame * (windows_in sc.sizes + 1) + 3 * slot + (q + 1) - 1 in
     let le : t.frame ≤ sc.frames = subst (λ f. f ≤ sc.frames) p.frame_is (within_run sc hands (t.frame * (windows_in sc.sizes + 1) + 3 * slot + (q + 1) - 1) t.running) in
-    let frame : t.frame ≡ learned = same-frames t.frame learned sc.frames le few law.frames.1 (sym t.number_is ∙ is) in
+    let frame : t.frame ≡ learned = same-frame t.frame learned sc.frames le few law.frames.1 (sym t.number_is ∙ is) in
     let there : IsIn sc hands learned (t.frame * (windows_in sc.sizes + 1) + 3 * slot + (q + 1) - 1) = record { running = t.running; frame_is = p.frame_is ∙ frame } in
     let mine : GoodThere sc hands (t.frame * (windows_in sc.sizes + 1) + 3 * slot + (q + 1) - 1) j = good-there sc hands law (t.frame * (windows_in sc.sizes + 1) + 3 * slot + (q + 1) - 1) j t.running good in
     ap (λ x. has x i) (same-trust sc hands law learned n (t.frame * (windows_in sc.sizes + 1) + 3 * slot + (q + 1) - 1) j st mine.st here there node mine.node kind)
@@ -257,13 +258,8 @@ in-run sc hands law learned called =
     subst (λ f. f ≤ sc.frames) p.frame_is (within_run sc hands (learned * (windows_in sc.sizes + 1) + 3 * sync_slot_of sc.sizes + 2 - 1) called)
 
 count-of : (kind : Side) (sizes : Sizes) (records : List Sense) (i : ℕ) → trusts_of kind sizes records i ≡ true → i < count_of kind sizes
-count-of Biu sizes records i h = less_from i sizes.bius (and_first (nat_lt i sizes.bius) (are_most sizes (ones_in records i)) h)
-count-of Rmu sizes records i h = less_from i sizes.rmus (and_first (nat_lt i sizes.rmus) (are_most sizes (ones_in records (first_diagnosis_of Rmu sizes + i))) h)
-
-same-test : (a b : Bool) → (a ≡ true → b ≡ true) → (b ≡ true → a ≡ true) → a ≡ b
-same-test true b f g = sym (f refl)
-same-test false true f g = g refl
-same-test false false f g = refl
+count-of Biu sizes records i h = ltb-true i sizes.bius (and_first (nat_lt i sizes.bius) (are_most sizes (ones_in records i)) h)
+count-of Rmu sizes records i h = ltb-true i sizes.rmus (and_first (nat_lt i sizes.rmus) (are_most sizes (ones_in records (first_diagnosis_of Rmu sizes + i))) h)
 
 known-is : (kind : Side) (sizes : Sizes) (records : List Sense) → set_of (trusts_of kind sizes records) ≡ known_of kind sizes records
 known-is Biu sizes records = refl
@@ -304,7 +300,7 @@ knows-at sc hands law ear is run learned tick s decides = record {
     trust n here me i st node kind =
         all-trust sc hands law n here.running me Rmu i l.1.fixed.call.call.j st mine.st node mine.node kind
         ∙ is_set_of (trusted_of kind Rmu mine.st) (trusts_of kind sc.sizes s.lesson.records) few
-        (λ k below. same-test (has (trusted_of kind Rmu mine.st) k) (trusts_of kind sc.sizes s.lesson.records k)
+        (λ k below. same_bool (has (trusted_of kind Rmu mine.st) k) (trusts_of kind sc.sizes s.lesson.records k)
         (λ t. trusts-all sc hands law ear run.most_good learned s.lesson.records whole decides.called n l.1.fixed.call.call.j mine.st here good mine.node kind k t)
         (λ t. back kind k t)) ∙ known-is kind sc.sizes s.lesson.records
       where

@@ -1,11 +1,12 @@
 -- Whom a listener trusts by its records a good RMU trusts on the bus: it sent something in that node's slot.
 use Rattle.std.proofs.Common.{◌≡◌, ℕ, ◌+◌, ◌-◌, ◌*◌, ◌<◌, ◌≤◌, ◌==◌, ◌&&◌, nat_lt, Bool, true, false, Option, Some, None, option_map, List, slice_get, if◌then◌else◌, inl, inr, refl, sym, ◌∙◌, ap, subst, arith}
-use Rattle.std.proofs.lemmas.Bool.{cases_lt}
+use Rattle.std.proofs.lemmas.Bool.{cases_lt, ltb-true}
 use Rattle.std.proofs.lemmas.Bool.Decides.{nat_tests}
 use Rattle.rb_base.specs.Nodes.{Side, has, set_of}
 use Rattle.rb_base.specs.Nodes.Side.{Biu, Rmu}
 use Rattle.rb_base.specs.Sizes.{Sizes, sync_slot_of}
 use Rattle.rb_base.specs.declared.values.Heard.{Heard}
+use Rattle.rb_base.proofs.Plain.{and_first, and_second}
 use Rattle.rb_base.proofs.Sets.{has-set_of}
 use Rattle.rb_rules.specs.declared.message.Message.{Message}
 use Rattle.rb_rules.specs.declared.role.Role.TheVariants.{Schedule, DiagRmu}
@@ -23,10 +24,11 @@ use Rattle.rb_rules.specs.Rounds.{Moment, moment, windows_in}
 use Rattle.rb_rules.specs.Sense.{is_one}
 use Rattle.rb_rules.specs.Slots.{first_diagnosis_of, if_trusted, role_of, sender_in}
 use Rattle.rb_rules.specs.Slots.Sender.{Nobody, Node}
+use Rattle.rb_rules.proofs.Slots.{schedule_role}
 use Rattle.rb_laws_agreement.proofs.Agreement.{IsAgreed, agreement}
 use Rattle.rb_laws_agreement.proofs.Goodnesses.{slot_here}
 use Rattle.rb_laws_agreement.proofs.NodeWindows.{Windows, exact_windows, word_at}
-use Rattle.rb_laws_agreement.proofs.Tests.{Passing, and_first, and_second, less_from}
+use Rattle.rb_laws_agreement.proofs.Tests.{Passing}
 use Rattle.rb_laws_synchrony.proofs.TimelyWindows.{IsSent, sent_parts}
 use Rattle.rb_listen.specs.Lessons.{ones_in, record_of, stage_recorded, trusts_biu, trusts_rmu}
 use Rattle.rb_listen.specs.Listening as now
@@ -191,9 +193,6 @@ trusted-in sc hands law ear frame slot stage i kind below some few staged sender
 
 -- Both kinds.
 
-pub schedule-role : (sizes : Sizes) (i : ℕ) → i < sizes.bius → role_of sizes i ≡ Schedule i
-schedule-role sizes i below = let e : nat_lt i sizes.bius ≡ true = grind (arith, nat_tests, below) in rw e refl
-
 pub diagnosis-role : (sizes : Sizes) (i : ℕ) → i < sizes.rmus → role_of sizes (first_diagnosis_of Rmu sizes + i) ≡ DiagRmu i
 diagnosis-role sizes i below =
     let slot : ℕ = 2 * sizes.bius + sizes.data_slots + i in
@@ -210,8 +209,8 @@ trusts-the-trusted sc hands law ear is run k in_time s at learns i = (biu, rmu)
   where
     biu : trusts_biu sc.sizes s.lesson.records i ≡ true → IsTrustedIn sc hands s.lesson.frame i 2 Biu i
     biu h =
-        let within : i < sc.sizes.bius = less_from i sc.sizes.bius (and_first (nat_lt i sc.sizes.bius) (are_most sc.sizes (ones_in s.lesson.records i)) h) in
-        let role : role_of sc.sizes i ≡ Schedule i = schedule-role sc.sizes i within in
+        let within : i < sc.sizes.bius = ltb-true i sc.sizes.bius (and_first (nat_lt i sc.sizes.bius) (are_most sc.sizes (ones_in s.lesson.records i)) h) in
+        let role : role_of sc.sizes i ≡ Schedule i = schedule_role sc.sizes i within in
         trusted-in sc hands law ear s.lesson.frame i 2 i Biu (omega (arith, within)) (omega arith) (omega arith) (ap stage_recorded role)
         (λ st. ap (sender_in (trusted_of Biu Rmu st) (trusted_of Rmu Rmu st) st.owners) role)
         (one-of-most sc hands law ear is run k in_time s at learns i (and_second (nat_lt i sc.sizes.bius) (are_most sc.sizes (ones_in s.lesson.records i)) h))
@@ -220,7 +219,7 @@ trusts-the-trusted sc hands law ear is run k in_time s at learns i = (biu, rmu)
     rmu h =
         let slot : ℕ = first_diagnosis_of Rmu sc.sizes + i in
         let within : i < sc.sizes.rmus =
-        less_from i sc.sizes.rmus (and_first (nat_lt i sc.sizes.rmus) (are_most sc.sizes (ones_in s.lesson.records (first_diagnosis_of Rmu sc.sizes + i))) h) in
+        ltb-true i sc.sizes.rmus (and_first (nat_lt i sc.sizes.rmus) (are_most sc.sizes (ones_in s.lesson.records (first_diagnosis_of Rmu sc.sizes + i))) h) in
         let role : role_of sc.sizes (first_diagnosis_of Rmu sc.sizes + i) ≡ DiagRmu i = diagnosis-role sc.sizes i within in
         trusted-in sc hands law ear s.lesson.frame (first_diagnosis_of Rmu sc.sizes + i) 3 i Rmu (omega (arith, within)) (omega arith) (omega arith) (ap stage_recorded role)
         (λ st. ap (sender_in (trusted_of Biu Rmu st) (trusted_of Rmu Rmu st) st.owners) role)

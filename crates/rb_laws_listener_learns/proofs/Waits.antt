@@ -1,6 +1,7 @@
 -- A listener that has decided waits for its first frame.
 use Rattle.std.proofs.Common.{◌≡◌, ℕ, zero, suc, ◌+◌, ◌-◌, ◌<◌, ◌≤◌, ◌==◌, nat_lt, Bool, true, false, Option, Some, List, [], ◌∷◌, refl, ◌∙◌, ap, subst, arith}
-use Rattle.std.proofs.lemmas.Bool.Decides.{nat_tests}
+use Rattle.std.proofs.lemmas.Bool.{lt-ltb}
+use Rattle.rb_base.proofs.Plain.{eq_self, more-differs}
 use Rattle.rb_rules.specs.Goodness.{Scenario}
 use Rattle.rb_rules.specs.Hearing.{Coming}
 use Rattle.rb_rules.specs.Lawful.{IsLawful}
@@ -10,7 +11,6 @@ use Rattle.rb_listen.specs.Listening.{Heeding, Listening, decided, first_core, f
 use Rattle.rb_listen.specs.Listening as now
 use Rattle.rb_listen.specs.declared.lesson.First.{First}
 use Rattle.rb_listen.specs.declared.search.Search.{Search}
-use Rattle.rb_laws_agreement.proofs.Tests.{less_true}
 use Rattle.rb_laws_listener_learns.specs.Deciding.{DecidesBy}
 use Rattle.rb_laws_listener_learns.specs.Ears.{Ear, HearsTheRun, IsEar, hears, listening_at}
 use Rattle.rb_laws_listener_learns.specs.Waiting.{WaitsFor}
@@ -41,12 +41,6 @@ on-waiting sc had first begins over is =
     ap (λ b. elim b as (λ _. Heeding) [ true ↦ untold (now.Waiting had first) | false ↦ wait_on sc.sizes sc.plan had first (first.epoch == had) ]) over
     ∙ ap (wait_on sc.sizes sc.plan had first) is
 
-other : (a b : ℕ) → b < a → (a == b) ≡ false
-other a b less = grind (arith, nat_tests, less)
-
-same : (a : ℕ) → (a == a) ≡ true
-same a = grind (arith, nat_tests)
-
 pub waits-for : (sc : Scenario) (hands : List HandIn) → IsLawful sc → (ear : Ear) → IsEar sc ear → HearsTheRun sc hands ear → (learned tick : ℕ) (s : Search) → DecidesBy sc hands ear learned tick s
     → (first : First) → first_of sc.sizes sc.plan s.lesson ≡ Some first → tick < first.epoch → WaitsFor sc ear tick first
 waits-for sc hands law ear is run learned tick s decides first found ahead = record {
@@ -54,7 +48,7 @@ waits-for sc hands law ear is run learned tick s decides first found ahead = rec
       subst (λ t. listening_at sc ear t ≡ now.Waiting t first) e (waits (k - suc tick) (omega (arith, e, le)) (omega (arith, e, in_time)));
   begins = λ in_time. let e : (first.epoch - suc tick) + suc tick ≡ first.epoch = omega (arith, ahead) in
       ap (heed sc.sizes sc.plan) (subst (λ t. listening_at sc ear t ≡ now.Waiting t first) e (waits (first.epoch - suc tick) (omega (arith, e)) (omega (arith, e, in_time))))
-      ∙ on-waiting sc first.epoch first true (not-yet sc ear is first.epoch first.epoch in_time refl) (same first.epoch);
+      ∙ on-waiting sc first.epoch first true (not-yet sc ear is first.epoch first.epoch in_time refl) (eq_self first.epoch);
 }
   where
     at : HoldsAt ear (IsFresh sc hands ear) tick (listening_at sc ear tick)
@@ -69,7 +63,7 @@ waits-for sc hands law ear is run learned tick s decides first found ahead = rec
     next : (heed sc.sizes sc.plan (listening_at sc ear tick)).listening ≡ now.Waiting (suc tick) first
     next =
         ap (λ x. (heed sc.sizes sc.plan x).listening) decides.searching
-        ∙ on-deciding sc s first (not-yet sc ear is tick s.had decides.in_time had) decides.deciding found (less_true s.had first.epoch (omega (arith, had, ahead)))
+        ∙ on-deciding sc s first (not-yet sc ear is tick s.had decides.in_time had) decides.deciding found (lt-ltb s.had first.epoch (omega (arith, had, ahead)))
         ∙ ap (λ t. now.Waiting (t + 1) first) had ∙ (let e : tick + 1 ≡ suc tick = omega arith in ap (λ t. now.Waiting t first) e)
 
     waits : (d : ℕ) → d + suc tick ≤ first.epoch → d + suc tick < ear.ticks → listening_at sc ear (d + suc tick) ≡ now.Waiting (d + suc tick) first
@@ -82,7 +76,7 @@ waits-for sc hands law ear is run learned tick s decides first found ahead = rec
         let before : listening_at sc ear (d + suc tick) ≡ now.Waiting (d + suc tick) first = waits d (omega (arith, le)) (omega (arith, in_time)) in
         let step : (heed sc.sizes sc.plan (listening_at sc ear (d + suc tick))).listening ≡ now.Waiting (suc (d + suc tick)) first =
         ap (λ x. (heed sc.sizes sc.plan x).listening) before
-        ∙ ap (λ x. x.listening) (on-waiting sc (d + suc tick) first false (not-yet sc ear is (d + suc tick) (d + suc tick) (omega (arith, in_time)) refl) (other first.epoch (d + suc tick) (omega (arith, le))))
+        ∙ ap (λ x. x.listening) (on-waiting sc (d + suc tick) first false (not-yet sc ear is (d + suc tick) (d + suc tick) (omega (arith, in_time)) refl) (more-differs first.epoch (d + suc tick) (omega (arith, le))))
         ∙ ap (λ t. now.Waiting t first) f in
         subst (λ t. listening_at sc ear t ≡ now.Waiting t first) e
         (ap (hears sc (ear.heard (suc (d + suc tick)))) step ∙ hears-nothing sc (ear.heard (suc (d + suc tick))) (suc (d + suc tick)) first)

@@ -1,14 +1,14 @@
 -- At a decision all is recorded that the RMUs sent which were good up to the calls of the learned frame.
-use Rattle.std.proofs.Common.{◌≡◌, ℕ, zero, suc, ◌+◌, ◌-◌, ◌*◌, ◌%◌, ◌<◌, ◌≤◌, ◌==◌, ◌&&◌, ◌||◌, nat_le, nat_lt, true, false, Some, None, List, get_or, slice_get, inl, inr, refl, sym, ◌∙◌, ap, subst, arith}
-use Rattle.std.proofs.lemmas.Bool.{cases_lt}
-use Rattle.std.proofs.lemmas.Bool.Decides.{nat_tests}
+use Rattle.std.proofs.Common.{◌≡◌, ℕ, zero, suc, ◌+◌, ◌-◌, ◌*◌, ◌%◌, ◌<◌, ◌≤◌, ◌==◌, ◌&&◌, ◌||◌, nat_lt, true, false, Some, None, List, get_or, slice_get, inl, inr, refl, sym, ◌∙◌, ap, subst, arith}
+use Rattle.std.proofs.lemmas.Bool.{cases_lt, eq-eqb, le-leb, ltb-true, or_cases}
+use Rattle.std.proofs.lemmas.Option.{same_Some}
 use Rattle.std.proofs.Math.Nat.{mul-le-mul_right}
 use Rattle.rb_base.specs.Nodes.Side.{Rmu}
 use Rattle.rb_base.specs.Sizes.{sync_slot_of}
 use Rattle.rb_rules.specs.declared.message.Message.{Message}
 use Rattle.rb_rules.specs.declared.role.Role.{Role}
 use Rattle.rb_rules.specs.declared.role.Role.TheVariants.{Schedule, Data, DiagBiu, DiagRmu, Sync}
-use Rattle.rb_base.specs.Sizes.{Sizes}
+use Rattle.rb_base.proofs.Plain.{and_first, and_second}
 use Rattle.rb_rules.specs.Core.{is_tick}
 use Rattle.rb_rules.specs.declared.sense.Sense.{Sense}
 use Rattle.rb_rules.specs.declared.sense.Sense.TheVariants.{Silent, One, Bad}
@@ -25,13 +25,13 @@ use Rattle.rb_rules.specs.Sense.{tag_suits}
 use Rattle.rb_rules.specs.Slots.{role_of}
 use Rattle.rb_rules.specs.Spelling.{message_in}
 use Rattle.rb_rules.proofs.Drift.{times_rise_to}
+use Rattle.rb_rules.proofs.Slots.{sync_role}
 use Rattle.rb_rules.proofs.Spellings.{read_back}
 use Rattle.rb_rules.proofs.Stamps.{one_stamp, stamp_of-is}
 use Rattle.rb_laws_agreement.proofs.Agreement.{agreement}
 use Rattle.rb_laws_agreement.proofs.Invariant.{IsGoodNode}
 use Rattle.rb_laws_agreement.proofs.Places.{IsPlaced, good_before_slot, running_earlier}
 use Rattle.rb_laws_agreement.proofs.Places.{placed as place-of}
-use Rattle.rb_laws_agreement.proofs.Tests.{and_first, and_second, less_from, or_cases, same_some}
 use Rattle.rb_laws_synchrony.proofs.EpochTicks.{within_run}
 use Rattle.rb_laws_synchrony.proofs.PlanNumbers.{drift_of, eps_of}
 use Rattle.rb_laws_synchrony.proofs.Synchronous.{to_2}
@@ -51,7 +51,7 @@ use Rattle.rb_laws_listener_learns.proofs.Deciding.{IsAfterCall, IsHeardCall}
 use Rattle.rb_laws_listener_learns.proofs.Fresh.{next-frame-number, onset-in, same-frame-number, same-moment}
 use Rattle.rb_laws_listener_learns.proofs.Latest.{earlier-le, whole-earlier}
 use Rattle.rb_laws_listener_learns.proofs.Learning.{IsFixed, IsFresh, LearnsFrom, fresh-at, ticked}
-use Rattle.rb_laws_listener_learns.proofs.Moments.{same-coming}
+use Rattle.rb_laws_listener_learns.proofs.Moments.{same-coming, same-frame}
 use Rattle.rb_laws_listener_learns.proofs.Noting.{IsNotedBy, IsPlacedAt, IsSpoilt, IsSpoiltBy}
 use Rattle.rb_laws_listener_learns.proofs.Recorded.{IsEarlier, placed, reads-sent}
 use Rattle.rb_laws_listener_learns.proofs.Sendings.{IsInPlace, in-place}
@@ -70,13 +70,13 @@ begins-late low p f h l v z u d least most eps w skew e fits c6 wu wd = omega (a
 later-onset : (learned sync f s : ℕ) → (nat_lt learned f || ((learned == f) && nat_lt sync s)) ≡ true → s ≤ sync → learned < f
 later-onset learned sync f s h le =
     elim (or_cases (nat_lt learned f) ((learned == f) && nat_lt sync s) h) [
-      | inl less ↦ less_from learned f less
-      | inr same ↦ absurd (omega (arith, le, less_from sync s (and_second (learned == f) (nat_lt sync s) same)))
+      | inl less ↦ ltb-true learned f less
+      | inr same ↦ absurd (omega (arith, le, ltb-true sync s (and_second (learned == f) (nat_lt sync s) same)))
     ]
 
 slot-in-run : (sc : Scenario) → IsLawful sc → (j learned f s : ℕ) → is_good sc Rmu j learned (sync_slot_of sc.sizes) ≡ true → get_or sc.rmu_onsets j None ≡ Some (f, s) → s ≤ sync_slot_of sc.sizes
 slot-in-run sc law j learned f s good onset =
-    onset-in sc law j f s (less_from j sc.sizes.rmus (and_first (nat_lt j sc.sizes.rmus) (is_before (get_or sc.rmu_onsets j None) learned (sync_slot_of sc.sizes)) good)) onset
+    onset-in sc law j f s (ltb-true j sc.sizes.rmus (and_first (nat_lt j sc.sizes.rmus) (is_before (get_or sc.rmu_onsets j None) learned (sync_slot_of sc.sizes)) good)) onset
 
 onset-later : (sc : Scenario) → IsLawful sc → (j learned f s : ℕ) → is_good sc Rmu j learned (sync_slot_of sc.sizes) ≡ true → get_or sc.rmu_onsets j None ≡ Some (f, s) → learned < f
 onset-later sc law j learned f s good onset =
@@ -196,9 +196,6 @@ pub record HasLesson (sc : Scenario) (hands : List HandIn) (ear : Ear) (learned 
   pub same : after.call.n ≡ fixed.call.call.call.n
   pub before : (moment sc hands from.call.call.n).frame < learned
 
-same-frames : (a b most : ℕ) → a ≤ most → b ≤ most → most ≤ 4096 → a % 65536 ≡ b % 65536 → a ≡ b
-same-frames a b most le_a le_b small e = omega (arith, e, le_a, le_b, small)
-
 pub has-lesson : (sc : Scenario) (hands : List HandIn) → IsLawful sc → (ear : Ear) → IsEar sc ear → HearsTheRun sc hands ear → (learned k : ℕ) (s : Search) → DecidesBy sc hands ear learned k s
     → (n : ℕ) × HasLesson sc hands ear learned k n s
 has-lesson sc hands law ear is run learned k s h = (
@@ -241,7 +238,7 @@ has-lesson sc hands law ear is run learned k s h = (
 
     frame : (moment sc hands fixed.call.call.call.n).frame ≡ learned
     frame =
-        same-frames (moment sc hands fixed.call.call.call.n).frame learned sc.frames (within_run sc hands fixed.call.call.call.n fixed.call.call.call.sent.running) in_run law.frames.1
+        same-frame (moment sc hands fixed.call.call.call.n).frame learned sc.frames (within_run sc hands fixed.call.call.call.n fixed.call.call.call.sent.running) in_run law.frames.1
         (sym fixed.call.call.call.number_is ∙ h.lesson)
 
 -- What is heard of an RMU that was good up to the calls.
@@ -258,7 +255,7 @@ all-good sc hands law ear is run learned k n s in_time l j good at c le from hea
     ]
   where
     within : j < sc.sizes.rmus
-    within = less_from j sc.sizes.rmus (and_first (nat_lt j sc.sizes.rmus) (is_before (get_or sc.rmu_onsets j None) learned (sync_slot_of sc.sizes)) good)
+    within = ltb-true j sc.sizes.rmus (and_first (nat_lt j sc.sizes.rmus) (is_before (get_or sc.rmu_onsets j None) learned (sync_slot_of sc.sizes)) good)
 
 -- two messages of one place are one
 pub same-place-of : (sc : Scenario) (hands : List HandIn) → IsLawful sc → (ear : Ear) → IsEar sc ear → HearsTheRun sc hands ear → (frame slot j at i b o : ℕ) (m x : Message)
@@ -337,20 +334,14 @@ recorded-one sc hands law ear is run since k n frame slot j in_time good at i m 
 recorded-one sc hands law ear is run since k n frame slot j in_time good at i m late earlier p (One b x) h =
     let here : (at ≡ b) × (i ≡ h.i) = h.only at i m (late, earlier) p in
     let same : h.placed.coming ≡ p.coming =
-    same_some h.placed.coming p.coming (sym h.placed.there ∙ ap (slice_get (ear.heard b)) (sym here.1) ∙ ap (λ t. slice_get (ear.heard t) i) (sym here.0) ∙ p.there) in
-    let read : x ≡ m = same_some x m (sym h.placed.reads ∙ ap (λ (c : Coming). message_in sc.plan.version c.bytes) same ∙ p.reads) in
+    same_Some h.placed.coming p.coming (sym h.placed.there ∙ ap (slice_get (ear.heard b)) (sym here.1) ∙ ap (λ t. slice_get (ear.heard t) i) (sym here.0) ∙ p.there) in
+    let read : x ≡ m = same_Some x m (sym h.placed.reads ∙ ap (λ (c : Coming). message_in sc.plan.version c.bytes) same ∙ p.reads) in
     ap (λ t. One t x) (sym here.0) ∙ ap (One at) read
 recorded-one sc hands law ear is run since k n frame slot j in_time good at i m late earlier p Bad h =
     absurd (never-spoilt sc hands law ear is run k n frame slot j in_time good h)
 
-eq-true : (a b : ℕ) → a ≡ b → (a == b) ≡ true
-eq-true a b e = grind (arith, nat_tests, e)
-
-le-true : (a b : ℕ) → a ≤ b → nat_le a b ≡ true
-le-true a b e = grind (arith, nat_tests, e)
-
 pub has-place : (sc : Scenario) (frame : ℕ) (m : Message) → m.frame ≡ frame → m.slot ≤ sync_slot_of sc.sizes → m.stage ≡ stage_recorded (role_of sc.sizes m.slot) → has_place sc.sizes frame m ≡ true
-has-place sc frame m f s t = rw (eq-true m.frame frame f, le-true m.slot (sync_slot_of sc.sizes) s, eq-true m.stage (stage_recorded (role_of sc.sizes m.slot)) t) refl
+has-place sc frame m f s t = rw (eq-eqb m.frame frame f, le-leb m.slot (sync_slot_of sc.sizes) s, eq-eqb m.stage (stage_recorded (role_of sc.sizes m.slot)) t) refl
 
 -- when it comes
 pub record ComesInTime (sc : Scenario) (hands : List HandIn) (ear : Ear) (since k n j : ℕ) (t : Sending) : Type 0 where
@@ -358,14 +349,6 @@ pub record ComesInTime (sc : Scenario) (hands : List HandIn) (ear : Ear) (since 
   pub stamped : IsStamp ear.clock (coming_to sc ear j (moment sc hands n).frame t).time stamp
   pub late : since < stamp
   pub early : stamp ≤ k
-
-pub sync-role : (sizes : Sizes) → role_of sizes (sync_slot_of sizes) ≡ Sync
-sync-role sizes =
-    let a : nat_lt (2 * sizes.bius + sizes.rmus + sizes.data_slots) sizes.bius ≡ false = grind (arith, nat_tests) in
-    let b : nat_lt (2 * sizes.bius + sizes.rmus + sizes.data_slots) (sizes.bius + sizes.data_slots) ≡ false = grind (arith, nat_tests) in
-    let c : nat_lt (2 * sizes.bius + sizes.rmus + sizes.data_slots) (2 * sizes.bius + sizes.data_slots) ≡ false = grind (arith, nat_tests) in
-    let d : nat_lt (2 * sizes.bius + sizes.rmus + sizes.data_slots) (2 * sizes.bius + sizes.rmus + sizes.data_slots) ≡ false = grind (arith, nat_tests) in
-    rw (a, b, c, d) refl
 
 -- at most in stage 3, and never in stage 1
 stage-late : (r : Role) → (1 ≤ stage_recorded r → 2 ≤ stage_recorded r) × (stage_recorded r ≤ 3)
@@ -444,7 +427,7 @@ in-time sc hands law ear is run learned k o s l j good n t sent frame staged =
 
     call : t.message.slot ≡ sync_slot_of sc.sizes → ComesInTime sc hands ear l.from.since k n j t
     call slot =
-        let second : t.message.stage ≡ 2 = staged ∙ ap (λ x. stage_recorded (role_of sc.sizes x)) slot ∙ ap stage_recorded (sync-role sc.sizes) in
+        let second : t.message.stage ≡ 2 = staged ∙ ap (λ x. stage_recorded (role_of sc.sizes x)) slot ∙ ap stage_recorded (sync_role sc.sizes) in
         let window : (moment sc hands n).window ≡ 3 * sync_slot_of sc.sizes + 1 = omega (arith, put.window, slot, second) in
         let one : n ≡ l.fixed.call.call.call.n =
         (agreement sc hands law n sent.running).agree.place
@@ -489,7 +472,7 @@ records-whole sc hands law ear is run learned k s decides j good n t sent frame 
     heard = run.each n j t sent comes.stamp (omega (arith, comes.late)) (omega (arith, comes.early, decides.in_time)) comes.stamped
 
     within : j < sc.sizes.rmus
-    within = less_from j sc.sizes.rmus (and_first (nat_lt j sc.sizes.rmus) (is_before (get_or sc.rmu_onsets j None) learned (sync_slot_of sc.sizes)) good)
+    within = ltb-true j sc.sizes.rmus (and_first (nat_lt j sc.sizes.rmus) (is_before (get_or sc.rmu_onsets j None) learned (sync_slot_of sc.sizes)) good)
 
     there : IsPlacedAt sc ear s.lesson.frame t.message.slot j comes.stamp heard.nth t.message
     there = record {

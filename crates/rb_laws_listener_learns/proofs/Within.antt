@@ -1,6 +1,7 @@
 -- What good RMUs send in a frame below the sync slot comes between the calls of the frame before and their own calls.
 use Rattle.std.proofs.Common.{◌≡◌, ℕ, ◌+◌, ◌-◌, ◌*◌, ◌<◌, ◌≤◌, ◌==◌, false, Some, option_map, List, refl, sym, ◌∙◌, ap, subst, arith}
 use Rattle.std.proofs.lemmas.Bool.Decides.{nat_tests}
+use Rattle.std.proofs.lemmas.Option.{same_Some}
 use Rattle.std.proofs.Math.Nat.{mul-le-mul_right}
 use Rattle.rb_base.specs.Nodes.Side.{Rmu}
 use Rattle.rb_base.specs.Sizes.{sync_slot_of}
@@ -20,7 +21,6 @@ use Rattle.rb_laws_agreement.proofs.Agreement.{agreement}
 use Rattle.rb_laws_agreement.proofs.Goodnesses.{slot_here, slot_last}
 use Rattle.rb_laws_agreement.proofs.Invariant.{IsGoodNode}
 use Rattle.rb_laws_agreement.proofs.NodeWindows.{Windows, exact_windows, sync_windows_are, word_at}
-use Rattle.rb_laws_agreement.proofs.Tests.{same_some}
 use Rattle.rb_laws_synchrony.proofs.PlanNumbers.{drift_of, eps_of}
 use Rattle.rb_laws_synchrony.proofs.StageCalls.{clock_now}
 use Rattle.rb_laws_synchrony.proofs.Synchronous.{KnowsMiddle, from_1, heard_from, heard_to, to_1, to_2}
@@ -69,7 +69,7 @@ exact-tick sc hands m j slot q s e sent =
     let away : (slot == sync_slot_of sc.sizes) ≡ false = not-sync slot (sync_slot_of sc.sizes) e.below in
     let as_is : send_tick_of sc.sizes sc.plan sent.state slot (q + 1) ≡ Some (sent.state.epoch + send_offset_of sc.plan slot (q + 1)) = rw away refl in
     let number : 3 * slot + (q + 1) - 1 ≡ 3 * slot + q = omega arith in
-    sym (same_some (sent.state.epoch + send_offset_of sc.plan slot (q + 1)) s.tick (sym as_is ∙ parts.tick)) ∙ ap (λ k. sent.state.epoch + (k * sc.plan.l + sc.plan.h)) number
+    sym (same_Some (sent.state.epoch + send_offset_of sc.plan slot (q + 1)) s.tick (sym as_is ∙ parts.tick)) ∙ ap (λ k. sent.state.epoch + (k * sc.plan.l + sc.plan.h)) number
   where
     not-sync : (slot sync : ℕ) → slot < sync → (slot == sync) ≡ false
     not-sync slot sync below = grind (arith, nat_tests, below)
@@ -209,7 +209,7 @@ before-call sc hands law ear is m n j slot q s t e at sent calls frames a b stam
         (all-were-at sc hands law m (n - m) (subst (λ k. IsRunning (moment sc hands k)) (sym gap) calls.running)) Rmu j calls.state node
 
     epochs : sent.state.epoch ≡ calls.state.epoch
-    epochs = ap (λ x. x.epoch) (same_some sent.state was.st (sym sent.good.0 ∙ was.was.there)) ∙ was.same frames
+    epochs = ap (λ x. x.epoch) (same_Some sent.state was.st (sym sent.good.0 ∙ was.was.there)) ∙ was.same frames
 
     knows : KnowsMiddle sc Rmu j calls.state calls.state.k1 (f0_of sc.sizes sc.plan) (f0_of sc.sizes sc.plan + sc.plan.l) (f0_of sc.sizes sc.plan + sc.plan.v)
         (heard_from sc (from_1 sc synced.low)) (heard_to sc (to_1 sc synced.low))
@@ -221,7 +221,7 @@ before-call sc hands law ear is m n j slot q s t e at sent calls frames a b stam
         (sends-at sc hands n j t calls (sync_slot_of sc.sizes) 2 (sync_windows_are sc (moment sc hands n) 1 (omega arith) at))).0
 
     call_tick : t.tick ≡ knows.tick + sc.plan.l
-    call_tick = same_some t.tick (knows.tick + sc.plan.l) (sym called ∙ ap (option_map (λ k1. k1 + sc.plan.l)) knows.is)
+    call_tick = same_Some t.tick (knows.tick + sc.plan.l) (sym called ∙ ap (option_map (λ k1. k1 + sc.plan.l)) knows.is)
 
     between : s.tick + sc.plan.l ≤ t.tick
     between =

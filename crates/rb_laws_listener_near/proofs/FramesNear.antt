@@ -1,9 +1,11 @@
 -- The next frame of a receiver of the calls, from stage 2 of the sync slot to its end.
 use Rattle.std.proofs.Common.{◌≡◌, ℕ, suc, ◌+◌, ◌-◌, ◌*◌, ◌<◌, ◌≤◌, true, false, List, ◌∷◌, length, Option, slice_get, inl, inr, refl, sym, ◌∙◌, ap, subst, arith}
+use Rattle.std.proofs.lemmas.Option.{same_Some}
 use Rattle.rb_base.specs.Nodes.{Side, has, set_of, size}
 use Rattle.rb_base.specs.Nodes.Side.{Biu, Rmu}
 use Rattle.rb_base.specs.Sizes.{sync_slot_of}
 use Rattle.rb_base.specs.declared.values.See.{See}
+use Rattle.rb_base.proofs.Plain.{and_second}
 use Rattle.rb_base.proofs.SetSizes.{size_same}
 use Rattle.rb_base.proofs.Sets.{has-set_of}
 use Rattle.rb_rules.specs.Book.{judged_of, of_kind}
@@ -18,7 +20,7 @@ use Rattle.rb_rules.specs.Ports.{HandIn}
 use Rattle.rb_rules.specs.Rounds.{Moment, moment, step, windows_in}
 use Rattle.rb_rules.proofs.Drift.{HasLengths, drift, has_lengths, stamp_near}
 use Rattle.rb_rules.proofs.Middles.{IsBetween}
-use Rattle.rb_laws_agreement.proofs.Tests.{Passing, and_second, same_some}
+use Rattle.rb_laws_agreement.proofs.Tests.{Passing}
 use Rattle.rb_laws_agreement.proofs.Numbers.{how_many-is, one_of_many}
 use Rattle.rb_laws_agreement.proofs.Premises.{is_sound}
 use Rattle.rb_laws_agreement.proofs.Agreement.{step_is}
@@ -138,13 +140,13 @@ saw_times sc m stages taken time seen are saw =
     same_tail : {x y : JudgedStage} {xs ys : List JudgedStage} → x ∷ xs ≡ y ∷ ys → xs ≡ ys
     same_tail e = cc
 
-within : (later p a b : ℕ) → IsBetween later (later + p) a → IsBetween later (later + p) b → LieWithin p a b
+pub within : (later p a b : ℕ) → IsBetween later (later + p) a → IsBetween later (later + p) b → LieWithin p a b
 within later p a b x y = record { before = omega (arith, x.most, y.least); after = omega (arith, x.least, y.most) }
 
 pub frames_near : FramesBeginNear
 frames_near sc hands law frame complete most clock is_clock taken time t seen none saw middle found me i st good epoch known =
     within together.later sc.plan.p (time_of clock (middle + sc.plan.v + sc.plan.z + sc.plan.c)) (time_of (clock_of sc me i) epoch) together.listener
-    (subst (λ x. IsBetween together.later (together.later + sc.plan.p) (time_of (clock_of sc me i) x)) (same_some at_end.takes.epoch epoch (sym at_end.takes.known ∙ known)) at_end.between)
+    (subst (λ x. IsBetween together.later (together.later + sc.plan.p) (time_of (clock_of sc me i) x)) (same_Some at_end.takes.epoch epoch (sym at_end.takes.known ∙ known)) at_end.between)
   where
     slot : ℕ
     slot = sync_slot_of sc.sizes

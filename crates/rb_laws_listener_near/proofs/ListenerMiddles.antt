@@ -2,13 +2,16 @@
 use Rattle.std.proofs.Common.{◌≡◌, ℕ, zero, suc, ◌+◌, ◌*◌, ◌≤◌, ◌<◌, ◌&&◌, not, nat_le, nat_lt, Bool, true, false, List, [], ◌∷◌, map, Option, Some, None, is_some, refl, sym, ◌∙◌, ap, subst, arith, inl, inr}
 use Rattle.std.specs.Prelude.{All}
 use Rattle.std.specs.List.{cons_option}
+use Rattle.std.proofs.lemmas.Bool.{lt-ltb, not-true}
 use Rattle.std.proofs.lemmas.Bool.Decides.{nat_tests}
 use Rattle.std.proofs.lemmas.List.Elements.{All-cons, All-nil}
+use Rattle.std.proofs.lemmas.Option.{same_Some}
 use Rattle.rb_base.specs.Counting.{count_if, numbers}
 use Rattle.rb_base.specs.Nodes.{has, set_of, size}
 use Rattle.rb_base.specs.Nodes.Side.{Biu, Rmu}
 use Rattle.rb_base.specs.Sizes.{sync_slot_of}
 use Rattle.rb_base.proofs.Counts.{count_if-none}
+use Rattle.rb_base.proofs.Plain.{and_first, and_second, less-same}
 use Rattle.rb_base.proofs.Sets.{has-set_of}
 use Rattle.rb_base.proofs.SetSizes.{size_apart, size_first}
 use Rattle.rb_rules.specs.Book.{judged_of}
@@ -25,7 +28,7 @@ use Rattle.rb_rules.specs.SyncStage.{call_tick_of}
 use Rattle.rb_rules.proofs.Drift.{times_rise_to}
 use Rattle.rb_rules.proofs.Middles.{AreNear, IsBetween}
 use Rattle.rb_rules.proofs.Stamps.{stamp_of-is, stamps_rise}
-use Rattle.rb_laws_agreement.proofs.Tests.{and_first, and_second, less_true, not_true, same_some, true_or_false}
+use Rattle.rb_laws_agreement.proofs.Tests.{true_or_false}
 use Rattle.rb_laws_agreement.proofs.Numbers.{how_many, how_many-is}
 use Rattle.rb_laws_agreement.proofs.Goodnesses.{good_counts, slot_last}
 use Rattle.rb_laws_agreement.proofs.Invariant.{IsGoodNode, Shared, is_good_now, slot_numbered}
@@ -34,16 +37,17 @@ use Rattle.rb_laws_agreement.proofs.JudgedWindows.{rows_of}
 use Rattle.rb_laws_agreement.proofs.NodeWindows.{Windows, heard_in}
 use Rattle.rb_laws_agreement.proofs.StageVotes.{how_many-count}
 use Rattle.rb_laws_synchrony.proofs.CallSights.{TookAlike, place_of, stages_with}
-use Rattle.rb_laws_synchrony.proofs.LaterStages.{calls_near}
+use Rattle.rb_laws_synchrony.proofs.LaterStages.{calls_near, near-between}
 use Rattle.rb_laws_synchrony.proofs.Middles.{BothNear, HasStamp, middle_times_near, middle_within, some_middle}
 use Rattle.rb_laws_synchrony.proofs.PlanNumbers.{drift_of, eps_of}
-use Rattle.rb_laws_synchrony.proofs.StageMiddles.{CallBetween, HearsMiddle, IsCaller, IsHeardStage, Late, NoneUnlike, caller, hears_middle, tick_of, ws_of}
+use Rattle.rb_laws_synchrony.proofs.StageMiddles.{CallBetween, HearsMiddle, IsCaller, IsHeardStage, Late, NoneUnlike, both-near, caller, hears_middle, tick_of, ws_of}
 use Rattle.rb_laws_synchrony.proofs.StageSteps.{CallNear, near_calls}
 use Rattle.rb_laws_synchrony.proofs.SyncSteps.{none_before}
 use Rattle.rb_laws_synchrony.proofs.Synchronous.{Synchronous, first_kept, near_1, near_2}
 use Rattle.rb_laws_synchrony.proofs.TakenCalls.{IsCallTaken, IsTaken, taken_from, takes_call, took}
 use Rattle.rb_laws_synchrony.proofs.TimelyWindows.{coming_between}
 use Rattle.rb_laws_synchrony.proofs.Times.{IsStampTime, Steady, lawful_fits, stamp_time, stamp_to, steady}
+use Rattle.rb_laws_listener_near.proofs.Tracking.{outnumbered}
 
 -- ---- what a listener takes
 
@@ -58,12 +62,6 @@ pub record TakesCalls (sc : Scenario) (m : Moment) (s : Shared) (clock : Timelin
 abbrev pub MostGood : Scenario → Moment → Type 0
 MostGood sc m = sc.sizes.rmus < 2 * how_many (is_good_now sc m Rmu)
 
-outnumbered : (a b total : ℕ) → a + b ≤ total → total < 2 * b → a < b
-outnumbered a b total h k = omega arith
-
-less-same : (a b c d : ℕ) → a ≡ b → c ≡ d → a < c → b < d
-less-same a b c d p q h = omega arith
-
 -- of numbers below n more than half are more than the others
 pub others_fewer : (n : ℕ) (good some : ℕ → Bool) → n ≤ 16 → ((j : ℕ) → j < 16 → good j ≡ true → j < n) → ((j : ℕ) → j < 16 → some j ≡ true → j < n) → n < 2 * how_many good
     → count_if (λ j. not (good j) && some j) (numbers 16) < count_if good (numbers 16)
@@ -74,9 +72,9 @@ others_fewer n good some few below_good below_some most =
     let apart : size (set_of others) + size (set_of good) ≤ size all =
     size_apart all (set_of others) (set_of good)
     (λ j below is.
-    has-set_of j (λ i. nat_lt i n) below ∙ less_true j n (below_some j below (and_second (not (good j)) (some j) (sym (has-set_of j others below) ∙ is))))
-    (λ j below is. has-set_of j (λ i. nat_lt i n) below ∙ less_true j n (below_good j below (sym (has-set_of j good below) ∙ is)))
-    (λ j below is. has-set_of j good below ∙ not_true (good j) (and_first (not (good j)) (some j) (sym (has-set_of j others below) ∙ is))) in
+    has-set_of j (λ i. nat_lt i n) below ∙ lt-ltb j n (below_some j below (and_second (not (good j)) (some j) (sym (has-set_of j others below) ∙ is))))
+    (λ j below is. has-set_of j (λ i. nat_lt i n) below ∙ lt-ltb j n (below_good j below (sym (has-set_of j good below) ∙ is)))
+    (λ j below is. has-set_of j good below ∙ not-true (good j) (and_first (not (good j)) (some j) (sym (has-set_of j others below) ∙ is))) in
     less-same (how_many others) (count_if others (numbers 16)) (how_many good) (count_if good (numbers 16)) (how_many-count others) (how_many-count good)
     (outnumbered (how_many others) (how_many good) n (omega (arith, apart, total, how_many-is others, how_many-is good)) most)
 
@@ -149,17 +147,6 @@ middle_past f (suc tick) late is = omega arith
 
 -- ---- it is near
 
-weaker : (a b x y : ℕ) → a ≤ b → AreNear a x y → AreNear b x y
-weaker a b x y le near = record { above = omega (arith, near.above); under = omega (arith, near.under) }
-
-near-between : (near spread eps g least dmin dmax x y : ℕ) → near ≡ spread + (eps + g) → dmax ≡ dmin + eps
-    → IsBetween (least + dmin) (least + spread + dmax + g) x → IsBetween (least + dmin) (least + spread + dmax + g) y → AreNear near x y
-near-between near spread eps g least dmin dmax x y e d p q =
-    record { above = omega (arith, e, d, p.most, q.least); under = omega (arith, e, d, p.least, q.most) }
-
-both-near : (eps g a b x y : ℕ) → AreNear eps a b → a ≤ x → x ≤ a + g → b ≤ y → y ≤ b + g → AreNear (eps + g) x y
-both-near eps g a b x y near p q r s = record { above = omega (arith, near.above); under = omega (arith, near.under) }
-
 apart : (eps least most t x y : ℕ) → most ≡ least + eps → IsBetween (t + least) (t + most) x → IsBetween (t + least) (t + most) y → AreNear eps x y
 apart eps least most t x y e p q = record { above = omega (arith, e, p.most, q.least); under = omega (arith, e, p.least, q.most) }
 
@@ -185,8 +172,8 @@ near_by_bius sc hands n m s low c sync most none clock steady_clock taken time t
     let calls = near_calls sc hands n m s 1 Biu c spread close in
     let mine : FindsMiddle sc clock taken calls.0 (calls.0 + spread) = finds_middle sc hands n m s c most clock steady_clock taken time t calls.0 (calls.0 + spread) calls.1 in
     let theirs : HearsMiddle sc m 1 (ws_of sc hands n m s 1 Biu c) Biu i b calls.0 (calls.0 + spread) = hears_middle sc hands n m s 1 Biu c calls.0 (calls.0 + spread) calls.1 i b here in
-    let e : mine.tick ≡ l = same_some mine.tick l (sym mine.found ∙ is_l) in
-    let f : theirs.tick ≡ k = same_some theirs.tick k (sym theirs.found ∙ is_k) in
+    let e : mine.tick ≡ l = same_Some mine.tick l (sym mine.found ∙ is_l) in
+    let f : theirs.tick ≡ k = same_Some theirs.tick k (sym theirs.found ∙ is_k) in
     near-between (near_2 sc.plan) spread (eps_of sc.plan) (tick_of sc.plan) calls.0 sc.plan.dmin sc.plan.dmax (time_of clock l) (time_of (clock_of sc Biu i) k) refl (lawful_fits sc c.stage.law).delays
     (subst (λ x. IsBetween (calls.0 + sc.plan.dmin) (calls.0 + spread + sc.plan.dmax + tick_of sc.plan) (time_of clock x)) e
     (record { least = mine.not_early; most = mine.not_late (omega (arith, e, past_l)) }))

@@ -1,17 +1,19 @@
 -- Under the premise with the listener its middle of the calls of stage 2 is near that of each good BIU.
-use Rattle.std.proofs.Common.{◌≡◌, ℕ, ◌+◌, ◌-◌, ◌*◌, ◌≤◌, ◌<◌, ◌&&◌, not, nat_le, Bool, true, false, List, [], ◌∷◌, length, Option, Some, None, refl, sym, ◌∙◌, ap, subst, arith}
+use Rattle.std.proofs.Common.{◌≡◌, ℕ, ◌+◌, ◌≤◌, ◌<◌, not, nat_le, true, false, List, [], ◌∷◌, length, Option, Some, None, refl, sym, ◌∙◌, ap, subst, arith}
+use Rattle.std.proofs.lemmas.Bool.{and_from, leb-true, not_from_false}
+use Rattle.std.proofs.lemmas.Option.{same_Some}
 use Rattle.rb_base.specs.Nodes.{Side, has}
 use Rattle.rb_base.specs.Nodes.Side.{Biu, Rmu}
 use Rattle.rb_base.specs.Sizes.{sync_slot_of}
-use Rattle.rb_base.proofs.Sets.{has-set_of, has_none}
+use Rattle.rb_base.proofs.Sets.{has-set_of}
 use Rattle.rb_base.specs.declared.values.See.{See}
+use Rattle.rb_base.proofs.Plain.{and_first, and_second}
 use Rattle.rb_rules.specs.Book.{Row, in_order, judged_of, trusted_by}
 use Rattle.rb_rules.specs.Clock.{Timeline, time_of}
 use Rattle.rb_rules.specs.ExactStage.{each_node, present}
 use Rattle.rb_rules.specs.Goodness.{Scenario, clock_of, is_good}
 use Rattle.rb_rules.specs.Hearing.{judged_see, sole_time}
 use Rattle.rb_rules.specs.Judging.{JudgedStage, are_alike, good_now, is_suspect, trusted_now, verdict_of}
-use Rattle.rb_rules.specs.Lawful.{IsLawful}
 use Rattle.rb_rules.specs.Middle.{IsMiddle, middle_of}
 use Rattle.rb_rules.specs.NodeState.{NodeState}
 use Rattle.rb_rules.specs.Plan.{f0_of, shortest_of}
@@ -19,36 +21,28 @@ use Rattle.rb_rules.specs.Ports.{HandIn}
 use Rattle.rb_rules.specs.Rounds.{Moment}
 use Rattle.rb_rules.specs.SyncStage.{see_time}
 use Rattle.rb_rules.proofs.Middles.{AreNear}
-use Rattle.rb_laws_agreement.proofs.Tests.{Passing, and_both, and_first, and_second, le_from, not_so, same_some}
-use Rattle.rb_laws_agreement.proofs.Numbers.{how_many, one_of_many}
 use Rattle.rb_laws_agreement.proofs.Premises.{Premise, premise_holds}
 use Rattle.rb_laws_agreement.proofs.Goodnesses.{good_below_16, slot_last}
 use Rattle.rb_laws_agreement.proofs.Invariant.{IsGoodNode, Shared}
-use Rattle.rb_laws_agreement.proofs.JudgedWindows.{first_row_trusts, rows_of}
+use Rattle.rb_laws_agreement.proofs.JudgedWindows.{first_row_trusts, nobody_trusted, rows_of}
 use Rattle.rb_laws_agreement.proofs.NextMoments.{CameFrom, came_from, next}
 use Rattle.rb_laws_agreement.proofs.NodeWindows.{Windows, heard_in}
 use Rattle.rb_laws_synchrony.proofs.CallSights.{TookAlike, place_of, shows_took, stages_with}
-use Rattle.rb_laws_synchrony.proofs.PlanNumbers.{drift_of, eps_of, last_plus, third_own}
-use Rattle.rb_laws_synchrony.proofs.StageCalls.{second_about, second_at, second_calls}
-use Rattle.rb_laws_synchrony.proofs.StageMiddles.{IsHeardStage, tick_of, ws_of}
-use Rattle.rb_laws_synchrony.proofs.StageSteps.{StageMiddle, stage_middle}
-use Rattle.rb_laws_synchrony.proofs.SyncSteps.{IsPassedStage, f0_some, kept_found, some_more, up_to_delay}
+use Rattle.rb_laws_synchrony.proofs.LaterStages.{second-middle, weaker}
+use Rattle.rb_laws_synchrony.proofs.PlanNumbers.{drift_of, eps_of}
+use Rattle.rb_laws_synchrony.proofs.StageCalls.{second_calls}
+use Rattle.rb_laws_synchrony.proofs.StageMiddles.{IsHeardStage, ws_of}
+use Rattle.rb_laws_synchrony.proofs.StageSteps.{StageMiddle}
+use Rattle.rb_laws_synchrony.proofs.SyncSteps.{IsPassedStage, f0_some, kept_found, some_more}
 use Rattle.rb_laws_synchrony.proofs.Synchronous.{Synchronous, from_2, near_1, near_2, to_2}
 use Rattle.rb_laws_synchrony.proofs.TakenCalls.{is_set, took}
-use Rattle.rb_laws_synchrony.proofs.Times.{Steady, lawful_fits, plan_fits}
+use Rattle.rb_laws_synchrony.proofs.Times.{Steady}
 use Rattle.rb_laws_listener_near.specs.Judged.{heard_stages, is_asymmetric_with, verdict_with}
 use Rattle.rb_laws_listener_near.proofs.ListenerMiddles.{FindsMiddle, MostGood, TakesAlike, TakesCalls, finds_middle, middle_past, near_by_bius, near_by_rmus}
 use Rattle.rb_laws_listener_near.proofs.NextEpochs.{MiddleIsNear}
 use Rattle.rb_laws_listener_near.proofs.Sides.{SideAlike, bius_alike, rmus_alike, side_alike}
 
 -- ---- whom the judge takes for suspects
-
-nobody_trusted : (p : ℕ → Bool) → 0 < how_many (λ j. has 0 j && p j) → ⊥
-nobody_trusted p some =
-    let one : Passing (λ j. has 0 j && p j) 0 16 = one_of_many (λ j. has 0 j && p j) some in
-    let yes_it : has 0 one.at ≡ true = and_first (has 0 one.at) (p one.at) one.passes in
-    let no_it : has 0 one.at ≡ false = has_none one.at in
-    cc
 
 -- the judge is told whom all trust
 trusted_told : (sc : Scenario) (hands : List HandIn) (n : ℕ) (m : Moment) (s : Shared) (c : IsPassedStage sc hands n m s 1) → verdict_of (stages_with sc m 1) ≡ None → (kind : Side)
@@ -70,8 +64,8 @@ suspect : (sc : Scenario) (hands : List HandIn) (n : ℕ) (m : Moment) (s : Shar
     → has (s.trusted kind) j ≡ true → is_good sc kind j m.frame (sync_slot_of sc.sizes) ≡ false → is_suspect kind (stages_with sc m 1) j ≡ true
 suspect sc hands n m s c none kind j small t faulty =
     let stages : List JudgedStage = stages_with sc m 1 in
-    and_both (has (trusted_now kind stages) j) (not (has (good_now kind stages) j)) (ap (λ x. has x j) (trusted_told sc hands n m s c none kind) ∙ t)
-    (not_so (has (good_now kind stages) j) (has-set_of j (λ i. is_good sc kind i m.frame (sync_slot_of sc.sizes)) small ∙ faulty))
+    and_from (has (trusted_now kind stages) j) (not (has (good_now kind stages) j)) (ap (λ x. has x j) (trusted_told sc hands n m s c none kind) ∙ t)
+    (not_from_false (has (good_now kind stages) j) (has-set_of j (λ i. is_good sc kind i m.frame (sync_slot_of sc.sizes)) small ∙ faulty))
 
 abbrev pub heard-second : (sc : Scenario) (hands : List HandIn) (n : ℕ) (m : Moment) (s : Shared) → IsPassedStage sc hands n m s 1 → IsHeardStage sc hands n m s 1 Biu
 heard-second sc hands n m s c = record { stage = c.stage; listening = refl; premise = c.premise }
@@ -89,7 +83,7 @@ alike_took eps a b None None h = tt
 alike_took eps a b None (Some k) h = absurd (cc)
 alike_took eps a b (Some k) None h = absurd (cc)
 alike_took eps a b (Some k) (Some l) h =
-    record { above = le_from a (b + eps) (and_second (nat_le b (a + eps)) (nat_le a (b + eps)) h); under = le_from b (a + eps) (and_first (nat_le b (a + eps)) (nat_le a (b + eps)) h) }
+    record { above = leb-true a (b + eps) (and_second (nat_le b (a + eps)) (nat_le a (b + eps)) h); under = leb-true b (a + eps) (and_first (nat_le b (a + eps)) (nat_le a (b + eps)) h) }
 
 takes_alike : (sc : Scenario) (hands : List HandIn) (n : ℕ) (m : Moment) (s : Shared) (c : IsPassedStage sc hands n m s 1) → verdict_of (stages_with sc m 1) ≡ None
     → (taken : ℕ → Option ℕ) (time : ℕ → ℕ) (seen : ℕ → JudgedStage → Option (ℕ → See)) → SawTimes sc m taken time seen
@@ -109,25 +103,6 @@ takes_alike sc hands n m s c none taken time seen saw alike j below t faulty i b
     (ap (λ x. are_alike judged.eps x (judged_see (time j) (see_time (taken j)))) (sym shown)
     ∙ ap (are_alike judged.eps (judged.sight Biu i j)) (sym (saw.is j below)) ∙ same)
 
--- ---- the middle of a good BIU
-
-second-middle : (sc : Scenario) (hands : List HandIn) (n : ℕ) (m : Moment) (s : Shared) (low : ℕ) (c : IsHeardStage sc hands n m s 1 Biu) → Synchronous sc m s low
-    → (i : ℕ) (st : NodeState) → IsGoodNode sc m Biu i st
-    → StageMiddle sc m 1 (ws_of sc hands n m s 1 Biu c) Biu i st (f0_of sc.sizes sc.plan + sc.plan.l) (f0_of sc.sizes sc.plan + sc.plan.l + sc.plan.v)
-    (f0_of sc.sizes sc.plan + sc.plan.l + sc.plan.z) (from_2 sc low) (to_2 sc low)
-second-middle sc hands n m s low c sync i st here =
-    let law : IsLawful sc = c.stage.law in
-    let fit : plan_fits sc = lawful_fits sc law in
-    let f : ℕ = f0_of sc.sizes sc.plan in
-    let at : m.window ≡ 3 * sync_slot_of sc.sizes + 1 = c.stage.at in
-    let some : 1 ≤ f + sc.plan.l = some_more f sc.plan.l (f0_some sc law) in
-    stage_middle sc hands n m s 1 Biu c low (from_2 sc low) (to_2 sc low) (f + sc.plan.l) sc.plan.v (f + sc.plan.l + sc.plan.z) sync.begun
-    (second_calls sc law m s low sync at).between (second_about sc m (is_set sc hands n m s 1 c.stage) at low sync.begun)
-    (second_at sc m (ws_of sc hands n m s 1 Biu c) at) some law.plan.v.0 (some_more (f + sc.plan.l) sc.plan.z some)
-    (up_to_delay (to_2 sc low) sc.plan.dmax (tick_of sc.plan) (low + (f + sc.plan.l + sc.plan.z - 1) * shortest_of sc.plan)
-    (third_own low sc.plan.p f sc.plan.h sc.plan.l sc.plan.v sc.plan.z (f + sc.plan.l + sc.plan.z - 1) (shortest_of sc.plan) (drift_of sc.plan) sc.plan.dmax
-    (last_plus (f + sc.plan.l) sc.plan.z law.plan.z.0) fit.after_3)) i st here
-
 -- ---- both
 
 -- what is so of a listener in stage 2 of the sync slot
@@ -138,9 +113,6 @@ pub record IsCalled (sc : Scenario) (m : Moment) (s : Shared) (clock : Timeline)
   pub judged : verdict_of (stages_with sc m 1) ≡ None
   pub none : verdict_with seen (stages_with sc m 1) ≡ None
   pub saw : SawTimes sc m taken time seen
-
-weaker : (a b x y : ℕ) → a ≤ b → AreNear a x y → AreNear b x y
-weaker a b x y le near = record { above = omega (arith, near.above); under = omega (arith, near.under) }
 
 -- it finds a middle
 pub calls_found : (sc : Scenario) (hands : List HandIn) (n : ℕ) (m : Moment) (s : Shared) (low : ℕ) → IsPassedStage sc hands n m s 1 → Synchronous sc m s low
@@ -158,7 +130,7 @@ calls_near_bius sc hands n m s low c sync clock taken time seen h l is i now her
     let from : CameFrom sc m Biu i now = came_from sc hands n m s c.stage.agree Biu i now here in
     let own = second-middle sc hands n m s low heard sync i from.st from.was in
     let kept = kept_found sc hands n m s 1 Biu heard _ _ _ _ _ i from.st from.was own in
-    let e : own.tick ≡ k = same_some own.tick k (sym (ap (λ x. x.k2) (sym from.is) ∙ kept.k2) ∙ knows) in
+    let e : own.tick ≡ k = same_Some own.tick k (sym (ap (λ x. x.k2) (sym from.is) ∙ kept.k2) ∙ knows) in
     subst (λ x. AreNear (near_2 sc.plan) (time_of clock l) (time_of (clock_of sc Biu i) x)) e (near i from.st from.was own (side_alike seen (stages_with sc m 1) h.none))
   where
     heard : IsHeardStage sc hands n m s 1 Biu
@@ -168,7 +140,7 @@ calls_near_bius sc hands n m s low c sync clock taken time seen h l is i now her
     mine = calls_found sc hands n m s low c sync clock taken time seen h
 
     middle : IsMiddle l (present (each_node taken))
-    middle = subst (λ x. IsMiddle x (present (each_node taken))) (same_some mine.tick l (sym mine.found ∙ is)) mine.middle
+    middle = subst (λ x. IsMiddle x (present (each_node taken))) (same_Some mine.tick l (sym mine.found ∙ is)) mine.middle
 
     past : 1 ≤ l
     past = middle_past taken l (λ j k is. (h.takes.stamped j k is).0) middle

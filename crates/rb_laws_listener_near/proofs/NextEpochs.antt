@@ -1,11 +1,12 @@
 -- Where the third stage of the sync slot passes, a listener whose middle is near those of the good BIUs begins the next frame near all good
 -- nodes.
-use Rattle.std.proofs.Common.{◌≡◌, ℕ, ◌+◌, ◌-◌, ◌*◌, ◌≤◌, ◌<◌, min, max, true, false, List, Some, option_and_then, option_map, unwrap_or, slice_get, ◌⊎◌, inl, inr, refl, sym, ◌∙◌, ap, subst, arith}
+use Rattle.std.proofs.Common.{◌≡◌, ℕ, ◌+◌, ◌*◌, ◌≤◌, ◌<◌, min, max, true, false, List, Some, option_and_then, option_map, unwrap_or, slice_get, ◌⊎◌, inl, inr, refl, sym, ◌∙◌, ap, subst, arith}
 use Rattle.std.proofs.lemmas.Bool.{cases_lt}
 use Rattle.rb_base.specs.Nodes.{Side, has}
 use Rattle.rb_base.specs.Nodes.Side.{Biu, Rmu}
 use Rattle.rb_base.specs.Sizes.{sync_slot_of}
-use Rattle.rb_rules.specs.Book.{judged_of, of_kind}
+use Rattle.rb_base.proofs.Plain.{and_second}
+use Rattle.rb_rules.specs.Book.{of_kind}
 use Rattle.rb_rules.specs.Clock.{Timeline, time_of}
 use Rattle.rb_rules.specs.Goodness.{Scenario, clock_of, is_good}
 use Rattle.rb_rules.specs.Lawful.{IsLawful}
@@ -15,28 +16,25 @@ use Rattle.rb_rules.specs.Ports.{HandIn}
 use Rattle.rb_rules.specs.Rounds.{Moment}
 use Rattle.rb_rules.specs.SyncStage.{call_tick_of}
 use Rattle.rb_rules.proofs.Middles.{AreNear, IsBetween}
-use Rattle.rb_laws_agreement.proofs.Tests.{Passing, and_second}
+use Rattle.rb_laws_agreement.proofs.Tests.{Passing}
 use Rattle.rb_laws_agreement.proofs.Numbers.{one_of_many}
 use Rattle.rb_laws_agreement.proofs.Premises.{is_sound}
 use Rattle.rb_laws_agreement.proofs.Goodnesses.{good_below_16, slot_last}
 use Rattle.rb_laws_agreement.proofs.Invariant.{IsGoodNode, Shared, is_good_now, slot_numbered}
-use Rattle.rb_laws_agreement.proofs.JudgedWindows.{rows_of}
 use Rattle.rb_laws_agreement.proofs.NextMoments.{CameFrom, came_from, next}
 use Rattle.rb_laws_agreement.proofs.Settings.{after}
-use Rattle.rb_laws_synchrony.proofs.CallSights.{place_of}
 use Rattle.rb_laws_synchrony.proofs.KeptMiddles.{keeps}
-use Rattle.rb_laws_synchrony.proofs.LastStage.{biu_begins, rmu_begins}
-use Rattle.rb_laws_synchrony.proofs.LaterStages.{calls_near}
+use Rattle.rb_laws_synchrony.proofs.LastStage.{biu_begins, rmu_begins, third-middle, third-near}
 use Rattle.rb_laws_synchrony.proofs.Middles.{HasLeast, least_of}
-use Rattle.rb_laws_synchrony.proofs.PlanNumbers.{drift_of, last_plus, third_late}
-use Rattle.rb_laws_synchrony.proofs.StageCalls.{clock_now, third_about, third_at, third_calls}
-use Rattle.rb_laws_synchrony.proofs.StageMiddles.{CallBetween, IsCaller, IsHeardStage, NoneUnlike, caller, ws_of}
-use Rattle.rb_laws_synchrony.proofs.StageSteps.{CallNear, StageMiddle, closer, stage_middle}
-use Rattle.rb_laws_synchrony.proofs.SyncSteps.{IsPassedStage, epoch_after, f0_some, kept_found, none_before, some_more, tick_some}
-use Rattle.rb_laws_synchrony.proofs.Synchronous.{KnowsEpoch, Synchronous, from_3, heard_from, heard_to, near_2, near_3, near_on, second_kept, ticks_on, to_3}
+use Rattle.rb_laws_synchrony.proofs.PlanNumbers.{drift_of}
+use Rattle.rb_laws_synchrony.proofs.StageCalls.{clock_now}
+use Rattle.rb_laws_synchrony.proofs.StageMiddles.{CallBetween, IsCaller, IsHeardStage, caller, ws_of}
+use Rattle.rb_laws_synchrony.proofs.StageSteps.{closer}
+use Rattle.rb_laws_synchrony.proofs.SyncSteps.{IsPassedStage, epoch_after, f0_some, kept_found, some_more, tick_some}
+use Rattle.rb_laws_synchrony.proofs.Synchronous.{KnowsEpoch, Synchronous, heard_from, heard_to, near_2, near_3, near_on, ticks_on}
 use Rattle.rb_laws_synchrony.proofs.TakenCalls.{is_set}
 use Rattle.rb_laws_synchrony.proofs.TimelyWindows.{good_here}
-use Rattle.rb_laws_synchrony.proofs.Times.{Steady, lawful_fits, plan_fits}
+use Rattle.rb_laws_synchrony.proofs.Times.{Steady, lawful_fits}
 
 -- the time of a BIU's call
 calls_at : Scenario → Moment → ℕ → ℕ
@@ -52,38 +50,6 @@ calls_at-is sc m j st tick there at =
 
 abbrev heard-third : (sc : Scenario) (hands : List HandIn) (n : ℕ) (m : Moment) (s : Shared) → IsPassedStage sc hands n m s 2 → IsHeardStage sc hands n m s 2 Rmu
 heard-third sc hands n m s c = record { stage = c.stage; listening = refl; premise = c.premise }
-
--- the calls of stage 3 are near
-third-near : (sc : Scenario) (hands : List HandIn) (n : ℕ) (m : Moment) (s : Shared) (low : ℕ) → IsPassedStage sc hands n m s 2 → Synchronous sc m s low
-    → CallNear sc m Biu 3 (near_3 sc.plan)
-third-near sc hands n m s low c sync =
-    let at : m.window ≡ 3 * sync_slot_of sc.sizes + 2 = c.stage.at in
-    let none : NoneUnlike sc m s c.premise.side m.book.stages =
-    none_before sc m s c.premise.side (judged_of sc (place_of sc m 2) (rows_of sc m)) m.book.stages c.premise.alike in
-    calls_near sc c.stage.law m Biu 3 (near_2 sc.plan) sc.plan.v second_kept (λ i st h. let k = sync.second at i st h in (k.tick, k.is)) (λ st. refl)
-    (sync.second_near at c.premise.side none)
-
--- the middle that a good RMU finds
-third-middle : (sc : Scenario) (hands : List HandIn) (n : ℕ) (m : Moment) (s : Shared) (low : ℕ) (c : IsHeardStage sc hands n m s 2 Rmu) → Synchronous sc m s low
-    → (i : ℕ) (st : NodeState) → IsGoodNode sc m Rmu i st
-    → StageMiddle sc m 2 (ws_of sc hands n m s 2 Rmu c) Rmu i st (f0_of sc.sizes sc.plan + sc.plan.l + sc.plan.v) (f0_of sc.sizes sc.plan + sc.plan.l + sc.plan.v + sc.plan.z)
-    (f0_of sc.sizes sc.plan + sc.plan.l + sc.plan.v + sc.plan.z) (from_3 sc low) (to_3 sc low)
-third-middle sc hands n m s low c sync i st here =
-    let law : IsLawful sc = c.stage.law in
-    let f : ℕ = f0_of sc.sizes sc.plan in
-    let at : m.window ≡ 3 * sync_slot_of sc.sizes + 2 = c.stage.at in
-    let some : 1 ≤ f + sc.plan.l + sc.plan.v = some_more (f + sc.plan.l) sc.plan.v (some_more f sc.plan.l (f0_some sc law)) in
-    stage_middle sc hands n m s 2 Rmu c low (from_3 sc low) (to_3 sc low) (f + sc.plan.l + sc.plan.v) sc.plan.z (f + sc.plan.l + sc.plan.v + sc.plan.z) sync.begun
-    (third_calls sc law m s low sync at).between (third_about sc m (is_set sc hands n m s 2 c.stage) at low sync.begun)
-    (third_at sc m (ws_of sc hands n m s 2 Rmu c) at) some law.plan.z.0 (some_more (f + sc.plan.l + sc.plan.v) sc.plan.z some)
-    (third-last sc c.stage.law low) i st here
-  where
-    third-last : (sc : Scenario) → IsLawful sc → (low : ℕ) → to_3 sc low + sc.plan.dmax ≤ low + (f0_of sc.sizes sc.plan + sc.plan.l + sc.plan.v + sc.plan.z - 1) * shortest_of sc.plan
-    third-last sc law low =
-        let fit : plan_fits sc = lawful_fits sc law in
-        let f : ℕ = f0_of sc.sizes sc.plan in
-        third_late low sc.plan.p f sc.plan.h sc.plan.l sc.plan.v sc.plan.z (f + sc.plan.l + sc.plan.v + sc.plan.z - 1) (shortest_of sc.plan) (drift_of sc.plan) sc.plan.dmax
-        (last_plus (f + sc.plan.l + sc.plan.v) sc.plan.z law.plan.z.0) fit.after_3
 
 -- The calls, and what would be the listener's own, come from some time on, and within as much.
 

@@ -1,19 +1,17 @@
 -- What the premise with a listener says where it holds: of one kind no node that is not good was seen unlike, by the listener neither.
-use Rattle.std.proofs.Common.{◌≡◌, ℕ, ◌<◌, ◌&&◌, ◌⊎◌, inl, inr, not, nat_lt, Bool, true, false, if◌then◌else◌, List, [], ◌∷◌, length, Option, Some, None, refl, sym, ◌∙◌, ap, arith}
+use Rattle.std.proofs.Common.{◌≡◌, ℕ, ◌<◌, ◌&&◌, ◌⊎◌, inl, inr, not, Bool, true, false, if◌then◌else◌, List, [], ◌∷◌, length, Option, Some, None, refl, sym, ◌∙◌, ap, arith}
 use Rattle.std.specs.List.{list_any}
-use Rattle.std.proofs.lemmas.Bool.Decides.{nat_tests}
+use Rattle.std.proofs.lemmas.Bool.{and_from, not_from_false, or_from}
 use Rattle.rb_base.specs.Nodes.{Side, has, size}
 use Rattle.rb_base.specs.Nodes.Side.{Biu, Rmu}
 use Rattle.rb_base.proofs.Sets.{has-set_of}
 use Rattle.rb_base.proofs.SetSizes.{size_some}
 use Rattle.rb_base.specs.declared.values.See.{See}
+use Rattle.rb_base.proofs.Plain.{none_below}
 use Rattle.rb_rules.specs.declared.cause.Cause.TheVariants.{FewGoodBiu, FewGoodRmu, TwoSided}
 use Rattle.rb_rules.specs.Judging.{ClassSets, JudgedStage, are_alike, are_few_good, cause_of, is_suspect, some_asymmetric, was_unlike}
-use Rattle.rb_laws_agreement.proofs.Tests.{true_or_false, and_both, not_so, or_neither, or_neither_first, or_neither_second, passes_at}
+use Rattle.rb_laws_agreement.proofs.Tests.{true_or_false, or_neither_first, or_neither_second, passes_at}
 use Rattle.rb_laws_listener_near.specs.Judged.{HeardStage, classes_with, heard_stages, is_asymmetric_with, unlike_some, verdict_with, was_unlike_with}
-
-none-from : (a : ℕ) → nat_lt 0 a ≡ false → a ≡ 0
-none-from a h = grind (arith, nat_tests)
 
 -- a verdict that tells no cause finds one kind without asymmetric nodes
 one_side : (biu rmu : ClassSets) → cause_of biu rmu ≡ None → (some_asymmetric biu ≡ false) ⊎ (some_asymmetric rmu ≡ false)
@@ -36,12 +34,12 @@ alike_with : (kind : Side) (seen : ℕ → JudgedStage → Option (ℕ → See))
     → (j : ℕ) → j < 16 → is_suspect kind stages j ≡ true → is_asymmetric_with kind (heard_stages seen stages) j ≡ false
 alike_with kind seen stages h j below suspect =
     let c : ClassSets = classes_with kind seen stages in
-    let none : size c.asymmetric ≡ 0 = none-from (size c.asymmetric) h in
+    let none : size c.asymmetric ≡ 0 = none_below (size c.asymmetric) h in
     elim (true_or_false (is_asymmetric_with kind (heard_stages seen stages) j)) [
       | inl is ↦
           let here : has c.asymmetric j ≡ true =
           has-set_of j (λ j. is_suspect kind stages j && is_asymmetric_with kind (heard_stages seen stages) j) below
-          ∙ and_both (is_suspect kind stages j) (is_asymmetric_with kind (heard_stages seen stages) j) suspect is in
+          ∙ and_from (is_suspect kind stages j) (is_asymmetric_with kind (heard_stages seen stages) j) suspect is in
           absurd (omega (arith, size_some c.asymmetric j below here))
       | inr is ↦ is
     ]
@@ -61,7 +59,7 @@ bius_alike seen [] j h = refl
 bius_alike seen (s ∷ earlier) j h =
     let heard : HeardStage = record { stage = s; seen = seen (length earlier) s } in
     let rest : List HeardStage = heard_stages seen earlier in
-    or_neither (was_unlike Biu j s) (list_any (was_unlike Biu j) earlier)
+    or_from (was_unlike Biu j s) (list_any (was_unlike Biu j) earlier)
     (or_neither_first (was_unlike Biu j s) (unlike_some Biu j s heard.seen) (or_neither_first (was_unlike_with Biu j heard) (list_any (was_unlike_with Biu j) rest) h))
     (bius_alike seen earlier j (or_neither_second (was_unlike_with Biu j heard) (list_any (was_unlike_with Biu j) rest) h))
 
@@ -74,7 +72,7 @@ seen_alike s sight j none i small good =
       | inr differ ↦
           let found : unlike_some Rmu j s (Some sight) ≡ true =
           passes_at (λ i. has (s.good Biu) i && not (are_alike s.eps (s.sight Biu i j) (sight j))) i small
-          (and_both (has (s.good Biu) i) (not (are_alike s.eps (s.sight Biu i j) (sight j))) good (not_so (are_alike s.eps (s.sight Biu i j) (sight j)) differ)) in
+          (and_from (has (s.good Biu) i) (not (are_alike s.eps (s.sight Biu i j) (sight j))) good (not_from_false (are_alike s.eps (s.sight Biu i j) (sight j)) differ)) in
           cc
     ]
 

@@ -1,5 +1,6 @@
 -- A listener keeps track of the bus in the windows of the sync slot, and at its turn to the next frame.
 use Rattle.std.proofs.Common.{◌≡◌, ℕ, ◌+◌, ◌-◌, ◌*◌, ◌<◌, ◌&&◌, not, true, false, List, Option, Some, None, is_some, option_map, get_or, refl, sym, ◌∙◌, ap, subst, arith}
+use Rattle.std.proofs.lemmas.Bool.{lt-ltb}
 use Rattle.rb_base.specs.Nodes.{has}
 use Rattle.rb_base.specs.Nodes.Side.{Biu, Rmu}
 use Rattle.rb_base.specs.Sizes.{Sizes, sync_slot_of}
@@ -19,7 +20,6 @@ use Rattle.rb_rules.specs.Standing.{Standing, does_wrong, has_evidence, lapses, 
 use Rattle.rb_rules.specs.SyncStage.{close_sync, expects_call, new_epoch_of, sync_outcome_of}
 use Rattle.rb_rules.proofs.RoundStates.{Knows, through-stays}
 use Rattle.rb_rules.proofs.Standings.{others_stay, right_is_no_evidence}
-use Rattle.rb_laws_agreement.proofs.Tests.{less_true}
 use Rattle.rb_laws_agreement.proofs.Invariant.{IsGoodNode, Shared, is_good_now, slot_numbered}
 use Rattle.rb_laws_agreement.proofs.NodeWindows.{Windows}
 use Rattle.rb_laws_agreement.proofs.Goodnesses.{good_below_16}
@@ -88,13 +88,13 @@ tracks_sync sc hands n m s q ws c st t first sense right = record {
 
 -- ---- the turn
 
-bius_convicted : (sizes : Sizes) (a b : NodeState) → HoldAlike a b → convicted_at sizes Biu a Biu ≡ convicted_at sizes Biu b Biu
+pub bius_convicted : (sizes : Sizes) (a b : NodeState) → HoldAlike a b → convicted_at sizes Biu a Biu ≡ convicted_at sizes Biu b Biu
 bius_convicted sizes a b h =
     ap (λ t. convicted_by sizes.bius t a.near (voted_vector sizes Rmu a)) h.far
     ∙ ap (λ t. convicted_by sizes.bius b.far.trusted t (voted_vector sizes Rmu a)) h.near
     ∙ ap (λ (v : List Heard). convicted_by sizes.bius b.far.trusted b.near (λ i. get_or v (first_diagnosis_of Rmu sizes + i) Fault)) h.votes
 
-rmus_convicted : (sizes : Sizes) (a b : NodeState) → HoldAlike a b → convicted_at sizes Biu a Rmu ≡ convicted_at sizes Biu b Rmu
+pub rmus_convicted : (sizes : Sizes) (a b : NodeState) → HoldAlike a b → convicted_at sizes Biu a Rmu ≡ convicted_at sizes Biu b Rmu
 rmus_convicted sizes a b h =
     ap (λ t. convicted_by sizes.rmus t a.far.trusted (voted_vector sizes Biu a)) h.near
     ∙ ap (λ t. convicted_by sizes.rmus b.near t (voted_vector sizes Biu a)) h.far
@@ -137,7 +137,7 @@ tracks_turn sc hands n m s e st like spares epoch = record {
   like = λ i now h.
       let from : TurnedFrom sc m Biu i now = turned_from sc hands n m s e.agree Biu i now h in
       let knows : Knows sc.sizes Biu (windows_in sc.sizes) from.st = subst (λ k. Knows sc.sizes Biu k from.st) e.at (e.agree.nodes Biu i from.st from.was).knows in
-      let known = known_epoch sc.plan from.st (knows.k2 ∙ less_true (3 * sync_slot_of sc.sizes + 2 - 1) (windows_in sc.sizes) (omega arith)) in
+      let known = known_epoch sc.plan from.st (knows.k2 ∙ lt-ltb (3 * sync_slot_of sc.sizes + 2 - 1) (windows_in sc.sizes) (omega arith)) in
       subst (HoldAlike (turn sc.sizes sc.plan.probation Biu epoch st)) (sym (turns_with sc.sizes sc.plan from.st known.0 known.1) ∙ from.is)
       (turn_alike sc.sizes sc.plan.probation epoch known.0 st from.st (like i from.st from.was));
   spares = λ j good.

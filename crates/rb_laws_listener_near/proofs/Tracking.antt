@@ -1,6 +1,7 @@
 -- A listener before a window below the sync slot, beside nodes that agree: what it takes of good RMUs, and what it votes where they say one
 -- value.
-use Rattle.std.proofs.Common.{◌≡◌, ℕ, ◌+◌, ◌*◌, ◌<◌, ◌≤◌, ◌&&◌, not, nat_lt, Bool, true, false, List, Option, Some, is_some, length, slice_get, refl, sym, ◌∙◌, ap, arith}
+use Rattle.std.proofs.Common.{◌≡◌, ℕ, ◌+◌, ◌*◌, ◌<◌, ◌≤◌, ◌&&◌, not, nat_lt, Bool, true, false, List, Option, Some, is_some, length, slice_get, sym, ◌∙◌, ap, arith}
+use Rattle.std.proofs.lemmas.Bool.{lt-ltb, not-true}
 use Rattle.rb_base.specs.Counting.{count_if, numbers}
 use Rattle.rb_base.specs.Nodes.{has, set_of, size}
 use Rattle.rb_base.specs.Nodes.Side.{Biu, Rmu}
@@ -8,6 +9,7 @@ use Rattle.rb_base.specs.Sizes.{sync_slot_of}
 use Rattle.rb_base.proofs.Sets.{has-set_of}
 use Rattle.rb_base.proofs.SetSizes.{size_apart, size_first}
 use Rattle.rb_base.specs.declared.values.Heard.{Heard}
+use Rattle.rb_base.proofs.Plain.{and_first, and_second, less-same}
 use Rattle.rb_rules.specs.declared.sense.Sense.{Sense}
 use Rattle.rb_rules.specs.Book.{of_kind}
 use Rattle.rb_rules.specs.ExactStage.{says, says_of}
@@ -16,15 +18,15 @@ use Rattle.rb_rules.specs.NodeState.{NodeState, sender_at}
 use Rattle.rb_rules.specs.Ports.{HandIn}
 use Rattle.rb_rules.specs.Rounds.{Moment, after_window}
 use Rattle.rb_rules.specs.Slots.{Sender, expects, role_of, sender_in}
-use Rattle.rb_rules.specs.Standing.{Standing, is_eligible, does_wrong}
+use Rattle.rb_rules.specs.Standing.{does_wrong}
 use Rattle.rb_rules.proofs.Votes.{closing_vote_is}
-use Rattle.rb_laws_agreement.proofs.Tests.{Present, and_first, and_second, less_true, not_true}
+use Rattle.rb_laws_agreement.proofs.Tests.{Present}
 use Rattle.rb_laws_agreement.proofs.Numbers.{how_many, how_many-is}
 use Rattle.rb_laws_agreement.proofs.NodeWindows.{word_at}
 use Rattle.rb_laws_agreement.proofs.Invariant.{Shared, sender_of, IsGoodNode, is_good_now, Holds, slot_numbered}
 use Rattle.rb_laws_agreement.proofs.ExactWindows.{IsSingle, IsSenseOf, closing_at, does_right, expected_at, expects_who_speaks, take_at, takes_what_is_said}
 use Rattle.rb_laws_agreement.proofs.Goodnesses.{exact_role, good_counts, single_sender, slot_here}
-use Rattle.rb_laws_agreement.proofs.Exchanges.{sender-held, taken_is_trusted}
+use Rattle.rb_laws_agreement.proofs.Exchanges.{eligible, sender-held, taken_is_trusted}
 use Rattle.rb_laws_agreement.proofs.StageVotes.{how_many-count}
 use Rattle.rb_laws_agreement.proofs.Settings.{Setting, good_state}
 use Rattle.rb_laws_agreement.proofs.SecondStages.{GoodOne, some_good}
@@ -81,9 +83,6 @@ sender-here sc m s st slot h =
 
 -- What it takes.
 
-eligible : (s : Standing) (j : ℕ) → has s.trusted j ≡ true → has s.direct j ≡ false → is_eligible s j ≡ true
-eligible s j t d = rw (t, d) refl
-
 -- what an RMU says is taken, and is no wrong
 pub record IsTaken (sc : Scenario) (m : Moment) (slot stage : ℕ) (st source : NodeState) (sense : ℕ → Sense) (j : ℕ) : Type 0 where
   pub takes : take_at sc.sizes Biu st slot stage sense j ≡ says sc.sizes Rmu j source slot stage (word_at sc m slot j)
@@ -123,11 +122,8 @@ good_stays sc hands n m s slot q c early j good =
 abbrev pub listener_vote : Scenario → ℕ → ℕ → NodeState → (ℕ → Sense) → Heard
 listener_vote sc slot q st sense = (closing_at sc.sizes Biu st slot (q + 1) sense).voted
 
-outnumbered : (a b total : ℕ) → a + b ≤ total → total < 2 * b → a < b
+pub outnumbered : (a b total : ℕ) → a + b ≤ total → total < 2 * b → a < b
 outnumbered a b total h k = omega arith
-
-less-same : (a b c d : ℕ) → a ≡ b → c ≡ d → a < c → b < d
-less-same a b c d p q h = omega arith
 
 -- where the good RMUs say one value, it votes for it
 pub listener_votes : (sc : Scenario) (hands : List HandIn) (n : ℕ) (m : Moment) (s : Shared) (slot q : ℕ) → Setting sc hands n m s slot q → MostStay sc m
@@ -152,13 +148,13 @@ listener_votes sc hands n m s slot q c most st t sense senses value said =
     (λ j below is.
     let some : is_some (taken j) ≡ true = and_second (not (good j)) (is_some (taken j)) (sym (has-set_of j others below) ∙ is) in
     let trusted : has (s.trusted Rmu) j ≡ true = ap (λ x. has x j) (sym h.far) ∙ taken_is_trusted st.far (expected_at sc.sizes Biu st slot (q + 1)) sense j some in
-    has-set_of j (λ i. nat_lt i sc.sizes.rmus) below ∙ less_true j sc.sizes.rmus (c.agree.inside Rmu j trusted))
+    has-set_of j (λ i. nat_lt i sc.sizes.rmus) below ∙ lt-ltb j sc.sizes.rmus (c.agree.inside Rmu j trusted))
     (λ j below is.
     let g : good j ≡ true = sym (has-set_of j good below) ∙ is in
     has-set_of j (λ i. nat_lt i sc.sizes.rmus) below
-    ∙ less_true j sc.sizes.rmus (good_counts sc Rmu j m.frame (slot_numbered sc.sizes m.window) (was_good sc m Rmu j g)))
+    ∙ lt-ltb j sc.sizes.rmus (good_counts sc Rmu j m.frame (slot_numbered sc.sizes m.window) (was_good sc m Rmu j g)))
     (λ j below is.
-    has-set_of j good below ∙ not_true (good j) (and_first (not (good j)) (is_some (taken j)) (sym (has-set_of j others below) ∙ is))) in
+    has-set_of j good below ∙ not-true (good j) (and_first (not (good j)) (is_some (taken j)) (sym (has-set_of j others below) ∙ is))) in
     let fewer : how_many others < how_many good =
     outnumbered (how_many others) (how_many good) sc.sizes.rmus (omega (arith, apart, total, how_many-is others, how_many-is good)) most in
     closing_vote_is st.far (expected_at sc.sizes Biu st slot (q + 1)) sense good value one

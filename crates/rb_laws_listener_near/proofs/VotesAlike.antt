@@ -1,13 +1,15 @@
 -- In a window below the sync slot in which BIUs vote a listener votes as each good BIU does.
-use Rattle.std.proofs.Common.{◌≡◌, ℕ, zero, suc, ◌+◌, ◌<◌, ◌&&◌, ◌||◌, inl, inr, not, Bool, true, false, List, [], ◌∷◌, length, Option, Some, None, is_some, unwrap_or, slice_get, if◌then◌else◌, refl, sym, ◌∙◌, ap, subst, arith}
+use Rattle.std.proofs.Common.{◌≡◌, ℕ, zero, suc, ◌+◌, ◌<◌, ◌&&◌, ◌||◌, inl, inr, not, Bool, true, false, List, [], ◌∷◌, length, Option, Some, None, unwrap_or, slice_get, if◌then◌else◌, refl, sym, ◌∙◌, ap, subst, arith}
 use Rattle.std.specs.List.{list_any}
+use Rattle.std.proofs.lemmas.Bool.{and_from, not_from_false}
 use Rattle.rb_base.specs.Nodes.{Side, other, has}
 use Rattle.rb_base.specs.Nodes.Side.{Biu, Rmu}
-use Rattle.rb_base.proofs.Sets.{has-set_of, has_none}
+use Rattle.rb_base.proofs.Sets.{has-set_of}
 use Rattle.rb_base.specs.declared.values.Heard.{Heard}
 use Rattle.rb_base.specs.declared.values.Heard.TheVariants.{Fault}
 use Rattle.rb_base.specs.declared.values.Place.{Place}
 use Rattle.rb_base.specs.declared.values.See.{See}
+use Rattle.rb_base.proofs.Plain.{and_first, and_second, none-if}
 use Rattle.rb_rules.specs.declared.sense.Sense.{Sense}
 use Rattle.rb_rules.specs.Book.{Row, in_order, judged_of, of_kind, trusted_by}
 use Rattle.rb_rules.specs.ExactStage.{present, says, see_value, votes_in}
@@ -20,13 +22,12 @@ use Rattle.rb_rules.specs.Slots.{Sender, expects, listens, role_of}
 use Rattle.rb_rules.specs.Slots.Sender.{Nobody, Node, EachTrusted}
 use Rattle.rb_rules.proofs.ExactStages.{idle_expects_nobody, vote_over_nothing}
 use Rattle.rb_rules.proofs.Votes.{same_vote}
-use Rattle.rb_laws_agreement.proofs.Tests.{Passing, Present, and_both, and_first, and_second, not_so, or_neither_second, true_or_false}
-use Rattle.rb_laws_agreement.proofs.Numbers.{how_many, one_of_many}
+use Rattle.rb_laws_agreement.proofs.Tests.{Present, or_neither_second, true_or_false}
 use Rattle.rb_laws_agreement.proofs.Premises.{Premise, premise_holds}
 use Rattle.rb_laws_agreement.proofs.NodeWindows.{sense_in, word_at}
 use Rattle.rb_laws_agreement.proofs.Invariant.{GoodSent, HasRelays, HasVoted, IsGoodNode, Shared, is_good_now, kind_in, sender_of}
 use Rattle.rb_laws_agreement.proofs.ExactWindows.{IsSingle, expected_at, take_at}
-use Rattle.rb_laws_agreement.proofs.JudgedWindows.{alike_values, first_row_trusts, rows_of}
+use Rattle.rb_laws_agreement.proofs.JudgedWindows.{alike_values, first_row_trusts, nobody_trusted, rows_of}
 use Rattle.rb_laws_agreement.proofs.Goodnesses.{exact_role, few_nodes, good_below_16, single_sender}
 use Rattle.rb_laws_agreement.proofs.Exchanges.{sender-held, shows_taken, taken_is_trusted}
 use Rattle.rb_laws_agreement.proofs.Senders.{sender_is_trusted}
@@ -39,13 +40,6 @@ use Rattle.rb_laws_listener_near.proofs.Sides.{SideAlike, bius_alike, rmus_alike
 use Rattle.rb_laws_listener_near.proofs.Tracking.{Held, MostStay, Senses, Tracks, good_stays, held, is_taken, listener_vote, listener_votes, sender-here}
 
 -- Whom the judge takes for suspects.
-
-nobody_trusted : (p : ℕ → Bool) → 0 < how_many (λ j. has 0 j && p j) → ⊥
-nobody_trusted p some =
-    let one : Passing (λ j. has 0 j && p j) 0 16 = one_of_many (λ j. has 0 j && p j) some in
-    let yes_it : has 0 one.at ≡ true = and_first (has 0 one.at) (p one.at) one.passes in
-    let no_it : has 0 one.at ≡ false = has_none one.at in
-    cc
 
 -- the judge is told whom all trust
 trusted_told : (sc : Scenario) (hands : List HandIn) (n : ℕ) (m : Moment) (s : Shared) (slot q : ℕ) → Setting sc hands n m s slot q → (kind : Side)
@@ -67,8 +61,8 @@ suspect : (sc : Scenario) (hands : List HandIn) (n : ℕ) (m : Moment) (s : Shar
     → has (s.trusted kind) j ≡ true → is_good_now sc m kind j ≡ false → is_suspect kind (stages_with sc m slot (q + 1)) j ≡ true
 suspect sc hands n m s slot q c kind j small t faulty =
     let stages : List JudgedStage = stages_with sc m slot (q + 1) in
-    and_both (has (trusted_now kind stages) j) (not (has (good_now kind stages) j)) (ap (λ x. has x j) (trusted_told sc hands n m s slot q c kind) ∙ t)
-    (not_so (has (good_now kind stages) j)
+    and_from (has (trusted_now kind stages) j) (not (has (good_now kind stages) j)) (ap (λ x. has x j) (trusted_told sc hands n m s slot q c kind) ∙ t)
+    (not_from_false (has (good_now kind stages) j)
     (has-set_of j (λ i. is_good sc kind i m.frame slot) small ∙ sym (good_here sc hands n m s slot q c kind j) ∙ faulty))
 
 -- One value.
@@ -105,10 +99,6 @@ pub record SawTaken (sc : Scenario) (m : Moment) (slot stage : ℕ) (st : NodeSt
   pub here : seen (length m.book.stages) (judged_of sc (record { frame = m.frame; slot = slot; stage = stage }) (rows_of sc m)) ≡ Some sight
   pub is : (j : ℕ) → j < 16 → sight j ≡ see_value (take_at sc.sizes Biu st slot stage sense j)
 
-some-none : (o : Option Heard) → (is_some o ≡ true → ⊥) → o ≡ None
-some-none None h = refl
-some-none (Some v) h = absurd (h refl)
-
 -- where no RMU was seen unlike, it takes what a good BIU takes
 taken_alike : (sc : Scenario) (hands : List HandIn) (n : ℕ) (m : Moment) (s : Shared) (slot : ℕ) (c : Setting sc hands n m s slot 1)
     → (st : NodeState) → Tracks sc m st → (sense : ℕ → Sense) → Senses sc m slot 1 sense → (seen : ℕ → JudgedStage → Option (ℕ → See)) → SawTaken sc m slot 2 st sense seen
@@ -117,10 +107,10 @@ taken_alike : (sc : Scenario) (hands : List HandIn) (n : ℕ) (m : Moment) (s : 
 taken_alike sc hands n m s slot c st t sense senses seen saw alike i b here j small =
     elim (true_or_false (has (s.trusted Rmu) j)) [
       | inr out ↦
-          some-none (take_at sc.sizes Biu st slot 2 sense j) (λ some.
+          none-if (take_at sc.sizes Biu st slot 2 sense j) (λ some.
           let in_it : has (s.trusted Rmu) j ≡ true = ap (λ x. has x j) (sym h.far) ∙ taken_is_trusted st.far (expected_at sc.sizes Biu st slot 2) sense j some in
           let both : true ≡ false = sym in_it ∙ out in cc)
-          ∙ sym (some-none (taken sc hands n m s slot 1 c Biu i b j) (λ some.
+          ∙ sym (none-if (taken sc hands n m s slot 1 c Biu i b j) (λ some.
           let in_it : has (s.trusted Rmu) j ≡ true = (all_seen sc hands n m s slot 1 c Biu i j b here small some).trusts in
           let both : true ≡ false = sym in_it ∙ out in cc))
       | inl trusted ↦ elim (true_or_false (is_good_now sc m Rmu j)) [

@@ -1,11 +1,11 @@
 -- A listener closes a window below the sync slot as each good BIU does.
-use Rattle.std.proofs.Common.{◌≡◌, ℕ, ◌+◌, ◌<◌, ◌==◌, ◌&&◌, Bool, true, false, List, Option, None, slice_get, slice_set, take, if◌then◌else◌, refl, sym, ◌∙◌, ap, subst, arith}
-use Rattle.std.proofs.lemmas.Bool.Decides.{nat_tests}
+use Rattle.std.proofs.Common.{◌≡◌, ℕ, ◌+◌, ◌<◌, ◌==◌, ◌&&◌, Bool, true, false, List, Option, None, slice_get, slice_set, take, if◌then◌else◌, refl, sym, ◌∙◌, ap, subst}
 use Rattle.rb_base.specs.Nodes.{Side, has}
 use Rattle.rb_base.specs.Nodes.Side.{Biu, Rmu}
 use Rattle.rb_base.specs.Sizes.{Sizes, sync_slot_of}
 use Rattle.rb_base.specs.declared.values.Heard.{Heard}
 use Rattle.rb_base.specs.declared.values.See.{See}
+use Rattle.rb_base.proofs.Plain.{less-differs}
 use Rattle.rb_rules.specs.declared.closing.Closing.{Closing}
 use Rattle.rb_rules.specs.declared.sense.Sense.{Sense}
 use Rattle.rb_rules.specs.Book.{of_kind}
@@ -33,12 +33,9 @@ use Rattle.rb_laws_listener_near.specs.Judged.{verdict_with}
 use Rattle.rb_laws_listener_near.proofs.Tracking.{IsTaken, MostStay, Senses, Tracks, is_taken, listener_vote}
 use Rattle.rb_laws_listener_near.proofs.VotesAlike.{SawTaken, vote_alike}
 
-not-sync : (slot sync : ℕ) → slot < sync → (slot == sync) ≡ false
-not-sync slot sync h = grind (arith, nat_tests)
-
 close-exact : (sizes : Sizes) (me : Side) (i : ℕ) (st : NodeState) (slot stage first : ℕ) (sense : ℕ → Sense) → slot < sync_slot_of sizes
     → close sizes me i st slot stage first sense ≡ close_exact sizes me i st slot stage sense
-close-exact sizes me i st slot stage first sense below = go (slot == sync_slot_of sizes) (not-sync slot (sync_slot_of sizes) below)
+close-exact sizes me i st slot stage first sense below = go (slot == sync_slot_of sizes) (less-differs slot (sync_slot_of sizes) below)
   where
     go : (b : Bool) → b ≡ false
         → (elim b as (λ _. Outcome) [ true ↦ close_sync sizes me st stage (st.epoch + first) sense | false ↦ close_exact sizes me i st slot stage sense ])

@@ -3,6 +3,7 @@ use Rattle.std.proofs.Common.{◌≡◌, ℕ, zero, suc, ◌+◌, ◌-◌, ◌�
 use Rattle.std.proofs.lemmas.Bool.{cases_lt}
 use Rattle.rb_base.specs.declared.event.Event.{Event}
 use Rattle.rb_base.specs.declared.node.NodeName.{NodeName}
+use Rattle.rb_base.proofs.Plain.{true-false}
 use Rattle.rb_rules.specs.Book.{Record, in_order}
 use Rattle.rb_rules.specs.Goodness.{Scenario}
 use Rattle.rb_rules.specs.Lawful.{IsLawful}
@@ -48,7 +49,7 @@ stays sc name (suc k) m (suc n) e h =
           ∙ append-nil (given_in sc name n) ∙ before.given;
     }
 
-same-given : (sc : Scenario) (name : NodeName) (m n : ℕ) → m ≤ n → (first_run sc m).book.ended ≡ true → given_in sc name n ≡ given_in sc name m
+pub same-given : (sc : Scenario) (name : NodeName) (m n : ℕ) → m ≤ n → (first_run sc m).book.ended ≡ true → given_in sc name n ≡ given_in sc name m
 same-given sc name m n le h = (stays sc name (n - m) m n (omega (arith, le)) h).given
 
 pub one-only : (sc : Scenario) (name : NodeName) (events others : List Event) → AreGiven sc name events → AreGiven sc name others → others ≡ events
@@ -120,9 +121,6 @@ step-more sc lawful n going = by (due_of sc w) refl
         let one : taken_by sc w (Take 0) ≡ 1 = taken-more sc w d ds e in
         let same = takes (Take 0) in
         subst With (sym e) (omega (arith, more, one, same))
-
-true-false : {P : Type 0} → true ≡ false → P
-true-false e = absurd (cc)
 
 -- a run that goes on has made few steps
 steps-count : (sc : Scenario) → IsLawful sc → (n : ℕ) → (first_run sc n).book.ended ≡ false → n ≤ steps_by sc n

@@ -3,7 +3,7 @@
 use Rattle.std.proofs.Common.{◌≡◌, ℕ, zero, suc, ◌+◌, ◌≤◌, ◌==◌, false, List, [], ◌∷◌, ◌++◌, refl, ap, ◌∙◌, arith, Option, Some, None, slice_get}
 use Rattle.std.specs.List.{cons_option}
 use Rattle.std.specs.Prelude.{flat_map, filter_map, map}
-use Rattle.std.proofs.lemmas.Bool.Decides.{nat_tests}
+use Rattle.std.proofs.lemmas.Bool.{ne_eqb}
 use Rattle.std.proofs.lemmas.List.{append-nil}
 use Rattle.rb_rules.specs.Book.{map_from}
 use Rattle.rb_rules.specs.ExactStage.{present}
@@ -22,19 +22,16 @@ pub gather-none : {X : Type 0} (n : ℕ) (take : ℕ → X → List ℕ) (xs : L
 gather-none n take [] none = refl
 gather-none n take (x ∷ xs) none = ap (λ l. l ++ gather (n + 1) take xs) (none n x (omega arith)) ∙ gather-none (n + 1) take xs (λ k y le. none k y (omega arith))
 
-not-same : (a b : ℕ) → (a ≡ b → ⊥) → (a == b) ≡ false
-not-same a b h = grind (arith, nat_tests)
-
 pub gather-one : {X : Type 0} (n i m : ℕ) (take : ℕ → X → List ℕ) (xs : List X) (x : X) → slice_get xs i ≡ Some x → n + i ≡ m
     → ((k : ℕ) (y : X) → (k == m) ≡ false → take k y ≡ []) → gather n take xs ≡ take m x
 gather-one n i m take [] x there sum none = cc
 gather-one n zero m take (y ∷ ys) x there sum none =
     let same : y ≡ x = cc in
     let at : n ≡ m = omega arith in
-    ap (λ l. take n y ++ l) (gather-none (n + 1) take ys (λ k z le. none k z (not-same k m (λ e. omega arith))))
+    ap (λ l. take n y ++ l) (gather-none (n + 1) take ys (λ k z le. none k z (ne_eqb k m (λ e. omega arith))))
     ∙ append-nil (take n y) ∙ ap (take n) same ∙ ap (λ k. take k x) at
 gather-one n (suc i) m take (y ∷ ys) x there sum none =
-    ap (λ l. l ++ gather (n + 1) take ys) (none n y (not-same n m (λ e. omega arith)))
+    ap (λ l. l ++ gather (n + 1) take ys) (none n y (ne_eqb n m (λ e. omega arith)))
     ∙ gather-one (n + 1) i m take ys x there (omega arith) none
 
 -- the items that are made of those of a list, as far as they are there

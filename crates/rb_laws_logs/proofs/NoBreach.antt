@@ -7,9 +7,10 @@ use Rattle.std.proofs.lemmas.Bool.Decides.{nat_tests}
 use Rattle.std.proofs.lemmas.List.Folds.{list_any-append}
 use Rattle.std.proofs.lemmas.Nat.{mul-le}
 use Rattle.rb_base.specs.declared.values.Place.{Place}
+use Rattle.rb_base.proofs.Plain.{times-more, true-false}
 use Rattle.rb_rules.specs.declared.cause.Cause.{Cause}
 use Rattle.rb_rules.specs.declared.plan.Window.{Window}
-use Rattle.rb_rules.specs.Book.{Begun, Book, Each, Row, after_verdict, fresh_book, judged_of, with_end, with_frame, with_stage}
+use Rattle.rb_rules.specs.Book.{Book, Each, Row, after_verdict, fresh_book, judged_of, with_end, with_stage}
 use Rattle.rb_rules.specs.Book.Record.{Ended, Breach}
 use Rattle.rb_rules.specs.Goodness.{Scenario}
 use Rattle.rb_rules.specs.Judging.{JudgedStage, verdict_of}
@@ -17,7 +18,7 @@ use Rattle.rb_rules.specs.Lawful.{IsLawful}
 use Rattle.rb_rules.specs.Rounds.{Moment, after_window, begin_frame, book_after, moment, records_of, step, steps_of, windows_in}
 use Rattle.rb_rules.specs.WorldStep.{Choice, Due, World, IsPrefix, choose, due_of, world_after}
 use Rattle.rb_rules.specs.WorldStep.Choice.{Take, GoOn}
-use Rattle.rb_rules.proofs.Books.{given-are, stepped}
+use Rattle.rb_rules.proofs.Books.{begun-open, given-are, stepped}
 use Rattle.rb_laws_events.proofs.BreakNodes.{BreaksAt}
 use Rattle.rb_laws_events.proofs.EveryWorld.{after-more}
 use Rattle.rb_laws_events.proofs.MomentBooks.{number-of}
@@ -25,17 +26,11 @@ use Rattle.rb_laws_events.proofs.SettlingFrames.{RunsIn, runs-in}
 use Rattle.rb_laws_logs.specs.Given.{first_run, first_step, step_with}
 use Rattle.rb_laws_logs.specs.Laws.{EndsWithoutBreach, is_breach}
 
-true-false : {P : Type 0} → true ≡ false → P
-true-false e = absurd (cc)
-
 -- Numbers.
 
 -- the number of the moment with which the frame after the last begins
 abbrev pub last_moment : Scenario → ℕ
 last_moment sc = sc.frames * (windows_in sc.sizes + 1)
-
-one-more : (a n : ℕ) → (a + 1) * n ≡ a * n + n
-one-more a n = omega arith
 
 -- the frame of a moment, by its number
 pub frame-below : (sc : Scenario) (p : ℕ) → p < last_moment sc → (moment sc [] p).frame < sc.frames
@@ -54,7 +49,7 @@ number-below sc p h =
     let n : ℕ = windows_in sc.sizes + 1 in
     let at = number-of sc [] p in
     let up : (m.frame + 1) * n ≤ sc.frames * n = mul-le (m.frame + 1) n sc.frames n (omega arith) (omega arith) in
-    let more : (m.frame + 1) * n ≡ m.frame * n + n = one-more m.frame n in
+    let more : (m.frame + 1) * n ≡ m.frame * n + n = times-more m.frame n in
     omega (arith, at.0, at.1, up, more)
 
 -- the frame after the last begins with it
@@ -74,7 +69,7 @@ last-begin sc =
         | inr le ↦ omega (arith, ge, le)
         | inl gt ↦
             let up : (sc.frames + 1) * n ≤ m.frame * n = mul-le (sc.frames + 1) n m.frame n (omega arith) (omega arith) in
-            let more : (sc.frames + 1) * n ≡ sc.frames * n + n = one-more sc.frames n in
+            let more : (sc.frames + 1) * n ≡ sc.frames * n + n = times-more sc.frames n in
             absurd (omega (arith, at.0, up, more))
       ]
     ] in
@@ -123,21 +118,17 @@ window-open : (sc : Scenario) (frame : ℕ) (o : Option Window) (rows : Each (Op
 window-open sc frame None rows b going none = going
 window-open sc frame (Some w) rows b going none = stage-open sc _ rows b going none
 
-frame-open : (sc : Scenario) (frame : ℕ) (begun : List Begun) (b : Book) → b.ended ≡ false → (with_frame sc frame begun b).ended ≡ false
-unfolding with_frame
-frame-open sc frame begun b going = rw (going, with_frame) refl
-
 stepped-open : (sc : Scenario) (m : Moment) (over in_frame : Bool) → over ≡ false → m.book.ended ≡ false → list_any is_breach (stepped sc [] m over in_frame).book.given ≡ false
     → (stepped sc [] m over in_frame).book.ended ≡ false
 unfolding after_window begin_frame
 stepped-open sc m true in_frame e going none = cc
 stepped-open sc m false true e going none = window-open sc m.frame _ _ m.book going none
-stepped-open sc m false false e going none = frame-open sc (m.frame + 1) _ m.book going
+stepped-open sc m false false e going none = begun-open sc (m.frame + 1) _ m.book going
 
 -- the run goes on
 pub goes-on : (sc : Scenario) → EndsWithoutBreach sc → (p : ℕ) → p ≤ last_moment sc → (moment sc [] p).book.ended ≡ false
 unfolding step begin_frame
-goes-on sc none zero le = frame-open sc 0 _ fresh_book refl
+goes-on sc none zero le = begun-open sc 0 _ fresh_book refl
 goes-on sc none (suc p) le =
     let m : Moment = moment sc [] p in
     let below : m.frame < sc.frames = frame-below sc p (omega (arith, le)) in

@@ -2,7 +2,6 @@
 -- those moments give.
 use Rattle.std.proofs.Common.{◌≡◌, ℕ, zero, suc, ◌==◌, ◌&&◌, nat_lt, not, Bool, true, false, List, [], ◌∷◌, ◌++◌, append_assoc, refl, ap, sym, ◌∙◌, arith, Option, Some, None, slice_get, if◌then◌else◌}
 use Rattle.std.specs.Prelude.{flat_map, filter_map, map}
-use Rattle.std.proofs.lemmas.Bool.Decides.{nat_tests}
 use Rattle.std.proofs.lemmas.Grind.{flat_map-append}
 use Rattle.std.proofs.lemmas.List.{append-nil}
 use Rattle.rb_base.specs.Nodes.{Side}
@@ -10,6 +9,7 @@ use Rattle.rb_base.specs.Sizes.{sync_slot_of}
 use Rattle.rb_base.specs.Nodes.Side.{Biu as biu, Rmu as rmu}
 use Rattle.rb_base.specs.declared.node.NodeName.{NodeName}
 use Rattle.rb_base.specs.declared.node.NodeName.TheVariants.{Biu, Rmu}
+use Rattle.rb_base.proofs.Plain.{eq_self}
 use Rattle.rb_rules.specs.declared.record.SlotLine.{SlotLine}
 use Rattle.rb_rules.specs.Book.{Begun, Each, Record, Row, frame_records, in_order, line_in, map_each, map_from, of_kind}
 use Rattle.rb_rules.specs.Book.Record.{Frame, Slot, Ended, Breach}
@@ -97,9 +97,6 @@ newest-append newest (Breach place cause ∷ xs) ys = newest-append newest xs ys
 
 -- A slot.
 
-itself : (a : ℕ) → (a == a) ≡ true
-itself a = grind (arith, nat_tests)
-
 -- what a node that is not the one tells leaves no line
 other-line : (name : NodeName) (frame slot i : ℕ) → same_node (Biu i) name ≡ false → (o : Option SlotLine) → ((l : SlotLine) → o ≡ Some l → l.receiver ≡ i)
     → if_there (delivered_by name frame slot) o ≡ []
@@ -136,7 +133,7 @@ slot-lines sc m name st there =
         (λ k y other. line-by (λ o. if_there (delivered_by (Biu i) m.frame slot) o ≡ []) sc m (sent_in sc m) biu k y (window_in sc m biu y) refl
         (λ d is second exact. ap (λ b. if b then delivery_text m.frame slot k d.sender d.value else []) other))
         ∙ line-by (λ o. if_there (delivered_by (Biu i) m.frame slot) o ≡ line_text m.frame slot o) sc m (sent_in sc m) biu i st (window_in sc m biu st) refl
-        (λ d is second exact. ap (λ b. if b then delivery_text m.frame slot i d.sender d.value else []) (itself i))
+        (λ d is second exact. ap (λ b. if b then delivery_text m.frame slot i d.sender d.value else []) (eq_self i))
     by (Rmu i) there =
         gather-none 0 (λ k x. if_there (delivered_by (Rmu i) m.frame slot) (line_in (make k x).row)) m.nodes.bius
         (λ k y le. line-by (λ o. if_there (delivered_by (Rmu i) m.frame slot) o ≡ []) sc m (sent_in sc m) biu k y (window_in sc m biu y) refl (λ d is second exact. refl))
@@ -201,8 +198,8 @@ named (Rmu i) biu k = refl
 named (Rmu i) rmu k = refl
 
 named-itself : (name : NodeName) → same_node (name_of (kind_of name) (index_of name)) name ≡ true
-named-itself (Biu i) = itself i
-named-itself (Rmu i) = itself i
+named-itself (Biu i) = eq_self i
+named-itself (Rmu i) = eq_self i
 
 -- the record of a frame
 pub record FrameLines (sc : Scenario) (name : NodeName) (frame newest : ℕ) (st : NodeState) (records : List Record) : Type 0 where

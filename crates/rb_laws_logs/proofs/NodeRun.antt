@@ -64,7 +64,7 @@ take-sites : (sc : Scenario) (w : World) (d : Due) → slice_get (due_of sc w) 0
 unfolding take
 take-sites sc w d first = ap (λ o. (take_if_due sc w o).sites) first ∙ settle-sites sc ByAnEvent 2 (happens sc w d)
 
-go-on-sites : (sc : Scenario) (w : World) → (go_on sc w).sites ≡ w.sites
+pub go-on-sites : (sc : Scenario) (w : World) → (go_on sc w).sites ≡ w.sites
 unfolding go_on
 go-on-sites sc w = by w.book.ended
   where

@@ -12,18 +12,19 @@ use Rattle.rb_rules.specs.Clock.{stamp_of}
 use Rattle.rb_rules.specs.Conviction.{turn}
 use Rattle.rb_rules.specs.Core.{Act, Core, act_at, act_on, epoch_at, is_last, is_spent, is_tick, of_source, pass_to, said_at, state_at, state_kept, tick, window_here}
 use Rattle.rb_rules.specs.ExactStage.{Outcome}
-use Rattle.rb_rules.specs.Goodness.{Scenario, clock_of, is_good}
-use Rattle.rb_rules.specs.Hearing.{Coming, Span, close_window, coming_of}
+use Rattle.rb_rules.specs.Goodness.{Scenario, clock_of}
+use Rattle.rb_rules.specs.Hearing.{Coming, close_window, coming_of}
 use Rattle.rb_rules.specs.NodeState.{NodeState}
 use Rattle.rb_rules.specs.Ports.{PortState}
 use Rattle.rb_rules.specs.Slots.{same_side}
 use Rattle.rb_rules.specs.SyncStage.{new_epoch_of}
-use Rattle.rb_rules.specs.WorldStep.{Due, Pending, Site, World, after_act, after_arrival, at_node, await, enter, happens, pass_and_tick, proceed, says_in, span_from, stop, with_act, with_close, with_epoch, with_pending}
+use Rattle.rb_rules.specs.WorldStep.{Due, Pending, Site, World, after_act, after_arrival, at_node, happens, pass_and_tick, proceed, span_from, with_act, with_close, with_epoch, with_pending}
 use Rattle.rb_rules.specs.WorldStep.Pending.{Tick, Arrival}
 use Rattle.rb_rules.proofs.QuietTicks.{arrive-same}
 use Rattle.rb_rules.proofs.RoundStates.{close-stays, keeping-stays}
 use Rattle.rb_laws_events.proofs.WorldStands.{get-at, is_node, node-is, node-itself}
 use Rattle.rb_laws_events.proofs.WorldTicks.{after_tick, get-after, kind-other, reached, reached-not}
+use Rattle.rb_laws_events.proofs.ToldSoFar.{entered-core}
 
 -- An event elsewhere.
 
@@ -116,19 +117,6 @@ pub own-arrival : (w : World) (me : Side) (i : ℕ) (change : Site → Site) (s 
 own-arrival w me i change s there =
     get-at me me i i change w.sites ∙ ap (option_map (λ s. elim (is_node me i me i) as (λ _. Site) [ true ↦ change s | false ↦ s ])) there
     ∙ ap (λ b. Some (elim b as (λ _. Site) [ true ↦ change s | false ↦ s ])) (node-itself me i)
-
--- the core is that of the act
-entered-core : (sc : Scenario) (me : Side) (i : ℕ) (o : Option Span) (s : Site) → (enter sc me i o s).core ≡ s.core
-entered-core sc me i None s = refl
-entered-core sc me i (Some span) s = by (is_good sc me i span.place.frame span.place.slot)
-  where
-    by : (b : Bool) → (elim b as (λ _. Site) [ true ↦ await sc me i (says_in sc me i span) s | false ↦ stop s ]).core ≡ s.core
-    by true = refl
-    by false = refl
-
-pub proceed-core : (sc : Scenario) (me : Side) (i : ℕ) (s : Site) → (proceed sc me i s).core ≡ s.core
-unfolding proceed
-proceed-core sc me i s = entered-core sc me i (span_from sc.sizes sc.plan me s.core.state s.core.had) s
 
 pub act-core : (sc : Scenario) (ports : List PortState) (me : Side) (i : ℕ) (x : Act) (s : Site) → (after_act sc ports me i x s).core ≡ x.core
 unfolding after_act proceed

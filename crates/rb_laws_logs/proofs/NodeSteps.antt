@@ -3,6 +3,7 @@ use Rattle.std.proofs.Common.{◌≡◌, ℕ, suc, ◌+◌, ◌-◌, ◌<◌, �
 use Rattle.std.proofs.Math.ListN.{replicate}
 use Rattle.std.proofs.lemmas.Bool.{cases_lt}
 use Rattle.std.proofs.lemmas.List.{append-nil}
+use Rattle.std.proofs.lemmas.Option.{same_Some}
 use Rattle.rb_base.specs.Nodes.{Side}
 use Rattle.rb_base.specs.declared.event.Event.{Event}
 use Rattle.rb_base.specs.declared.node.NodeName.{NodeName}
@@ -23,21 +24,21 @@ use Rattle.rb_rules.specs.WorldStep.Pending.{Tick, Arrival}
 use Rattle.rb_rules.proofs.QuietTicks.{arrive-same}
 use Rattle.rb_rules.proofs.RoundStates.{HasTicks}
 use Rattle.rb_log.specs.Writing.{given}
-use Rattle.rb_laws_events.proofs.CloseOrder.{good-clock}
 use Rattle.rb_laws_events.proofs.DueEvents.{IsDue, IsReady}
 use Rattle.rb_laws_events.proofs.Invariant.{NodeStands, last_tick}
 use Rattle.rb_laws_events.proofs.MomentBooks.{one-number}
 use Rattle.rb_laws_events.proofs.NodeActs.{HasRoom}
 use Rattle.rb_laws_events.proofs.NodeClosing.{ClosesWindow}
 use Rattle.rb_laws_events.proofs.NodeEvents.{StaysOpen, all-after, stands-arrival, tick-after}
-use Rattle.rb_laws_events.proofs.OneEvent.{all-pend, happens-is, moves-of, pend-of, up-there}
+use Rattle.rb_laws_events.proofs.OneEvent.{all-pend, happens-is, moves-of, up-there}
 use Rattle.rb_laws_events.proofs.OneTake.{StandsInRounds}
 use Rattle.rb_laws_events.proofs.RoundNodes.{slot_numbered}
 use Rattle.rb_laws_events.proofs.SameHeard.{Every}
-use Rattle.rb_laws_events.proofs.Settling.{some-same}
 use Rattle.rb_laws_events.proofs.TickRooms.{has-room}
 use Rattle.rb_laws_events.proofs.WorldEvents.{AfterTick as Happened}
 use Rattle.rb_laws_events.proofs.WorldStands.{AllPend, IsUp, is_node, node-is, node-itself, sent_by}
+use Rattle.rb_laws_agreement.proofs.FrameTimes.{good-clock}
+use Rattle.rb_laws_events.proofs.Behind.{pend-of}
 use Rattle.rb_laws_logs.specs.Given.{first_run, given_next, index_of, site_of}
 use Rattle.rb_laws_logs.specs.Laws.{EndsWithoutBreach, IsGoodThroughout}
 use Rattle.rb_laws_logs.specs.Replays.{act_lines, delivery_lines, epoch_lines, frames_with}
@@ -67,10 +68,10 @@ here sc name w h s p st a ticks empty there at ahead =
     let up : IsUp sc [] (sent_by sc [] h.at w.sites) h.now me i (h.at me i) s =
     subst (λ hs. IsUp sc hs (sent_by sc hs h.at w.sites) h.now me i (h.at me i) s) empty (up-there sc h.now h.at w me i s a h.stands.sites there ahead) in
     let sent : Side → ℕ → ℕ → Bool = sent_by sc [] h.at w.sites in
-    let a_is : up.a ≡ a = some-same up.a a (sym up.stands.receives.pends ∙ ahead) in
+    let a_is : up.a ≡ a = same_Some up.a a (sym up.stands.receives.pends ∙ ahead) in
     let p_is : h.at me i ≡ p = one-place sc me i (h.at me i) p s.core s.core up.st st up.a a ticks (stands-at sc sent h.now me i (h.at me i) s up.st up.a ticks up.stands) at refl a_is in
     let moved : NodeStands sc [] sent h.now me i p s up.st a = subst (λ q. NodeStands sc [] sent h.now me i q s up.st a) p_is (subst (NodeStands sc [] sent h.now me i (h.at me i) s up.st) a_is up.stands) in
-    let st_is : up.st ≡ st = some-same up.st st (sym moved.state ∙ at.state) in
+    let st_is : up.st ≡ st = same_Some up.st st (sym moved.state ∙ at.state) in
     record { is = p_is; sent = sent; stands = subst (λ z. NodeStands sc [] sent h.now me i p s z a) st_is moved }
 
 -- what a tick is there
@@ -190,10 +191,10 @@ own-tick-step sc name n k s lawful none good there u first sites = record { s = 
     may = may-take sc w h d lawful none empty first due
 
     ready : IsReady due.t s (Tick k)
-    ready = subst (λ s. IsReady due.t s (Tick k)) (some-same due.s s (sym due.there ∙ there)) due.ready
+    ready = subst (λ s. IsReady due.t s (Tick k)) (same_Some due.s s (sym due.there ∙ there)) due.ready
 
     a_is : ready.0 ≡ u.a
-    a_is = some-same ready.0 u.a (sym ready.1.0 ∙ u.ahead)
+    a_is = same_Some ready.0 u.a (sym ready.1.0 ∙ u.ahead)
 
     tick : u.a.tick ≡ k
     tick = ap (λ (a : Timed). a.tick) (sym a_is) ∙ ready.1.1.0
@@ -233,7 +234,7 @@ own-tick-step sc name n k s lawful none good there u first sites = record { s = 
     makes = tick-made sc name w s u.p u.st u.a u.stands
 
     st_is : (t : Ticked sc [] w me i u.p s u.a x) → t.st ≡ u.st
-    st_is t = some-same t.st u.st (sym t.there ∙ u.stands.state)
+    st_is t = same_Some t.st u.st (sym t.there ∙ u.stands.state)
 
     by : (t : Ticked sc [] w me i u.p s u.a x) → Underway sc name (suc n) z ⊎ IsDone sc name (suc n) z
     by t = how t.node
@@ -275,7 +276,7 @@ arrival-stands sc name n place c s lawful none there u first =
     let h : StandsInRounds sc w = (worlds-in-run sc lawful none n).stands in
     let room : HasRoom sc.plan = has-room sc lawful in
     let due : IsDue w d = first-due sc n d first in
-    let ready : IsReady due.t s (Arrival place c) = subst (λ s. IsReady due.t s (Arrival place c)) (some-same due.s s (sym due.there ∙ there)) due.ready in
+    let ready : IsReady due.t s (Arrival place c) = subst (λ s. IsReady due.t s (Arrival place c)) (same_Some due.s s (sym due.there ∙ there)) due.ready in
     let pend : AllPend c.time w.sites = subst (λ t. AllPend t w.sites) (sym ready.1) (all-pend w due.t due.first) in
     let own : Every (λ u. c.time ≤ u) (times_of s) = pend-of c.time w.sites pend me i s there in
     let at : Here sc name w h s u.p u.st u.a = here sc name w h s u.p u.st u.a room.ticks (no-hands sc n) there u.stands u.ahead in

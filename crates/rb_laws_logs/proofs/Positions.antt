@@ -1,6 +1,7 @@
 -- For the law of record and replay: where a node stands in the rounds is known by its core and by its pending tick.
 use Rattle.std.proofs.Common.{◌≡◌, ℕ, ◌+◌, ◌<◌, ◌≤◌, Bool, true, [], ap, sym, ◌∙◌, subst, arith, inl, inr, Some, slice_get}
 use Rattle.std.proofs.lemmas.Bool.{cases_lt}
+use Rattle.std.proofs.lemmas.Option.{same_Some}
 use Rattle.rb_base.specs.Nodes.{Side}
 use Rattle.rb_base.specs.Sizes.{Sizes}
 use Rattle.rb_rules.specs.declared.plan.Plan.{Plan}
@@ -20,7 +21,6 @@ use Rattle.rb_laws_events.proofs.MomentBooks.{one-number}
 use Rattle.rb_laws_events.proofs.NodeActs.{IsInWindow}
 use Rattle.rb_laws_events.proofs.NodeTicks.{Like, like-in, state_in}
 use Rattle.rb_laws_events.proofs.RoundNodes.{AllStand, Stands, moments-stand}
-use Rattle.rb_laws_events.proofs.Settling.{some-same}
 use Rattle.rb_laws_events.proofs.StageOrder.{last_of}
 use Rattle.rb_laws_events.proofs.TickWindows.{IsTickIn, ends-before-later, first_of, get-window}
 use Rattle.rb_laws_events.proofs.WorldEvents.{state-frame}
@@ -43,7 +43,7 @@ stands-at sc sent now me i p s st a ticks h =
 -- all stages end at the same tick, whatever the node's state
 last-alike : (sizes : Sizes) (plan : Plan) (me : Side) (a b : NodeState) (n : ℕ) → n < stages_in sizes → last_of sizes plan me a n ≡ last_of sizes plan me b n
 last-alike sizes plan me a b n h =
-    ap (λ (w : Window). w.last) (some-same (window_numbered sizes plan me a n) (window_numbered sizes plan me b n) (sym (get-window sizes plan me a n h) ∙ get-window sizes plan me b n h))
+    ap (λ (w : Window). w.last) (same_Some (window_numbered sizes plan me a n) (window_numbered sizes plan me b n) (sym (get-window sizes plan me a n h) ∙ get-window sizes plan me b n h))
 
 -- a tick of two windows
 one-window : (sizes : Sizes) (plan : Plan) (me : Side) (a b : NodeState) (m n k : ℕ) → HasTicks plan → a.epoch ≡ b.epoch → n ≤ stages_in sizes → IsTickIn sizes plan me a m k → IsTickIn sizes plan me b n k

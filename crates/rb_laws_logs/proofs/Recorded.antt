@@ -6,6 +6,7 @@ use Rattle.std.proofs.lemmas.Bool.{cases_lt}
 use Rattle.std.proofs.lemmas.Bool.Decides.{nat_tests}
 use Rattle.std.proofs.lemmas.List.{append-nil, get_or_past}
 use Rattle.std.proofs.lemmas.List.Elements.{All-append, All-cons, All-nil}
+use Rattle.std.proofs.lemmas.Option.{same_Some}
 use Rattle.rb_base.specs.Nodes.{Side, other}
 use Rattle.rb_base.specs.Sizes.{Sizes}
 use Rattle.rb_base.specs.declared.event.Event.{Event}
@@ -36,11 +37,10 @@ use Rattle.rb_log.specs.Writing.{given, given_with, ticks_given, ticks_with}
 use Rattle.rb_log.proofs.RoundTrip.{written_read}
 use Rattle.rb_laws_events.proofs.DueEvents.{IsDue, IsReady}
 use Rattle.rb_laws_events.proofs.Receiving.{every-stands}
-use Rattle.rb_laws_events.proofs.RoundNodes.{good-counts}
 use Rattle.rb_laws_events.proofs.SameHeard.{Every}
-use Rattle.rb_laws_events.proofs.Settling.{some-same}
 use Rattle.rb_laws_events.proofs.WorldNodes.{worlds-known}
 use Rattle.rb_laws_events.proofs.WorldStands.{is_node, node-is, node-itself}
+use Rattle.rb_laws_agreement.proofs.Goodnesses.{good_counts}
 use Rattle.rb_laws_logs.specs.Given.{first_run, given_in, given_next, index_of, site_of}
 use Rattle.rb_laws_logs.specs.Laws.{EndsWithoutBreach, IsGoodThroughout, ALogTellsTheReport}
 use Rattle.rb_laws_logs.specs.Replays.{replay_text}
@@ -161,7 +161,7 @@ next-given sc name n node = by (step-sites sc n)
     own p first u =
         let d : Due = record { side = me; node = i; pending = p } in
         let due : IsDue w d = first-due sc n d first in
-        let ready : IsReady due.t s p = subst (λ s. IsReady due.t s p) (some-same due.s s (sym due.there ∙ node.there)) due.ready in
+        let ready : IsReady due.t s p = subst (λ s. IsReady due.t s p) (same_Some due.s s (sym due.there ∙ node.there)) due.ready in
         Given p due.t ready u first (given-by sc name w d s true true first node.there (node-itself me i) (before-end sc name w s node.there u.before))
 
     and-none : (a : Bool) (e : Event) → (if a && false then e ∷ [] else []) ≡ []
@@ -220,7 +220,7 @@ fits : (sc : Scenario) (name : NodeName) (n t : ℕ) (s : Site) (p : Pending) �
     → slice_get (due_of sc (first_run sc n)) 0 ≡ Some (record { side = kind_of name; node = index_of name; pending = p })
     → s.core.had + ticks_given (event_of sc (first_run sc n).ports (kind_of name) (index_of name) s.core p) ≤ 2 ^ 31
 fits sc name n t s (Tick k) lawful none there ready u first =
-    let a_is : ready.0 ≡ u.a = some-same ready.0 u.a (sym ready.1.0 ∙ u.ahead) in
+    let a_is : ready.0 ≡ u.a = same_Some ready.0 u.a (sym ready.1.0 ∙ u.ahead) in
     let at : u.a.tick ≡ k = ap (λ (a : Timed). a.tick) (sym a_is) ∙ ready.1.1.0 in
     let later : s.core.had ≤ u.a.tick = u.stands.next.later in
     let below : u.a.tick < 2 ^ 31 = u.stands.next.below in
@@ -238,7 +238,7 @@ pub record CanBeTold (sc : Scenario) (name : NodeName) (events : List Event) : T
   pub happen : All (λ (e : Event). MayHappen (count_of (other (kind_of name)) sc.sizes) e.kind) events
   pub ticks : ticks_in events ≤ 2 ^ 31
 
-ticks-append : (xs ys : List Event) → ticks_in (xs ++ ys) ≡ ticks_in xs + ticks_in ys
+pub ticks-append : (xs ys : List Event) → ticks_in (xs ++ ys) ≡ ticks_in xs + ticks_in ys
 ticks-append [] ys = omega arith
 ticks-append (x ∷ xs) ys = let rest : ticks_in (xs ++ ys) ≡ ticks_in xs + ticks_in ys = ticks-append xs ys in omega (arith, rest)
 
@@ -296,7 +296,7 @@ node-of sizes (node.Rmu i) h = h
 pub a-log-tells-the-report : ALogTellsTheReport
 a-log-tells-the-report sc lawful none name good events are t sizes plan =
     let told : CanBeTold sc name events = subst (CanBeTold sc name) (sym are.all) (can-be-told sc name lawful none good are.steps) in
-    let within : index_of name < count_of (kind_of name) sc.sizes = good-counts sc (kind_of name) (index_of name) sc.frames 0 good in
+    let within : index_of name < count_of (kind_of name) sc.sizes = good_counts sc (kind_of name) (index_of name) sc.frames 0 good in
     let tellable : IsTellable (record { sizes = sc.sizes; plan = sc.plan }) name events = record {
       shape = lawful.sizes;
       plan = lawful.plan;

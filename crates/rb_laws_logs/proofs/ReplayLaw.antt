@@ -1,9 +1,10 @@
 -- The law of record and replay: the node at the begin of the run, at its end, and the text that comes of both.
 use Rattle.std.proofs.Common.{◌≡◌, ℕ, zero, suc, ◌+◌, ◌*◌, ◌-◌, ◌%◌, ◌<◌, ◌≤◌, ◌==◌, ◌&&◌, ◌||◌, ◌⊎◌, not, nat_lt, Bool, true, false, List, [], ◌∷◌, ◌++◌, length, refl, ap, sym, ◌∙◌, subst, arith, inl, inr, Option, Some, None, is_some, slice_get, option_map, if◌then◌else◌}
 use Rattle.std.specs.Prelude.{flat_map}
-use Rattle.std.proofs.lemmas.Bool.{cases_lt, lt-ltb}
+use Rattle.std.proofs.lemmas.Bool.{cases_lt, eqb-true, lt-ltb}
 use Rattle.std.proofs.lemmas.Bool.Decides.{nat_tests}
 use Rattle.std.proofs.lemmas.List.{append-nil}
+use Rattle.std.proofs.lemmas.Option.{same_Some}
 use Rattle.rb_base.specs.Nodes.{Side}
 use Rattle.rb_base.specs.Sizes.{sync_slot_of}
 use Rattle.rb_rules.specs.declared.cause.Cause.{Cause}
@@ -11,6 +12,7 @@ use Rattle.rb_rules.specs.Judging.{verdict_of}
 use Rattle.rb_rules.specs.Book.{frame_records, judged_of}
 use Rattle.rb_base.specs.declared.node.NodeName.{NodeName}
 use Rattle.rb_base.specs.declared.values.Place.{Place}
+use Rattle.rb_base.proofs.Plain.{and_second, true-false}
 use Rattle.rb_rules.specs.Book.{Begun, Book, Each, Milestone, Record, Row, after_stage, after_verdict, map_each, of_kind, with_frame, with_stage}
 use Rattle.rb_rules.specs.Book.Milestone.{Begin, End, Stage}
 use Rattle.rb_rules.specs.Book.Record.{Ended}
@@ -36,16 +38,17 @@ use Rattle.rb_laws_events.proofs.MomentBooks.{SettlesNext, next_of, settles-next
 use Rattle.rb_laws_events.proofs.NodeActs.{HasRoom}
 use Rattle.rb_laws_events.proofs.OneEvent.{WorldInRounds}
 use Rattle.rb_laws_events.proofs.OneTake.{StandsInRounds}
-use Rattle.rb_laws_events.proofs.RoundNodes.{good-counts, item-at, slot_numbered}
-use Rattle.rb_laws_events.proofs.Settling.{each-at, some-same}
+use Rattle.rb_laws_events.proofs.RoundNodes.{item-at, slot_numbered}
+use Rattle.rb_laws_events.proofs.Settling.{each-at}
 use Rattle.rb_laws_events.proofs.SettlingFrames.{IsOfMoment}
 use Rattle.rb_laws_events.proofs.TickRooms.{has-room}
 use Rattle.rb_laws_events.proofs.TickWindows.{first_of}
 use Rattle.rb_laws_events.proofs.ToldInOrder.{NodeTold}
-use Rattle.rb_laws_events.proofs.ToldSoFar.{PendsFirst, first-pends}
+use Rattle.rb_laws_events.proofs.ToldSoFar.{PendsFirst, first-pends, proceed-core}
 use Rattle.rb_laws_events.proofs.WorldBooks.{happens-book}
 use Rattle.rb_laws_events.proofs.WorldNodes.{next-sites}
 use Rattle.rb_laws_events.proofs.WorldStands.{IsUp, sent_by}
+use Rattle.rb_laws_agreement.proofs.Goodnesses.{good_counts}
 use Rattle.rb_laws_logs.specs.Given.{first_run, first_step, index_of, site_of, step_with}
 use Rattle.rb_laws_logs.specs.Laws.{EndsWithoutBreach, IsGoodThroughout, ReplayIsTheReport, lines_after, report_of_node}
 use Rattle.rb_laws_logs.specs.Replays.{epoch_lines, frames_in, frames_with, replay_text}
@@ -54,7 +57,7 @@ use Rattle.rb_laws_logs.proofs.NoBreach.{IsLastBegin, goes-on, last-begin, last-
 use Rattle.rb_laws_logs.proofs.NodeLines.{lines-append, told_up_to}
 use Rattle.rb_laws_logs.proofs.NodeRun.{IsDone, NodeAt, StepSites, Underway, acts_so_far, step-sites}
 use Rattle.rb_laws_logs.proofs.NodeRun.StepSites.{Still, Taken}
-use Rattle.rb_laws_logs.proofs.NodeSites.{proceed-core, rises, Rises}
+use Rattle.rb_laws_logs.proofs.NodeSites.{rises, Rises}
 use Rattle.rb_laws_logs.proofs.NodeSteps.{Here, here, node-step}
 use Rattle.rb_laws_logs.proofs.Positions.{StandsAt, stands-at}
 use Rattle.rb_laws_logs.proofs.RoundLines.{AreTold, are-told, good-moment, none-waits}
@@ -67,7 +70,7 @@ first-core : (sc : Scenario) (me : Side) (i : ℕ) (s : Site) → i < count_of m
 unfolding first_world
 first-core sc me i s within there =
     let make : Side → ℕ → Site = λ me i. proceed sc me i (fresh_site sc.sizes me) in
-    let same : make me i ≡ s = some-same (make me i) s (sym (get-made sc.sizes make me i within) ∙ there) in
+    let same : make me i ≡ s = same_Some (make me i) s (sym (get-made sc.sizes make me i within) ∙ there) in
     ap (λ (z : Site). z.core) (sym same) ∙ proceed-core sc me i (fresh_site sc.sizes me)
 
 moment-zero : (sc : Scenario) → (moment sc [] 0).frame ≡ 0
@@ -83,7 +86,7 @@ node-first sc name lawful none good =
     let empty : w.hands ≡ [] = no-hands sc 0 in
     let world : WorldInRounds sc 0 at_begin w = first-in-rounds sc lawful room in
     let now_good : is_good_at sc (moment sc [] 0) me i ≡ true = good-moment sc name 0 good (goes-on sc none 0 (omega arith)) in
-    let within : i < count_of me sc.sizes = good-counts sc me i (moment sc [] 0).frame (slot_numbered sc.sizes (moment sc [] 0).window) now_good in
+    let within : i < count_of me sc.sizes = good_counts sc me i (moment sc [] 0).frame (slot_numbered sc.sizes (moment sc [] 0).window) now_good in
     let many : length (of_kind me w.sites) ≡ count_of me sc.sizes = world.sites.counts me in
     let site = item-at (of_kind me w.sites) i (omega (arith, within, many)) in
     let s : Site = site.0 in
@@ -97,8 +100,8 @@ node-first sc name lawful none good =
     let from : up.st.epoch + first_of sc.sizes sc.plan me up.st (moment sc [] 0).window ≤ s.core.had = up.stands.from in
     let pends : PendsFirst sc [] me i 0 s = first-pends sc [] sent 0 me i 0 s up.st up.a up.stands (omega (arith, had, from)) in
     let stands : StandsAt sc me i 0 s.core up.st up.a = stands-at sc sent 0 me i 0 s up.st up.a room.ticks up.stands in
-    let a_is : pends.a ≡ up.a = some-same pends.a up.a (sym pends.ahead ∙ up.stands.receives.pends) in
-    let st_is : pends.st ≡ up.st = some-same pends.st up.st (sym pends.state ∙ stands.state) in
+    let a_is : pends.a ≡ up.a = same_Some pends.a up.a (sym pends.ahead ∙ up.stands.receives.pends) in
+    let st_is : pends.st ≡ up.st = same_Some pends.st up.st (sym pends.state ∙ stands.state) in
     let first : up.st.epoch ≡ up.a.tick = sym (ap (λ (z : NodeState). z.epoch) st_is) ∙ sym pends.first ∙ ap (λ (a : Timed). a.tick) a_is in
     let begins : epoch_at sc.sizes me up.st up.a.tick ≡ Some (epoch_of sc.sizes me up.st) = now-begins sc.sizes me up.st up.a.tick first in
     let zero_frame : up.st.frame ≡ 0 = stands.frame ∙ moment-zero sc in
@@ -128,12 +131,6 @@ nodes-at sc name lawful none good zero = node-first sc name lawful none good
 nodes-at sc name lawful none good (suc n) = node-step sc name n lawful none good (nodes-at sc name lawful none good n)
 
 -- At the end.
-
-true-false : {P : Type 0} → true ≡ false → P
-true-false e = absurd (cc)
-
-same-number : (a b : ℕ) → (a == b) ≡ true → a ≡ b
-same-number a b h = grind (arith, nat_tests)
 
 stage-end : (place : Place) → Stage place ≡ End → ⊥
 stage-end place e = cc
@@ -174,12 +171,8 @@ frame-end sc frame begun b up = by b.ended (frame == sc.frames) refl
       }
     ]).upcoming ≡ End → frame ≡ sc.frames
     by true t is h = absurd (begin-end frame (sym up ∙ h))
-    by false true is h = same-number frame sc.frames is
+    by false true is h = eqb-true frame sc.frames is
     by false false is h = absurd (stage-end _ h)
-
-and-second : (a b : Bool) → (a && b) ≡ true → b ≡ true
-and-second true b h = h
-and-second false b h = cc
 
 -- the end comes next before, or all have told of the begin of the frame after the last
 abbrev EndsNext : Scenario → World → Type 0
@@ -197,7 +190,7 @@ next-end sc way w = by (comes_so sc way w.book.upcoming && is_complete sc w.site
 
     by : (b : Bool) → (comes_so sc way w.book.upcoming && is_complete sc w.sites w.book.upcoming) ≡ b
         → (elim b as (λ _. World) [ true ↦ record w { book = book_with sc w.sites w.book w.book.upcoming } | false ↦ w ]).book.upcoming ≡ End → EndsNext sc w
-    by true e h = settled w.book.upcoming refl (and-second (comes_so sc way w.book.upcoming) (is_complete sc w.sites w.book.upcoming) e) h
+    by true e h = settled w.book.upcoming refl (and_second (comes_so sc way w.book.upcoming) (is_complete sc w.sites w.book.upcoming) e) h
     by false e h = inl h
 
 settle-end : (sc : Scenario) (way : Way) (n : ℕ) (w : World) → (settle sc way n w).book.upcoming ≡ End → EndsNext sc w
@@ -263,7 +256,7 @@ told-in sc name n lawful none good node complete = by node.how
     found (Some b) e h = (b, (e, at (b.frame == sc.frames) refl h))
       where
         at : (t : Bool) → (b.frame == sc.frames) ≡ t → is_some (elim t as (λ _. Option Begun) [ true ↦ Some b | false ↦ None ]) ≡ true → b.frame ≡ sc.frames
-        at true f g = same-number b.frame sc.frames f
+        at true f g = eqb-true b.frame sc.frames f
         at false f g = cc
 
     its : (b : Begun) × ((s.begun ≡ Some b) × (b.frame ≡ sc.frames))
@@ -303,7 +296,7 @@ step-ends sc name lawful none good n before ds e h step = by ds e h step
     complete_then : is_complete sc (first_run sc (suc n)).sites (Begin sc.frames) ≡ true → IsIn sc name (first_run sc (suc n))
     complete_then complete s there =
         let next : NodeAt sc name (suc n) = nodes-at sc name lawful none good (suc n) in
-        let same : next.s ≡ s = some-same next.s s (sym next.there ∙ there) in
+        let same : next.s ≡ s = same_Some next.s s (sym next.there ∙ there) in
         subst (λ (s : Site). sc.frames ≤ s.core.state.frame) same (told-in sc name (suc n) lawful none good next complete)
 
     by : (ds : List Due) → due_of sc w ≡ ds → (step_with sc w ds).book.upcoming ≡ End → StepSites sc n → IsIn sc name (first_run sc (suc n))
@@ -319,7 +312,7 @@ step-ends sc name lawful none good n before ds e h step = by ds e h step
           let node : NodeAt sc name n = nodes-at sc name lawful none good n in
           let was : sc.frames ≤ node.s.core.state.frame = before (sym (ap (λ (b : Book). b.upcoming) (happens-book sc w d)) ∙ up) node.s node.there in
           let risen : Rises sc w d (kind_of name) (index_of name) node.s = rises sc w d (kind_of name) (index_of name) node.s node.there in
-          let same : risen.z ≡ s = some-same risen.z s (sym risen.there ∙ ap (λ sites. slice_get (of_kind (kind_of name) sites) (index_of name)) (sym is) ∙ there) in
+          let same : risen.z ≡ s = same_Some risen.z s (sym risen.there ∙ ap (λ sites. slice_get (of_kind (kind_of name) sites) (index_of name)) (sym is) ∙ there) in
           let more : node.s.core.state.frame ≤ risen.z.core.state.frame = risen.frame in
           subst (λ (s : Site). sc.frames ≤ s.core.state.frame) same (omega (arith, was, more))
     ]

@@ -2,7 +2,7 @@
 -- a slot whose record is still to come.
 use Rattle.std.proofs.Common.{◌≡◌, ℕ, zero, suc, ◌+◌, ◌*◌, ◌/◌, ◌%◌, ◌<◌, ◌≤◌, ◌==◌, ◌&&◌, min, nat_lt, not, Bool, true, false, List, [], ◌∷◌, ◌++◌, append_assoc, refl, ap, sym, ◌∙◌, subst, arith, inl, inr, Option, Some, None, slice_get, if◌then◌else◌}
 use Rattle.std.specs.Prelude.{flat_map, filter_map, map}
-use Rattle.std.proofs.lemmas.Bool.{cases_lt, lt-ltb, le-ltb}
+use Rattle.std.proofs.lemmas.Bool.{and_from, and_left, and_right, cases_lt, cond-false, cond-true, eq-eqb, le-ltb, lt-ltb, ne_eqb}
 use Rattle.std.proofs.lemmas.Bool.Decides.{nat_tests}
 use Rattle.std.proofs.lemmas.List.{append-nil}
 use Rattle.rb_base.specs.Counting.{numbers}
@@ -10,6 +10,7 @@ use Rattle.rb_base.specs.Nodes.{Side}
 use Rattle.rb_base.specs.Sizes.{Sizes, sync_slot_of}
 use Rattle.rb_base.specs.declared.node.NodeName.{NodeName}
 use Rattle.rb_base.specs.declared.values.Place.{Place}
+use Rattle.rb_base.proofs.Plain.{true-false}
 use Rattle.rb_rules.specs.declared.cause.Cause.{Cause}
 use Rattle.rb_rules.specs.declared.plan.Window.{Window}
 use Rattle.rb_rules.specs.declared.record.SlotLine.{SlotLine}
@@ -29,11 +30,13 @@ use Rattle.rb_rules.proofs.RoundStates.{HasTicks}
 use Rattle.rb_laws_events.specs.Closing.{stages_in}
 use Rattle.rb_laws_events.proofs.CloseOrder.{IsFrameLater, IsWindowLater, frame-later, window-later}
 use Rattle.rb_laws_events.proofs.Invariant.{is_good_at}
-use Rattle.rb_laws_events.proofs.MomentBooks.{end-ended, no-window, stage-is-of, stage-window}
+use Rattle.rb_laws_events.proofs.MomentBooks.{no-window, stage-is-of, stage-window}
 use Rattle.rb_laws_events.proofs.MomentSteps.{good-state}
-use Rattle.rb_laws_events.proofs.RoundNodes.{AllStand, Stands, good-earlier, moments-stand, slot-is, slot_numbered}
+use Rattle.rb_laws_events.proofs.RoundNodes.{AllStand, Stands, moments-stand, slot-is, slot_numbered}
 use Rattle.rb_laws_events.proofs.SettlingFrames.{RunsIn, runs-in}
 use Rattle.rb_laws_events.proofs.Telling.{tail-stage}
+use Rattle.rb_laws_agreement.proofs.Agreement.{ended-end}
+use Rattle.rb_laws_agreement.proofs.Goodnesses.{good_before}
 use Rattle.rb_laws_logs.specs.Given.{index_of}
 use Rattle.rb_laws_logs.specs.Laws.{IsGoodThroughout, delivered_by, lines_after}
 use Rattle.rb_laws_logs.specs.Replays.{epoch_lines}
@@ -41,9 +44,6 @@ use Rattle.rb_laws_logs.proofs.Gathered.{if_there}
 use Rattle.rb_laws_logs.proofs.NodeLines.{FrameLines, block_text, frame-lines, lines-append, newest-append, newest_after, silent-window, slot-lines, state_of, step_text, told_up_to, window_text}
 
 -- A run that goes on.
-
-true-false : {P : Type 0} → true ≡ false → P
-true-false e = absurd (cc)
 
 pub still-running : (sc : Scenario) (p : ℕ) → (moment sc [] (suc p)).book.ended ≡ false → (moment sc [] p).book.ended ≡ false
 still-running sc p h = by (moment sc [] p).book.ended refl
@@ -62,15 +62,12 @@ not-over sc p h = by ((moment sc [] p).frame == sc.frames) refl
     by : (b : Bool) → ((moment sc [] p).frame == sc.frames) ≡ b → b ≡ false
     by false e = refl
     by true e =
-        true-false (sym (ap (λ b. (stepped sc [] (moment sc [] p) b (nat_lt (moment sc [] p).window (windows_in sc.sizes))).book.ended) e ∙ end-ended (moment sc [] p).book) ∙ h)
+        true-false (sym (ap (λ b. (stepped sc [] (moment sc [] p) b (nat_lt (moment sc [] p).window (windows_in sc.sizes))).book.ended) e ∙ ended-end (moment sc [] p).book) ∙ h)
 
 -- the node is good in each moment of it
-differs : (a b : ℕ) → (a == b) ≡ false → a ≤ b → a < b
-differs a b h le = grind (arith, nat_tests)
-
 pub good-begin : (sc : Scenario) (name : NodeName) (frame : ℕ) → IsGoodThroughout sc name → frame ≤ sc.frames → is_good sc (kind_of name) (index_of name) frame 0 ≡ true
 good-begin sc name frame good le = elim (cases_lt frame sc.frames) [
-  | inl lt ↦ good-earlier sc (kind_of name) (index_of name) frame sc.frames 0 0 lt good
+  | inl lt ↦ good_before sc (kind_of name) (index_of name) frame sc.frames 0 0 lt good
   | inr ge ↦ let e : frame ≡ sc.frames = omega arith in ap (λ f. is_good sc (kind_of name) (index_of name) f 0) e ∙ good
 ]
 
@@ -81,7 +78,7 @@ good-moment sc name p good going =
     let runs : RunsIn sc m = runs-in sc [] p going in
     let bound : m.frame ≤ sc.frames = runs.bound in
     elim (cases_lt m.frame sc.frames) [
-      | inl lt ↦ good-earlier sc (kind_of name) (index_of name) m.frame sc.frames (slot_numbered sc.sizes m.window) 0 lt good
+      | inl lt ↦ good_before sc (kind_of name) (index_of name) m.frame sc.frames (slot_numbered sc.sizes m.window) 0 lt good
       | inr ge ↦
           let e : m.frame ≡ sc.frames = omega arith in
           let w : m.window ≡ 0 = runs.at_first e in
@@ -117,24 +114,13 @@ not-two n k e h = grind (arith, nat_tests)
 four-not-two : (n : ℕ) → n ≡ 4 → (n == 2) ≡ false
 four-not-two n e = grind (arith, nat_tests)
 
-same-is : (a b : ℕ) → a ≡ b → (a == b) ≡ true
-same-is a b h = grind (arith, nat_tests)
-
-left-false : (a b : Bool) → a ≡ false → (a && b) ≡ false
-left-false true b h = cc
-left-false false b h = refl
-
-right-false : (a b : Bool) → b ≡ false → (a && b) ≡ false
-right-false true b h = h
-right-false false b h = refl
-
 pub nothing-told : (sc : Scenario) (name : NodeName) (m : Moment) → HasState sc name m → m.window ≤ stages_in sc.sizes → is_second sc.sizes m.window ≡ false → window_text sc name m ≡ []
 nothing-told sc name m state within not_second =
     silent-window sc m name st state.there (elim (cases_lt m.window (stages_in sc.sizes)) [
       | inl lt ↦
           let is_stage : (window_in sc m (kind_of name) st).stage ≡ m.window % 3 + 1 = stage-is-of sc.sizes sc.plan (kind_of name) st m.window lt in
           by (nat_lt m.window (3 * sync_slot_of sc.sizes)) (m.window % 3 == 1) refl refl not_second is_stage
-      | inr ge ↦ left-false stage_two slot_below (four-not-two (window_in sc m (kind_of name) st).stage (tail-stage sc.sizes sc.plan (kind_of name) st m.window (omega arith)))
+      | inr ge ↦ and_left stage_two slot_below (four-not-two (window_in sc m (kind_of name) st).stage (tail-stage sc.sizes sc.plan (kind_of name) st m.window (omega arith)))
     ])
   where
     st : NodeState
@@ -152,10 +138,10 @@ nothing-told sc name m state within not_second =
     by : (b c : Bool) → nat_lt m.window (3 * sync_slot_of sc.sizes) ≡ b → (m.window % 3 == 1) ≡ c → (b && c) ≡ false
         → (window_in sc m (kind_of name) st).stage ≡ m.window % 3 + 1 → (stage_two && slot_below) ≡ false
     by true true e f h stage = cc
-    by b false e f h stage = left-false stage_two slot_below (not-two (window_in sc m (kind_of name) st).stage m.window stage f)
+    by b false e f h stage = and_left stage_two slot_below (not-two (window_in sc m (kind_of name) st).stage m.window stage f)
     by false true e f h stage =
-        right-false stage_two slot_below
-        (ap not (same-is (window_in sc m (kind_of name) st).slot (sync_slot_of sc.sizes)
+        and_right stage_two slot_below
+        (ap not (eq-eqb (window_in sc m (kind_of name) st).slot (sync_slot_of sc.sizes)
         (slot-is sc.sizes sc.plan (kind_of name) st m.window ∙ in_sync m.window (sync_slot_of sc.sizes) e)))
 
 -- Lines that wait.
@@ -212,14 +198,6 @@ stage-book sc place rows b = by b.ended refl (verdict_of stages)
     by false e (Some cause) h = true-false h
     by false e None h = record { given = refl; lines = refl }
 
-if-true : {X : Type 0} (b : Bool) (x y : X) → b ≡ true → (if b then x else y) ≡ x
-if-true true x y h = refl
-if-true false x y h = cc
-
-if-false : {X : Type 0} (b : Bool) (x y : X) → b ≡ false → (if b then x else y) ≡ y
-if-false true x y h = cc
-if-false false x y h = refl
-
 all-empty : (a b c d : List ℕ) → a ≡ [] → b ≡ [] → c ≡ [] → d ≡ [] → a ++ b ≡ c ++ d
 all-empty a b c d e f g h = rw (e, f, g, h) refl
 
@@ -229,12 +207,6 @@ slot-record : (name : NodeName) (newest frame slot : ℕ) (lines : List SlotLine
     × (newest_after newest (if b then Slot frame slot lines ∷ [] else []) ≡ newest)
 slot-record name newest frame slot lines true = (append-nil (flat_map (delivered_by name frame slot) lines), refl)
 slot-record name newest frame slot lines false = (refl, refl)
-
-not-equal : (a b : ℕ) → (a ≡ b → ⊥) → (a == b) ≡ false
-not-equal a b h = grind (arith, nat_tests)
-
-both-true : (a b : Bool) → a ≡ true → b ≡ true → (a && b) ≡ true
-both-true a b e f = rw (e, f) refl
 
 record Counts (sizes : Sizes) (n : ℕ) : Type 0 where
   waits : waits_now sizes n ≡ ((n % 3 + 1 == 3) && nat_lt (slot_numbered sizes n) (sync_slot_of sizes))
@@ -249,7 +221,7 @@ counts sizes n = record {
     | inr ge ↦
         let above : sync_slot_of sizes ≤ slot_numbered sizes n = large n (sync_slot_of sizes) ge in
         ap (λ b. b && (n % 3 == 2)) (le-ltb n (3 * sync_slot_of sizes) ge)
-        ∙ sym (right-false (n % 3 + 1 == 3) (nat_lt (slot_numbered sizes n) (sync_slot_of sizes)) (le-ltb (slot_numbered sizes n) (sync_slot_of sizes) above))
+        ∙ sym (and_right (n % 3 + 1 == 3) (nat_lt (slot_numbered sizes n) (sync_slot_of sizes)) (le-ltb (slot_numbered sizes n) (sync_slot_of sizes) above))
   ];
 }
   where
@@ -337,23 +309,23 @@ stage-adds sc name p state stage going newest =
     added = slot-record name newest_now m.frame slot m.book.lines (waits_now sc.sizes n)
 
     text : step_text sc name m next ≡ window_text sc name m
-    text = if-true (nat_lt n (windows_in sc.sizes)) (window_text sc name m) (block_text sc name next) in_frame
+    text = cond-true (nat_lt n (windows_in sc.sizes)) (window_text sc name m) (block_text sc name next) in_frame
 
     -- what waits then is what the window told
     waits : waiting sc name next ≡ window_text sc name m
     waits = elim (cases_lt n (3 * sync_slot_of sc.sizes)) [
       | inr ge ↦
-          if-false (waits_now sc.sizes next.window) _ [] (left-false (nat_lt next.window (3 * sync_slot_of sc.sizes)) (next.window % 3 == 2)
+          cond-false (waits_now sc.sizes next.window) _ [] (and_left (nat_lt next.window (3 * sync_slot_of sc.sizes)) (next.window % 3 == 2)
           (le-ltb next.window (3 * sync_slot_of sc.sizes) (let e : next.window ≡ n + 1 = later.window in omega (arith, e, ge))))
-          ∙ sym (nothing-told sc name m state (omega (arith, stage)) (left-false (nat_lt n (3 * sync_slot_of sc.sizes)) (n % 3 == 1) (le-ltb n (3 * sync_slot_of sc.sizes) ge)))
+          ∙ sym (nothing-told sc name m state (omega (arith, stage)) (and_left (nat_lt n (3 * sync_slot_of sc.sizes)) (n % 3 == 1) (le-ltb n (3 * sync_slot_of sc.sizes) ge)))
       | inl lt ↦ by (n % 3 == 1) refl lt
     ]
       where
         next_two : (n k : ℕ) → k ≡ n + 1 → (n % 3 == 1) ≡ true → (k % 3 == 2) ≡ true
-        next_two n k e h = let one : n % 3 ≡ 1 = grind (arith, nat_tests) in same-is (k % 3) 2 (omega arith)
+        next_two n k e h = let one : n % 3 ≡ 1 = grind (arith, nat_tests) in eq-eqb (k % 3) 2 (omega arith)
 
         next_not : (n k : ℕ) → k ≡ n + 1 → (n % 3 == 1) ≡ false → (k % 3 == 2) ≡ false
-        next_not n k e h = not-equal (k % 3) 2 (λ f. let g : n % 3 ≡ 1 = omega (arith, e, f) in true-false (sym (same-is (n % 3) 1 g) ∙ h))
+        next_not n k e h = ne_eqb (k % 3) 2 (λ f. let g : n % 3 ≡ 1 = omega (arith, e, f) in true-false (sym (eq-eqb (n % 3) 1 g) ∙ h))
 
         still_below : (n s : ℕ) → n < 3 * s → (n % 3 == 1) ≡ true → n + 1 < 3 * s
         still_below n s h g = let one : n % 3 ≡ 1 = grind (arith, nat_tests) in omega (arith, h, one)
@@ -363,13 +335,13 @@ stage-adds sc name p state stage going newest =
 
         by : (b : Bool) → (n % 3 == 1) ≡ b → n < 3 * sync_slot_of sc.sizes → waiting sc name next ≡ window_text sc name m
         by false e lt =
-            if-false (waits_now sc.sizes next.window) _ [] (right-false (nat_lt next.window (3 * sync_slot_of sc.sizes)) (next.window % 3 == 2) (next_not n next.window later.window e))
-            ∙ sym (nothing-told sc name m state (omega (arith, stage)) (right-false (nat_lt n (3 * sync_slot_of sc.sizes)) (n % 3 == 1) e))
+            cond-false (waits_now sc.sizes next.window) _ [] (and_right (nat_lt next.window (3 * sync_slot_of sc.sizes)) (next.window % 3 == 2) (next_not n next.window later.window e))
+            ∙ sym (nothing-told sc name m state (omega (arith, stage)) (and_right (nat_lt n (3 * sync_slot_of sc.sizes)) (n % 3 == 1) e))
         by true e lt =
             let below : next.window < 3 * sync_slot_of sc.sizes = subst (λ k. k < 3 * sync_slot_of sc.sizes) (sym later.window) (still_below n (sync_slot_of sc.sizes) lt e) in
-            let two : (n % 3 + 1 == 2) ≡ true = let one : n % 3 ≡ 1 = grind (arith, nat_tests) in same-is (n % 3 + 1) 2 (omega arith) in
-            let told : next.book.lines ≡ filter_map line_in rows.bius = ap (λ (b : Book). b.lines) book_is ∙ book.lines ∙ if-true (n % 3 + 1 == 2) (filter_map line_in rows.bius) m.book.lines two in
-            if-true (waits_now sc.sizes next.window) _ [] (both-true (nat_lt next.window (3 * sync_slot_of sc.sizes)) (next.window % 3 == 2)
+            let two : (n % 3 + 1 == 2) ≡ true = let one : n % 3 ≡ 1 = grind (arith, nat_tests) in eq-eqb (n % 3 + 1) 2 (omega arith) in
+            let told : next.book.lines ≡ filter_map line_in rows.bius = ap (λ (b : Book). b.lines) book_is ∙ book.lines ∙ cond-true (n % 3 + 1 == 2) (filter_map line_in rows.bius) m.book.lines two in
+            cond-true (waits_now sc.sizes next.window) _ [] (and_from (nat_lt next.window (3 * sync_slot_of sc.sizes)) (next.window % 3 == 2)
             (lt-ltb next.window (3 * sync_slot_of sc.sizes) below) (next_two n next.window later.window e))
             ∙ ap (flat_map (delivered_by name next.frame (slot_numbered sc.sizes next.window))) told
             ∙ ap (λ f. flat_map (delivered_by name f (slot_numbered sc.sizes next.window)) (filter_map line_in rows.bius)) later.frame
@@ -404,10 +376,10 @@ tail-adds sc name p state tail going newest =
       more = [];
       given = ap (λ (b : Book). b.given) same ∙ sym (append-nil m.book.given);
       lines = all-empty [] (waiting sc name next) (waiting sc name m) (step_text sc name m next) refl
-          (if-false (waits_now sc.sizes next.window) _ [] (left-false (nat_lt next.window (3 * sync_slot_of sc.sizes)) (next.window % 3 == 2) (le-ltb next.window (3 * sync_slot_of sc.sizes) (omega (arith, window, above)))))
-          (if-false (waits_now sc.sizes m.window) _ [] (left-false (nat_lt m.window (3 * sync_slot_of sc.sizes)) (m.window % 3 == 2) (le-ltb m.window (3 * sync_slot_of sc.sizes) above)))
-          (if-true (nat_lt m.window (windows_in sc.sizes)) (window_text sc name m) (block_text sc name next) in_frame
-          ∙ nothing-told sc name m state (omega (arith, tail)) (left-false (nat_lt m.window (3 * sync_slot_of sc.sizes)) (m.window % 3 == 1) (le-ltb m.window (3 * sync_slot_of sc.sizes) above)));
+          (cond-false (waits_now sc.sizes next.window) _ [] (and_left (nat_lt next.window (3 * sync_slot_of sc.sizes)) (next.window % 3 == 2) (le-ltb next.window (3 * sync_slot_of sc.sizes) (omega (arith, window, above)))))
+          (cond-false (waits_now sc.sizes m.window) _ [] (and_left (nat_lt m.window (3 * sync_slot_of sc.sizes)) (m.window % 3 == 2) (le-ltb m.window (3 * sync_slot_of sc.sizes) above)))
+          (cond-true (nat_lt m.window (windows_in sc.sizes)) (window_text sc name m) (block_text sc name next) in_frame
+          ∙ nothing-told sc name m state (omega (arith, tail)) (and_left (nat_lt m.window (3 * sync_slot_of sc.sizes)) (m.window % 3 == 1) (le-ltb m.window (3 * sync_slot_of sc.sizes) above)));
       newest = newest ∙ sym later.frame;
     }
 
@@ -442,7 +414,7 @@ frame-book sc frame begun b = by b.ended refl
 -- at a window's number 0 nothing waits
 pub none-waits : (sc : Scenario) (name : NodeName) (m : Moment) → m.window ≡ 0 → waiting sc name m ≡ []
 none-waits sc name m first =
-    if-false (waits_now sc.sizes m.window) _ [] (right-false (nat_lt m.window (3 * sync_slot_of sc.sizes)) (m.window % 3 == 2) (ap (λ k. k % 3 == 2) first))
+    cond-false (waits_now sc.sizes m.window) _ [] (and_right (nat_lt m.window (3 * sync_slot_of sc.sizes)) (m.window % 3 == 2) (ap (λ k. k % 3 == 2) first))
 
 end-adds : (sc : Scenario) (name : NodeName) (p : ℕ) → HasTicks sc.plan → IsGoodThroughout sc name → windows_in sc.sizes ≤ (moment sc [] p).window
     → (moment sc [] (suc p)).book.ended ≡ false → newest_after 0 (moment sc [] p).book.given ≡ (moment sc [] p).frame
@@ -473,8 +445,8 @@ end-adds sc name p ticks good over going newest =
       lines = ap (λ l. lines_after name (newest_after 0 m.book.given) (frame_records (m.frame + 1) bs) ++ l) (none-waits sc name next window)
           ∙ append-nil (lines_after name (newest_after 0 m.book.given) (frame_records (m.frame + 1) bs)) ∙ lines.lines
           ∙ sym (ap (λ o. if_there (λ st. epoch_lines name (Some (epoch_of sc.sizes (kind_of name) st))) o) state.there)
-          ∙ sym (if-false (nat_lt m.window (windows_in sc.sizes)) (window_text sc name m) (block_text sc name next) outside)
-          ∙ ap (λ l. l ++ step_text sc name m next) (sym (if-false (waits_now sc.sizes m.window) _ [] (left-false (nat_lt m.window (3 * sync_slot_of sc.sizes)) (m.window % 3 == 2) (le-ltb m.window (3 * sync_slot_of sc.sizes) above))));
+          ∙ sym (cond-false (nat_lt m.window (windows_in sc.sizes)) (window_text sc name m) (block_text sc name next) outside)
+          ∙ ap (λ l. l ++ step_text sc name m next) (sym (cond-false (waits_now sc.sizes m.window) _ [] (and_left (nat_lt m.window (3 * sync_slot_of sc.sizes)) (m.window % 3 == 2) (le-ltb m.window (3 * sync_slot_of sc.sizes) above))));
       newest = lines.newest_is ∙ sym frame;
     }
 

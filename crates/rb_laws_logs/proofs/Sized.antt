@@ -3,14 +3,13 @@ use Rattle.std.proofs.Common.{◌≡◌, ℕ, zero, suc, ◌+◌, ◌<◌, ◌�
 use Rattle.std.specs.Prelude.{flat_map}
 use Rattle.std.specs.List.{range_with_len}
 use Rattle.std.proofs.lemmas.List.Elements.{All-head, All-tail}
-use Rattle.std.proofs.lemmas.Option.{slice_get_within}
+use Rattle.std.proofs.lemmas.Option.{same_Some, slice_get_within}
 use Rattle.rb_base.specs.Nodes.{Side, other}
 use Rattle.rb_base.specs.declared.values.Place.{Place}
-use Rattle.rb_rules.specs.declared.closing.Closed.{Closed}
+use Rattle.rb_base.proofs.Plain.{option_map-back}
 use Rattle.rb_rules.specs.declared.message.Message.{Message}
 use Rattle.rb_rules.specs.declared.message.Version.{Version}
 use Rattle.rb_rules.specs.declared.message.Version.TheVariants as version
-use Rattle.rb_rules.specs.declared.record.Epoch.{Epoch}
 use Rattle.rb_rules.specs.declared.say.Content.{Content}
 use Rattle.rb_rules.specs.declared.say.Content.TheVariants.{Word, Fault, Sync, Raw}
 use Rattle.rb_rules.specs.declared.say.Say.{Say}
@@ -19,7 +18,6 @@ use Rattle.rb_rules.specs.Core.{Act}
 use Rattle.rb_rules.specs.Goodness.{Scenario, clock_of, is_good}
 use Rattle.rb_rules.specs.Hearing.{Coming, Sending, Span, bytes_of, coming_of, coming_said, is_said, said_by}
 use Rattle.rb_rules.specs.Lawful.{IsContent, IsLawful, IsSayOf}
-use Rattle.rb_rules.specs.NodeState.{NodeState}
 use Rattle.rb_rules.specs.Ports.{PortState}
 use Rattle.rb_rules.specs.Slots.{count_of, same_side}
 use Rattle.rb_rules.specs.Spelling.{spelling_of}
@@ -28,8 +26,7 @@ use Rattle.rb_rules.specs.WorldStep.Pending.{Tick, Arrival}
 use Rattle.rb_rules.proofs.WindowNumbers.{get-each, get-made}
 use Rattle.rb_laws_events.proofs.Receiving.{every-without}
 use Rattle.rb_laws_events.proofs.SameHeard.{Every}
-use Rattle.rb_laws_events.proofs.WorldNodes.{first-counts}
-use Rattle.rb_laws_events.proofs.WorldStands.{back-from, some-same}
+use Rattle.rb_laws_events.proofs.WorldNodes.{close-coming, epoch-coming, first-counts}
 use Rattle.rb_laws_logs.specs.Given.{first_run}
 use Rattle.rb_laws_logs.proofs.NodeRun.{StepSites, step-sites}
 use Rattle.rb_laws_logs.proofs.NodeRun.StepSites.{Still, Taken}
@@ -94,20 +91,12 @@ proceeds : (sc : Scenario) (me : Side) (i : ℕ) (s : Site) → IsLawful sc → 
 unfolding proceed
 proceeds sc me i s = entered sc me i (span_from sc.sizes sc.plan me s.core.state s.core.had) s
 
-close-same : (me : Side) (i : ℕ) (st : NodeState) (c : Option Closed) (s : Site) → (with_close me i st c s).coming ≡ s.coming
-close-same me i st None s = refl
-close-same me i st (Some c) s = refl
-
-epoch-same : (sc : Scenario) (ports : List PortState) (me : Side) (i : ℕ) (e : Option Epoch) (s : Site) → (with_epoch sc ports me i e s).coming ≡ s.coming
-epoch-same sc ports me i None s = refl
-epoch-same sc ports me i (Some e) s = refl
-
 acts : (sc : Scenario) (ports : List PortState) (me : Side) (i : ℕ) (x : Act) (s : Site) → IsLawful sc → AreSized s.coming → AreSized (after_act sc ports me i x s).coming
 unfolding after_act
 acts sc ports me i x s lawful is =
     let closed : Site = with_close me i x.core.state x.closed (record s { core = x.core }) in
     proceeds sc me i (with_epoch sc ports me i x.epoch closed) lawful
-    (subst AreSized (sym (epoch-same sc ports me i x.epoch closed ∙ close-same me i x.core.state x.closed (record s { core = x.core }))) is)
+    (subst AreSized (sym (epoch-coming sc ports me i x.epoch closed ∙ close-coming me i x.core.state x.closed (record s { core = x.core }))) is)
 
 arrives : (sc : Scenario) (me : Side) (i place : ℕ) (c : Coming) (s : Site) → AreSized s.coming → AreSized (after_arrival sc me i place c s).coming
 unfolding after_arrival
@@ -127,7 +116,7 @@ AllSized sites = (me : Side) (i : ℕ) (s : Site) → slice_get (of_kind me site
 
 each-sized : (f : Side → ℕ → Site → Site) (sites : Each Site) → ((me : Side) (i : ℕ) (s : Site) → AreSized s.coming → AreSized (f me i s).coming) → AllSized sites → AllSized (map_each f sites)
 each-sized f sites go h me i s e =
-    let was = back-from (f me i) (slice_get (of_kind me sites) i) s (sym (get-each f sites me i) ∙ e) in
+    let was = option_map-back (f me i) (slice_get (of_kind me sites) i) s (sym (get-each f sites me i) ∙ e) in
     subst (λ (s : Site). AreSized s.coming) was.1.1 (go me i was.0 (h me i was.0 was.1.0))
 
 at-sized : (me : Side) (i : ℕ) (change : Site → Site) (sites : Each Site) → ((s : Site) → AreSized s.coming → AreSized (change s).coming) → AllSized sites → AllSized (at_node me i change sites)
@@ -168,7 +157,7 @@ first-sized sc lawful me i s e =
     let within : i < length (of_kind me (each_of sc.sizes make)) = slice_get_within (of_kind me (each_of sc.sizes make)) i s e in
     let long : length (of_kind me (each_of sc.sizes make)) ≡ count_of me sc.sizes = first-counts sc.sizes make me in
     let made : slice_get (of_kind me (each_of sc.sizes make)) i ≡ Some (make me i) = get-made sc.sizes make me i (omega (arith, within, long)) in
-    subst (λ (s : Site). AreSized s.coming) (some-same (make me i) s (sym made ∙ e)) (proceeds sc me i (fresh_site sc.sizes me) lawful tt)
+    subst (λ (s : Site). AreSized s.coming) (same_Some (make me i) s (sym made ∙ e)) (proceeds sc me i (fresh_site sc.sizes me) lawful tt)
 
 pub run-sized : (sc : Scenario) (n : ℕ) → IsLawful sc → AllSized (first_run sc n).sites
 run-sized sc zero lawful = first-sized sc lawful

@@ -1,14 +1,16 @@
 -- For the law of record and replay: what a tick of a node in the run has for lines, and what it moves: with them the node has told all up
 -- to where it then stands, but for the begin of a frame whose first tick pends.
 use Rattle.std.proofs.Common.{◌≡◌, ℕ, suc, ◌+◌, ◌*◌, ◌-◌, ◌<◌, ◌≤◌, ◌%◌, ◌==◌, ◌&&◌, ◌⊎◌, nat_lt, Bool, true, false, List, [], ◌++◌, append_assoc, refl, ap, sym, ◌∙◌, subst, arith, inl, inr, Option, Some, None, slice_get, option_and_then, option_map, if◌then◌else◌}
-use Rattle.std.proofs.lemmas.Bool.{cases_lt, lt-ltb, le-ltb}
+use Rattle.std.proofs.lemmas.Bool.{cases_lt, cond-false, cond-true, eq-eqb, le-ltb, lt-ltb}
 use Rattle.std.proofs.lemmas.Bool.Decides.{nat_tests}
 use Rattle.std.proofs.lemmas.List.{append-nil}
+use Rattle.std.proofs.lemmas.Option.{same_Some}
 use Rattle.rb_base.specs.Nodes.{Side}
 use Rattle.rb_base.specs.Nodes.Side.{Biu, Rmu}
 use Rattle.rb_base.specs.Sizes.{Sizes, sync_slot_of}
 use Rattle.rb_base.specs.declared.node.NodeName.{NodeName}
 use Rattle.rb_base.specs.declared.values.Delivery.{Delivery}
+use Rattle.rb_base.proofs.Plain.{less-differs}
 use Rattle.rb_rules.specs.declared.closing.Closed.{Closed}
 use Rattle.rb_rules.specs.declared.plan.Plan.{Plan}
 use Rattle.rb_rules.specs.declared.plan.Window.{Window}
@@ -33,8 +35,7 @@ use Rattle.rb_laws_events.proofs.NodeClosing.{ClosesWindow, GoesOn}
 use Rattle.rb_laws_events.proofs.NodeEvents.{StaysOpen}
 use Rattle.rb_laws_events.proofs.NodeSends.{sending_at}
 use Rattle.rb_laws_events.proofs.NodeTicks.{by_said, gone, kept_in, state_in}
-use Rattle.rb_laws_events.proofs.RoundNodes.{good-earlier, slot-is, slot_numbered}
-use Rattle.rb_laws_events.proofs.Settling.{some-same}
+use Rattle.rb_laws_events.proofs.RoundNodes.{slot-is, slot_numbered}
 use Rattle.rb_laws_events.proofs.StageOrder.{last-same, last_of}
 use Rattle.rb_laws_events.proofs.Telling.{first-window}
 use Rattle.rb_laws_events.proofs.TickRooms.{has-room}
@@ -42,6 +43,7 @@ use Rattle.rb_laws_events.proofs.TickWindows.{ends-before-later, first-same, fir
 use Rattle.rb_laws_events.proofs.ToldSoFar.{PendsFirst, first-pends}
 use Rattle.rb_laws_events.proofs.WorldEvents.{state-frame}
 use Rattle.rb_report.specs.Report.{delivery_text}
+use Rattle.rb_laws_agreement.proofs.Goodnesses.{good_before}
 use Rattle.rb_laws_logs.specs.Given.{index_of}
 use Rattle.rb_laws_logs.specs.Laws.{IsGoodThroughout}
 use Rattle.rb_laws_logs.specs.Replays.{delivery_lines, epoch_lines, frames_with}
@@ -51,12 +53,6 @@ use Rattle.rb_laws_logs.proofs.NodeLines.{block_text, line_text, row_in, told_up
 use Rattle.rb_laws_logs.proofs.NodeSites.{act-core, state-rises}
 use Rattle.rb_laws_logs.proofs.Positions.{StandsAt, stands-at}
 use Rattle.rb_laws_logs.proofs.RoundLines.{HasState, good-begin, has-state, nothing-told}
-
-same-is : (a b : ℕ) → a ≡ b → (a == b) ≡ true
-same-is a b h = grind (arith, nat_tests)
-
-less-not : (a b : ℕ) → a < b → (a == b) ≡ false
-less-not a b h = grind (arith, nat_tests)
 
 some-more : (a : ℕ) → nat_lt 0 (a + 1) ≡ true
 some-more a = grind (arith, nat_tests)
@@ -94,10 +90,10 @@ begin-stays sizes me a b k h =
 
 -- no frame begins later
 none-begins : (sizes : Sizes) (me : Side) (st : NodeState) (k : ℕ) → st.epoch < k → epoch_at sizes me st k ≡ None
-none-begins sizes me st k h = ap (λ b. elim b as (λ _. Option Epoch) [ true ↦ Some (epoch_of sizes me st) | false ↦ None ]) (less-not st.epoch k h)
+none-begins sizes me st k h = ap (λ b. elim b as (λ _. Option Epoch) [ true ↦ Some (epoch_of sizes me st) | false ↦ None ]) (less-differs st.epoch k h)
 
 pub now-begins : (sizes : Sizes) (me : Side) (st : NodeState) (k : ℕ) → st.epoch ≡ k → epoch_at sizes me st k ≡ Some (epoch_of sizes me st)
-now-begins sizes me st k h = ap (λ b. elim b as (λ _. Option Epoch) [ true ↦ Some (epoch_of sizes me st) | false ↦ None ]) (same-is st.epoch k h)
+now-begins sizes me st k h = ap (λ b. elim b as (λ _. Option Epoch) [ true ↦ Some (epoch_of sizes me st) | false ↦ None ]) (eq-eqb st.epoch k h)
 
 -- a node that is not in a frame yet whose moment it is in turns with its pending tick, which is the frame's first
 pub record Turns (sc : Scenario) (p frame : ℕ) (st : NodeState) (a : Timed) : Type 0 where
@@ -152,12 +148,12 @@ delivered-text sc name p sent ports s st a x there frame closes =
     let kept : NodeState = kept_in sc.sizes sc.plan me i st m.window (word_at sc m me i st) in
     let closed : Closed = (close_window sc.sizes sc.plan me i kept w (of_source (pass_to a.tick s.core).inbox)).closed in
     let its : x.closed ≡ Some closed = closes.act.closed in
-    let same : closes.told.0 ≡ closed = some-same closes.told.0 closed (sym closes.told.1.0 ∙ its) in
+    let same : closes.told.0 ≡ closed = same_Some closes.told.0 closed (sym closes.told.1.0 ∙ its) in
     let kept_frame : kept.frame ≡ m.frame = (keeping-stays sc.sizes me i st w.slot w.stage (word_at sc m me i st)).frame ∙ frame in
     ap (λ o. delivery_lines name (option_and_then (λ (c : Closed). c.delivered) o)) its
     ∙ close-by (λ o. delivery_lines name o ≡ line_text m.frame slot (option_map (line_of_node i) o)) sc.sizes me i kept w.slot w.stage w.first _ refl
     (λ d delivers. close-text name m.frame slot sc.sizes kept w.slot w.stage 0 (Some d) kept_frame (slot-is sc.sizes sc.plan me st m.window)
-    (λ e same_d. subst (Delivers sc.sizes me kept w.slot w.stage) (some-same d e same_d) delivers))
+    (λ e same_d. subst (Delivers sc.sizes me kept w.slot w.stage) (same_Some d e same_d) delivers))
     ∙ ap (λ (c : Closed). line_text m.frame slot (option_map (line_of_node i) c.delivered)) (sym same)
     ∙ sym (ap (λ o. line_text m.frame slot (line_in o)) closes.told.1.1)
     ∙ sym (ap (λ o. if_there (λ st. line_text m.frame slot (line_in (row_in sc m me i st))) o) there)
@@ -210,14 +206,6 @@ after-open sc name p sent ports s st a x ticks h stays =
 
 -- Closes.
 
-if-true : {X : Type 0} (b : Bool) (x y : X) → b ≡ true → (if b then x else y) ≡ x
-if-true true x y h = refl
-if-true false x y h = cc
-
-if-false : {X : Type 0} (b : Bool) (x y : X) → b ≡ false → (if b then x else y) ≡ y
-if-false true x y h = cc
-if-false false x y h = refl
-
 -- a node's first window begins with its frame, and all others later
 later-begins : (sizes : Sizes) (plan : Plan) (me : Side) (st : NodeState) (n : ℕ) → HasTicks plan → 1 ≤ n → n ≤ stages_in sizes → 1 ≤ first_of sizes plan me st n
 later-begins sizes plan me st n ticks some le = let before : last_of sizes plan me st 0 < first_of sizes plan me st n = ends-before-later sizes plan me st 0 n ticks some le in omega (arith, before)
@@ -225,12 +213,12 @@ later-begins sizes plan me st n ticks some le = let before : last_of sizes plan 
 -- the step from a window, and from the end of a frame
 window-step : (sc : Scenario) (name : NodeName) (p : ℕ) → (moment sc [] p).window < windows_in sc.sizes → told_up_to sc name (suc p) ≡ told_up_to sc name p ++ window_text sc name (moment sc [] p)
 window-step sc name p h =
-    ap (λ l. told_up_to sc name p ++ l) (if-true (nat_lt (moment sc [] p).window (windows_in sc.sizes)) (window_text sc name (moment sc [] p)) (block_text sc name (moment sc [] (suc p)))
+    ap (λ l. told_up_to sc name p ++ l) (cond-true (nat_lt (moment sc [] p).window (windows_in sc.sizes)) (window_text sc name (moment sc [] p)) (block_text sc name (moment sc [] (suc p)))
     (lt-ltb (moment sc [] p).window (windows_in sc.sizes) h))
 
 frame-step : (sc : Scenario) (name : NodeName) (p : ℕ) → windows_in sc.sizes ≤ (moment sc [] p).window → told_up_to sc name (suc p) ≡ told_up_to sc name p ++ block_text sc name (moment sc [] (suc p))
 frame-step sc name p h =
-    ap (λ l. told_up_to sc name p ++ l) (if-false (nat_lt (moment sc [] p).window (windows_in sc.sizes)) (window_text sc name (moment sc [] p)) (block_text sc name (moment sc [] (suc p)))
+    ap (λ l. told_up_to sc name p ++ l) (cond-false (nat_lt (moment sc [] p).window (windows_in sc.sizes)) (window_text sc name (moment sc [] p)) (block_text sc name (moment sc [] (suc p)))
     (le-ltb (moment sc [] p).window (windows_in sc.sizes) h))
 
 -- where a node stands after it has closed a window: in the next window of the frame, or at the begin of the next frame
@@ -241,7 +229,7 @@ pub data Place (sc : Scenario) (name : NodeName) (p q : ℕ) : Type 0 where
       (told : told_up_to sc name q ≡ told_up_to sc name p ++ (window_text sc name (moment sc [] p) ++ block_text sc name (moment sc [] q))) → Place sc name p q
 
 good-inside : (sc : Scenario) (name : NodeName) (p : ℕ) → IsGoodThroughout sc name → (moment sc [] p).frame < sc.frames → is_good_at sc (moment sc [] p) (kind_of name) (index_of name) ≡ true
-good-inside sc name p good h = good-earlier sc (kind_of name) (index_of name) (moment sc [] p).frame sc.frames (slot_numbered sc.sizes (moment sc [] p).window) 0 h good
+good-inside sc name p good h = good_before sc (kind_of name) (index_of name) (moment sc [] p).frame sc.frames (slot_numbered sc.sizes (moment sc [] p).window) 0 h good
 
 -- the next window
 to-window : (sc : Scenario) (name : NodeName) (p : ℕ) → (moment sc [] p).window < stages_in sc.sizes → Place sc name p (suc p)
@@ -346,14 +334,14 @@ told-there sc name p q sent t z text ticks is (Next frame first told) goes stand
     ap (first_of sc.sizes sc.plan me goes.st) first ∙ first-same sc.sizes sc.plan me goes.st 0 (omega arith) ∙ none-times sc.plan.l in
     let had : z.core.had ≡ goes.st.epoch = goes.had ∙ ap (λ k. goes.st.epoch + k) zero_first ∙ plus-none goes.st.epoch in
     let pends : PendsFirst sc [] me i q z = first-pends sc [] sent t me i q z goes.st goes.a goes.stands had in
-    let a_is : pends.a ≡ goes.a = some-same pends.a goes.a (sym pends.ahead ∙ goes.stands.receives.pends) in
-    let st_is : pends.st ≡ goes.st = some-same pends.st goes.st (sym pends.state ∙ stands.state) in
+    let a_is : pends.a ≡ goes.a = same_Some pends.a goes.a (sym pends.ahead ∙ goes.stands.receives.pends) in
+    let st_is : pends.st ≡ goes.st = same_Some pends.st goes.st (sym pends.state ∙ stands.state) in
     let at : goes.st.epoch ≡ goes.a.tick = sym (ap (λ (z : NodeState). z.epoch) st_is) ∙ sym pends.first ∙ ap (λ (a : Timed). a.tick) a_is in
     let now : epoch_at sc.sizes me goes.st goes.a.tick ≡ Some (epoch_of sc.sizes me goes.st) = now-begins sc.sizes me goes.st goes.a.tick at in
     let block : block_text sc name n ≡ epoch_lines name (Some (epoch_of sc.sizes me goes.st)) = ap (if_there (λ st. epoch_lines name (Some (epoch_of sc.sizes me st)))) stands.state in
     let its_frame : goes.st.frame ≡ (moment sc [] p).frame + 1 = stands.frame ∙ frame in
     let one : frames_with (Some (epoch_of sc.sizes me goes.st)) ≡ 1 =
-    ap (λ f. if nat_lt 0 f then 1 else 0) its_frame ∙ if-true (nat_lt 0 ((moment sc [] p).frame + 1)) 1 0 (some-more (moment sc [] p).frame) in
+    ap (λ f. if nat_lt 0 f then 1 else 0) its_frame ∙ cond-true (nat_lt 0 ((moment sc [] p).frame + 1)) 1 0 (some-more (moment sc [] p).frame) in
     subst (ToldThere sc name p q text) (sym now) (record {
       told = ap (λ l. told_up_to sc name p ++ (l ++ epoch_lines name (Some (epoch_of sc.sizes me goes.st)))) is
           ∙ ap (λ l. told_up_to sc name p ++ (window_text sc name (moment sc [] p) ++ l)) (sym block) ∙ sym told;

@@ -1,6 +1,7 @@
 -- For the law of record and replay: the worlds of a run in which the first due event is taken, where it has no breach: all nodes stand in
 -- the rounds, and so does one that takes a tick.
 use Rattle.std.proofs.Common.{◌≡◌, ℕ, zero, suc, ◌<◌, ◌≤◌, ◌⊎◌, Bool, true, false, List, [], ◌∷◌, refl, ap, sym, ◌∙◌, subst, inl, inr, Option, Some, None, slice_get}
+use Rattle.std.proofs.lemmas.Option.{same_Some}
 use Rattle.rb_base.specs.Nodes.{Side}
 use Rattle.rb_base.specs.Nodes.Side.{Biu}
 use Rattle.rb_rules.specs.Book.{of_kind}
@@ -25,7 +26,6 @@ use Rattle.rb_laws_events.proofs.OneEvent.{ClosesEarlier, MayHappen, WorldInRoun
 use Rattle.rb_laws_events.proofs.OneTake.{StandsInRounds, are-in-time, closes-earlier, settle-hands, world-waits}
 use Rattle.rb_laws_events.proofs.PortMoments.{has-word}
 use Rattle.rb_laws_events.proofs.SameHeard.{Every}
-use Rattle.rb_laws_events.proofs.Settling.{some-same}
 use Rattle.rb_laws_events.proofs.TickRooms.{has-room}
 use Rattle.rb_laws_events.proofs.UpToThere.{Reaches, next-up-to, reach, reaches-first}
 use Rattle.rb_laws_events.proofs.WorldEvents.{AfterTick, tick-event}
@@ -57,7 +57,7 @@ take-hands sc w i = by (slice_get (due_of sc w) i)
     by None = refl
     by (Some d) = settle-hands sc ByAnEvent 2 (happens sc w d) ∙ happens-hands sc w d
 
-go-on-hands : (sc : Scenario) (w : World) → (go_on sc w).hands ≡ w.hands
+pub go-on-hands : (sc : Scenario) (w : World) → (go_on sc w).hands ≡ w.hands
 unfolding go_on
 go-on-hands sc w = by w.book.ended
   where
@@ -136,7 +136,7 @@ tick-done sc w h n me i k t s a lawful may early there pend tick time alone firs
     let world : WorldInRounds sc now at w = h.stands in
     let runs : s.runs ≡ true = is-up s.runs refl in
     let up : IsUp sc hands (sent_by sc hands at w.sites) now me i (at me i) s = world.sites.up me i s there runs in
-    let same : up.a ≡ a = some-same up.a a (sym up.stands.receives.pends ∙ pend) in
+    let same : up.a ≡ a = same_Some up.a a (sym up.stands.receives.pends ∙ pend) in
     let later : now ≤ a.time = subst (λ (b : Timed). now ≤ b.time) same up.stands.receives.tick_after in
     let closes_early : (st : NodeState) → slice_get (of_kind me (moment sc hands (at me i)).nodes) i ≡ Some st → a.tick ≡ last_tick sc (moment sc hands (at me i)) me st → at me i < n =
     λ st e last. early st e (sym tick ∙ last) in

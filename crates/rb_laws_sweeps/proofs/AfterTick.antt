@@ -1,12 +1,11 @@
 -- A node that takes its tick: all that comes to it afterwards comes later, and its next tick too.
 use Rattle.std.proofs.Common.{◌≡◌, ℕ, zero, suc, ◌+◌, ◌-◌, ◌^◌, ◌<◌, ◌≤◌, ◌==◌, Bool, true, false, List, [], ◌∷◌, ◌++◌, refl, ap, sym, ◌∙◌, subst, arith, inl, inr, Option, Some, None, option_map, slice_get}
 use Rattle.std.proofs.lemmas.Bool.{eqb-true}
-use Rattle.std.proofs.lemmas.Option.{slice_get_within}
+use Rattle.std.proofs.lemmas.Option.{same_Some, slice_get_within}
 use Rattle.rb_base.specs.Nodes.{Side}
 use Rattle.rb_base.specs.Sizes.{Sizes}
-use Rattle.rb_rules.specs.declared.closing.Closed.{Closed}
+use Rattle.rb_base.proofs.Plain.{true-false}
 use Rattle.rb_rules.specs.declared.plan.Plan.{Plan}
-use Rattle.rb_rules.specs.declared.record.Epoch.{Epoch}
 use Rattle.rb_rules.specs.Book.{of_kind}
 use Rattle.rb_rules.specs.Clock.{time_of}
 use Rattle.rb_rules.specs.Core.{Act, Core, next_tick, pass_to, state_at, window_here}
@@ -22,7 +21,7 @@ use Rattle.rb_rules.specs.WorldStep.Pending.{Tick}
 use Rattle.rb_rules.proofs.Drift.{times_rise_strictly}
 use Rattle.rb_laws_events.proofs.BreakNodes.{KeepsNodes}
 use Rattle.rb_laws_events.proofs.BreakOff.{BreakStands}
-use Rattle.rb_laws_events.proofs.DueEvents.{IsDue}
+use Rattle.rb_laws_events.proofs.DueEvents.{IsDue, every-append}
 use Rattle.rb_laws_events.proofs.EventsHold.{any, keeps, nodes_at, ticks-left}
 use Rattle.rb_laws_events.proofs.EveryWorld.{AnyWorld, after-more, due-going}
 use Rattle.rb_laws_events.proofs.OneEvent.{all-pend, up-there}
@@ -30,15 +29,11 @@ use Rattle.rb_laws_events.proofs.OneTake.{StandsInRounds}
 use Rattle.rb_laws_events.proofs.Receiving.{passed-had}
 use Rattle.rb_laws_events.proofs.RunsEnd.{HasTicksLeft}
 use Rattle.rb_laws_events.proofs.SameHeard.{Every}
-use Rattle.rb_laws_events.proofs.Takes.{busy-later, tick-had}
+use Rattle.rb_laws_events.proofs.Takes.{busy-later, close-same, epoch-same, tick-had}
 use Rattle.rb_laws_events.proofs.WorldNodes.{NodesKnown, events-due, worlds-known}
 use Rattle.rb_laws_events.proofs.WorldStands.{AllPend, IsUp, sent_by}
 use Rattle.rb_laws_sweeps.specs.AheadOf.{after_takes}
-use Rattle.rb_laws_sweeps.proofs.Firsts.{every-append, some-same}
 use Rattle.rb_laws_sweeps.proofs.SentLater.{node-moves, says-later}
-
-true-false : {P : Type 0} → true ≡ false → P
-true-false e = absurd (cc)
 
 -- takes of the first due event are choices
 pub takes-are : (sc : Scenario) (choices : List Choice) (n : ℕ) → (cs : List Choice) × (after_takes sc n (world_after sc choices) ≡ world_after sc cs)
@@ -54,7 +49,7 @@ pub tick-time : (sc : Scenario) → IsLawful sc → (w : World) → AnyWorld sc 
 tick-time sc lawful w (inl run) going me i s a there pends =
     let h : StandsInRounds sc w = run.stands in
     let up : IsUp sc w.hands (sent_by sc w.hands h.at w.sites) h.now me i (h.at me i) s = up-there sc h.now h.at w me i s a h.stands.sites there pends in
-    let same : up.a ≡ a = some-same up.a a (sym up.stands.receives.pends ∙ pends) in
+    let same : up.a ≡ a = same_Some up.a a (sym up.stands.receives.pends ∙ pends) in
     subst (λ (a : Timed). a.time ≡ time_of (clock_of sc me i) a.tick) same up.stands.receives.at_time
 tick-time sc lawful w (inr (inl off)) going me i s a there pends =
     let k : BreakStands sc (nodes_at sc) w.hands w.sites w.book = off.stands in
@@ -82,8 +77,8 @@ ticks-there sc lawful cs w is me i a s there pends due = subst (λ w. Ticks w) i
         let d : Due = record { side = me; node = i; pending = Tick a.tick } in
         let going = (due-going sc w 0 d due).0 in
         let it : IsDue w d = events-due sc cs 0 d due in
-        let same : it.s ≡ s = some-same it.s s (sym it.there ∙ there) in
-        let b_is : it.ready.0 ≡ a = some-same it.ready.0 a (sym it.ready.1.0 ∙ ap (λ (s : Site). s.ahead) same ∙ pends) in
+        let same : it.s ≡ s = same_Some it.s s (sym it.there ∙ there) in
+        let b_is : it.ready.0 ≡ a = same_Some it.ready.0 a (sym it.ready.1.0 ∙ ap (λ (s : Site). s.ahead) same ∙ pends) in
         let time : a.time ≡ it.t = ap (λ (a : Timed). a.time) (sym b_is) ∙ it.ready.1.1.1.0 in
         let left : HasTicksLeft sc w = ticks-left sc lawful w (any sc lawful cs) going in
         let few = left.left me i s a there pends (subst (λ t. AllPend t w.sites) (sym time) (all-pend w it.t it.first)) in
@@ -121,7 +116,7 @@ span-first sizes plan me st k span e = by (it.first == k) refl e
     it = span_of (state_at sizes plan me st k) (window_here sizes plan me (state_at sizes plan me st k) k)
 
     by : (b : Bool) → (it.first == k) ≡ b → (elim b as (λ _. Option Span) [ true ↦ Some it | false ↦ None ]) ≡ Some span → span.first ≡ k
-    by true f e = ap (λ (s : Span). s.first) (sym (some-same it span e)) ∙ eqb-true it.first k f
+    by true f e = ap (λ (s : Span). s.first) (sym (same_Some it span e)) ∙ eqb-true it.first k f
     by false f e = absurd (none-some span e)
       where
         none-some : (s : Span) → None ≡ Some s → ⊥
@@ -148,7 +143,7 @@ await-later sc lawful me i k more s counted had late more_late = record {
     by b (Some x) e f =
         let up : s.core.had ≤ x = busy-later sc.sizes sc.plan me i s.core.state (2 ^ 31 - s.core.had) s.core.had x e in
         let later : time_of (clock_of sc me i) k < time_of (clock_of sc me i) x = times_rise_strictly (clock_of sc me i) (node-moves sc lawful me i counted) k x (omega (arith, up, had)) in
-        let time : time_of (clock_of sc me i) x ≡ b.time = ap (λ (b : Timed). b.time) (some-same (record { tick = x; time = time_of (clock_of sc me i) x }) b f) in
+        let time : time_of (clock_of sc me i) x ≡ b.time = ap (λ (b : Timed). b.time) (same_Some (record { tick = x; time = time_of (clock_of sc me i) x }) b f) in
         omega (arith, later, time)
 
 proceed-later : (sc : Scenario) → IsLawful sc → (me : Side) (i k : ℕ) (s : Site) → i < count_of me sc.sizes → s.core.had ≡ k + 1
@@ -168,14 +163,6 @@ proceed-later sc lawful me i k s counted had late = by (span_from sc.sizes sc.pl
     by None e = await-later sc lawful me i k [] s counted had late tt
     by (Some span) e =
         entered span (span-first sc.sizes sc.plan me s.core.state s.core.had span e ∙ had) (is_good sc me i span.place.frame span.place.slot)
-
-close-same : (me : Side) (i : ℕ) (st : NodeState) (c : Option Closed) (s : Site) → ((with_close me i st c s).core ≡ s.core) × ((with_close me i st c s).coming ≡ s.coming)
-close-same me i st None s = (refl, refl)
-close-same me i st (Some c) s = (refl, refl)
-
-epoch-same : (sc : Scenario) (ports : List PortState) (me : Side) (i : ℕ) (e : Option Epoch) (s : Site) → ((with_epoch sc ports me i e s).core ≡ s.core) × ((with_epoch sc ports me i e s).coming ≡ s.coming)
-epoch-same sc ports me i None s = (refl, refl)
-epoch-same sc ports me i (Some e) s = (refl, refl)
 
 pub act-later : (sc : Scenario) → IsLawful sc → (ports : List PortState) (me : Side) (i : ℕ) (a : Timed) (s : Site) → TicksNow sc me i a s → Every (λ c. a.time + 1 ≤ c.time) s.coming
     → Later a.time (after_act sc ports me i (pass_and_tick sc ports me i a.tick s.core) s)

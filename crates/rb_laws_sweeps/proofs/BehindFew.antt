@@ -1,5 +1,5 @@
 -- What is pending behind is few.
-use Rattle.std.proofs.Common.{◌≡◌, ℕ, ◌+◌, ◌≤◌, Bool, true, false, List, [], ◌∷◌, ◌++◌, cond, filter, length, length-append, map, refl, ap, ◌∙◌, arith, inl, inr, Option, Some, None, option_map, option_to_list, slice_get}
+use Rattle.std.proofs.Common.{◌≡◌, ℕ, ◌+◌, ◌≤◌, Bool, true, false, List, [], ◌∷◌, cond, filter, length, length-append, refl, ap, ◌∙◌, arith, inl, inr, Some, option_map, slice_get}
 use Rattle.std.proofs.lemmas.Bool.{lt-ltb}
 use Rattle.rb_base.specs.Nodes.{Side, other}
 use Rattle.rb_base.specs.Sizes.{Sizes}
@@ -8,11 +8,11 @@ use Rattle.rb_rules.specs.Goodness.{Scenario}
 use Rattle.rb_rules.specs.Hearing.{Coming}
 use Rattle.rb_rules.specs.Lawful.{IsLawful}
 use Rattle.rb_rules.specs.Slots.{count_of}
-use Rattle.rb_rules.specs.WorldStep.{Choice, Site, Timed, World, after_arrival, times_of, world_after}
+use Rattle.rb_rules.specs.WorldStep.{Choice, Site, World, after_arrival, times_of, world_after}
 use Rattle.rb_rules.proofs.WindowNumbers.{get-each}
 use Rattle.rb_laws_events.specs.PendingEvents.{most_coming, most_pending}
 use Rattle.rb_laws_events.proofs.EveryWorld.{AnyWorld, any-after}
-use Rattle.rb_laws_events.proofs.FewThere.{length-mapped}
+use Rattle.rb_laws_events.proofs.FewPending.{times-many}
 use Rattle.rb_laws_events.proofs.OneTake.{StandsInRounds}
 use Rattle.rb_laws_events.proofs.TickRooms.{has-room}
 use Rattle.rb_laws_events.proofs.WorldNodes.{Known}
@@ -25,13 +25,6 @@ use Rattle.rb_laws_sweeps.proofs.GotKnown.{worlds-got}
 use Rattle.rb_laws_sweeps.proofs.HadOff.{had-keeps, had_at, rooms-had}
 use Rattle.rb_laws_sweeps.proofs.HadThere.{had-where-it-stands, had_of, is_known}
 use Rattle.rb_laws_sweeps.proofs.Sweeps.{sweep-of, sweep-stays, sweep-takes, sweeps-keep}
-
-times-many : (s : Site) → length (times_of s) ≤ length s.coming + 1
-times-many s = by s.ahead
-  where
-    by : (o : Option Timed) → length (option_to_list (option_map (λ a. a.time) o) ++ map (λ c. c.time) s.coming) ≤ length s.coming + 1
-    by None = let same = length-mapped (λ c. c.time) s.coming in omega (arith, same)
-    by (Some a) = let same = length-mapped (λ c. c.time) s.coming in omega (arith, same)
 
 -- a sweep loses nothing
 arrival-many : (sc : Scenario) (me : Side) (i : ℕ) (s : Site) (p : Placed) → first_of s.coming ≡ Some p

@@ -5,6 +5,7 @@ use Rattle.std.proofs.lemmas.List.{append-nil, length-map, map-append}
 use Rattle.std.proofs.lemmas.List.Elements.{filter-append}
 use Rattle.rb_base.specs.Nodes.{Side, other}
 use Rattle.rb_base.specs.Sizes.{Sizes}
+use Rattle.rb_base.proofs.Plain.{and-false, and-true, max-less}
 use Rattle.rb_rules.specs.Clock.{stamp_of}
 use Rattle.rb_rules.specs.Core.{Core, arrive, is_spent, of_source, pass_to}
 use Rattle.rb_rules.specs.Goodness.{Scenario, clock_of}
@@ -13,23 +14,18 @@ use Rattle.rb_rules.specs.Sense.{Arrival}
 use Rattle.rb_rules.specs.Slots.{count_of}
 use Rattle.rb_rules.specs.WorldStep.{Site, after_arrival, coming_from}
 use Rattle.rb_rules.proofs.QuietTicks.{arrive-same}
-use Rattle.rb_laws_events.proofs.PendingLists.{StandsAt}
+use Rattle.rb_laws_events.proofs.PendingLists.{StandsAt, same_others}
 use Rattle.rb_laws_events.proofs.SameHeard.{Every}
+use Rattle.rb_laws_events.proofs.DueEvents.{every-weaker}
+use Rattle.rb_laws_events.proofs.Receiving.{every-stands, every-without}
+use Rattle.rb_laws_events.proofs.SayLists.{filter-all, filter-no}
 use Rattle.rb_laws_sweeps.specs.Brought.{BringsArrivals, BringsComings, CameTogether, IsHeardIfDue, SweepsBring, due_from}
 use Rattle.rb_laws_sweeps.specs.Laws.{SweepsFrom}
 use Rattle.rb_laws_sweeps.specs.Sweeping.{Placed, first_of, swept}
-use Rattle.rb_laws_sweeps.proofs.Firsts.{every-so, every-stands, every-without, first-stands}
+use Rattle.rb_laws_sweeps.proofs.Firsts.{first-stands}
 use Rattle.rb_laws_sweeps.proofs.Sweeps.{all-every, sweep-of, sweep-stays, sweep-takes, sweeps-keep}
 
 -- Lists by a test.
-
-kept-all : (q : Coming → Bool) (cs : List Coming) → Every (λ c. q c ≡ true) cs → filter q cs ≡ cs
-kept-all q [] e = refl
-kept-all q (c ∷ cs) e = ap (λ b. cond b (c ∷ filter q cs) (filter q cs)) e.0 ∙ ap (λ l. c ∷ l) (kept-all q cs e.1)
-
-kept-none : (q : Coming → Bool) (cs : List Coming) → Every (λ c. q c ≡ false) cs → filter q cs ≡ []
-kept-none q [] e = refl
-kept-none q (c ∷ cs) e = ap (λ b. cond b (c ∷ filter q cs) (filter q cs)) e.0 ∙ kept-none q cs e.1
 
 head-same : (x d : Coming) (xs ys : List Coming) → x ∷ xs ≡ d ∷ ys → x ≡ d
 head-same x d xs ys e = cc
@@ -40,12 +36,6 @@ tail-same x d xs ys e = cc
 is-empty : (cs : List Coming) → length cs ≡ 0 → cs ≡ []
 is-empty [] e = refl
 is-empty (c ∷ cs) e = absurd (omega (arith, e))
-
--- an item that does not pass is taken out
-without-other : (q : Coming → Bool) (n : ℕ) (c : Coming) (cs : List Coming) → StandsAt n c cs → q c ≡ false → filter q (remove cs n) ≡ filter q cs
-without-other q n c [] s h = absurd s
-without-other q zero c (x ∷ xs) s h = ap (λ b. cond b (x ∷ filter q xs) (filter q xs)) (sym (ap q s ∙ h))
-without-other q (suc n) c (x ∷ xs) s h = ap (λ l. cond (q x) (x ∷ l) l) (without-other q n c xs s h)
 
 -- one that passes is taken out
 without-it : (q : Coming → Bool) (n : ℕ) (c : Coming) (cs : List Coming) → StandsAt n c cs → q c ≡ true → length (filter q cs) ≡ suc (length (filter q (remove cs n)))
@@ -104,14 +94,6 @@ record Takes (sc : Scenario) (me : Side) (i until : ℕ) (s z : Site) : Type 0 w
 
 -- Tests.
 
-and-true : (b : Bool) → (b && true) ≡ b
-and-true true = refl
-and-true false = refl
-
-and-false : (b : Bool) → (b && false) ≡ false
-and-false true = refl
-and-false false = refl
-
 due-is : (j until : ℕ) (c : Coming) → c.time < until → ((c.from == j) && nat_lt c.time until) ≡ (c.from == j)
 due-is j until c lt =
     let soon : nat_lt c.time until ≡ true = grind (arith, nat_tests) in
@@ -145,8 +127,8 @@ came-one q n c cs k ys stands came true h = record {
   count = ap suc came.count ∙ sym (without-it q n c cs stands h);
 }
 came-one q n c cs k ys stands came false h = record {
-  one = λ d e. came.one d (without-other q n c cs stands h ∙ e);
-  count = came.count ∙ ap length (without-other q n c cs stands h);
+  one = λ d e. came.one d (same_others q n c cs stands h ∙ e);
+  count = came.count ∙ ap length (same_others q n c cs stands h);
 }
 
 arrive-inbox : (sizes : Sizes) (me : Side) (core : Core) (from : ℕ) (bytes : List ℕ) → from < count_of (other me) sizes → core.had < 2 ^ 31
@@ -158,9 +140,6 @@ arrive-inbox sizes me core from bytes known room =
     let ab : (nat_lt from (count_of (other me) sizes) && not (is_spent core)) ≡ true = ap (λ x. x && not (is_spent core)) a ∙ ap not b in
     ap (λ b. let x : Core = (elim b [ true ↦ record core { inbox = core.inbox ++ (from, record { stamp = core.had; bytes = bytes }) ∷ [] } | false ↦ core ]) in x.inbox) ab
 
-less-max : (a b n : ℕ) → a < n → b < n → max a b < n
-less-max a b n h k = omega (arith, h, k)
-
 -- Takes.
 
 -- where nothing comes before the time
@@ -169,11 +148,11 @@ takes-none sc me i until s late = record {
   took = [];
   inbox = sym (append-nil s.core.inbox);
   got = sym (append-nil s.got);
-  left = sym (kept-all (λ c. nat_le until c.time) s.coming (every-so (λ c. until ≤ c.time) (λ c. nat_le until c.time ≡ true) (is-late until) s.coming late));
+  left = sym (filter-all (λ c. nat_le until c.time) s.coming (every-weaker (λ c. until ≤ c.time) (λ c. nat_le until c.time ≡ true) (is-late until) s.coming late));
   each = λ j.
       came-none (due_from until j s.coming)
-      (kept-none (λ c. (c.from == j) && nat_lt c.time until) s.coming
-      (every-so (λ c. until ≤ c.time) (λ c. ((c.from == j) && nat_lt c.time until) ≡ false) (not-due j until) s.coming late));
+      (filter-no (λ c. (c.from == j) && nat_lt c.time until) s.coming
+      (every-weaker (λ c. until ≤ c.time) (λ c. ((c.from == j) && nat_lt c.time until) ≡ false) (not-due j until) s.coming late));
 }
 
 -- one arrival, and then the rest
@@ -185,13 +164,13 @@ takes-one sc me i until s z p e lt had may t =
     let heard = every-stands (IsHeardIfDue sc me i until) p.place p.coming s.coming stands may lt in
     let passed : Core = pass_to (stamp_of (clock_of sc me i) p.coming.time) s.core in
     let k : ℕ = max s.core.had (stamp_of (clock_of sc me i) p.coming.time) in
-    let room : k < 2 ^ 31 = less-max s.core.had (stamp_of (clock_of sc me i) p.coming.time) (2 ^ 31) had heard.1 in
+    let room : k < 2 ^ 31 = max-less s.core.had (stamp_of (clock_of sc me i) p.coming.time) (2 ^ 31) had heard.1 in
     record {
       took = (k, p.coming) ∷ t.took;
       inbox = t.inbox ∙ ap (λ l. l ++ map kept_in t.took) (arrive-inbox sc.sizes me passed p.coming.from p.coming.bytes heard.0 room)
           ∙ append_assoc s.core.inbox (kept_in (k, p.coming) ∷ []) (map kept_in t.took);
       got = t.got ∙ append_assoc s.got (p.coming ∷ []) (comings t.took);
-      left = t.left ∙ without-other (λ c. nat_le until c.time) p.place p.coming s.coming stands (is-soon until p.coming lt);
+      left = t.left ∙ same_others (λ c. nat_le until c.time) p.place p.coming s.coming stands (is-soon until p.coming lt);
       each = λ j.
           came-one (λ c. (c.from == j) && nat_lt c.time until) p.place p.coming s.coming k (come_of j t.took) stands (t.each j)
           (p.coming.from == j) (due-is j until p.coming lt);
@@ -206,7 +185,7 @@ heard-after sc me i until s p e lt had may =
     let heard = every-stands (IsHeardIfDue sc me i until) p.place p.coming s.coming (first-stands s.coming p e) may lt in
     let passed : Core = pass_to (stamp_of (clock_of sc me i) p.coming.time) s.core in (
       subst (λ n. n < 2 ^ 31) (sym (arrive-same sc.sizes me passed p.coming.from p.coming.bytes).1)
-          (less-max s.core.had (stamp_of (clock_of sc me i) p.coming.time) (2 ^ 31) had heard.1),
+          (max-less s.core.had (stamp_of (clock_of sc me i) p.coming.time) (2 ^ 31) had heard.1),
       every-without (IsHeardIfDue sc me i until) p.place s.coming may,
     )
 

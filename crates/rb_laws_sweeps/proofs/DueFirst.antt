@@ -1,24 +1,26 @@
 -- The first due event of a world: the first arrival, or the first tick.
-use Rattle.std.proofs.Common.{◌≡◌, ℕ, zero, suc, ◌+◌, ◌<◌, ◌≤◌, ◌==◌, ◌||◌, ◌⊎◌, Bool, true, false, List, [], ◌∷◌, ◌++◌, append_assoc, flat_map, map, refl, ap, sym, ◌∙◌, subst, arith, inl, inr, Option, Some, None, option_map, option_to_list, slice_get}
+use Rattle.std.proofs.Common.{◌≡◌, ℕ, zero, suc, ◌+◌, ◌<◌, ◌≤◌, ◌==◌, ◌||◌, ◌⊎◌, Bool, true, false, List, [], ◌∷◌, ◌++◌, append_assoc, flat_map, refl, ap, sym, ◌∙◌, subst, arith, inl, inr, Option, Some, None, slice_get}
 use Rattle.std.proofs.lemmas.Bool.{cases_lt, eq-eqb, ltb-true}
 use Rattle.std.proofs.lemmas.Bool.Decides.{nat_tests}
+use Rattle.std.proofs.lemmas.Option.{same_Some}
 use Rattle.rb_base.specs.Nodes.{Side}
 use Rattle.rb_base.specs.Nodes.Side.{Biu, Rmu}
+use Rattle.rb_base.proofs.Plain.{append-none}
 use Rattle.rb_rules.specs.Book.{in_order, map_from, of_kind}
 use Rattle.rb_rules.specs.Goodness.{Scenario}
-use Rattle.rb_rules.specs.Hearing.{Coming}
 use Rattle.rb_rules.specs.WorldStep.{Due, Site, Timed, World, due_at, due_of, least, needs_no_event, ready_at, tick_at, times_of}
 use Rattle.rb_rules.specs.WorldStep.Pending.{Arrival, Tick}
-use Rattle.rb_laws_events.proofs.DueEvents.{every-at, every-back, every-front, every-unflat, least-none, least-of, some-due}
+use Rattle.rb_laws_events.proofs.DueEvents.{every-weaker, least-of, some-due}
 use Rattle.rb_laws_events.proofs.NodeEvents.{all-after, tick-after}
-use Rattle.rb_laws_events.proofs.OneEvent.{all-pend, pend-of}
+use Rattle.rb_laws_events.proofs.OneEvent.{all-pend}
+use Rattle.rb_laws_events.proofs.Progress.{some-time}
 use Rattle.rb_laws_events.proofs.SameHeard.{Every}
 use Rattle.rb_laws_events.proofs.WorldStands.{AllPend}
+use Rattle.rb_laws_events.proofs.Behind.{pend-of}
 use Rattle.rb_laws_sweeps.specs.AheadOf.{IsFirstTick, is_behind, until_tick}
 use Rattle.rb_laws_sweeps.specs.Laws.{NeedsEvent}
 use Rattle.rb_laws_sweeps.specs.Sweeping.{Placed, first_of}
 use Rattle.rb_laws_sweeps.proofs.EachNode.{nodes-order, until-behind, until-not}
-use Rattle.rb_laws_sweeps.proofs.Firsts.{every-so, some-same}
 use Rattle.rb_laws_sweeps.proofs.OpenWorlds.{Goes}
 use Rattle.rb_laws_sweeps.proofs.ReadyFirst.{Begins, FirstMade, ReadyFirst, first-made, head-same, ready-first}
 
@@ -28,15 +30,11 @@ flat-append : {X Y : Type 0} (f : X → List Y) (xs ys : List X) → flat_map f 
 flat-append f [] ys = refl
 flat-append f (x ∷ xs) ys = ap (λ l. f x ++ l) (flat-append f xs ys) ∙ sym (append_assoc (f x) (flat_map f xs) (flat_map f ys))
 
-append-none : {X : Type 0} (xs ys : List X) → xs ++ ys ≡ [] → (xs ≡ []) × (ys ≡ [])
-append-none [] ys e = (refl, e)
-append-none (x ∷ xs) ys e = cc
-
 made-none : {X Y : Type 0} (k : ℕ) (make : ℕ → X → List Y) (xs : List X) → flat_map (λ l. l) (map_from k make xs) ≡ [] → (m : ℕ) (y : X) → slice_get xs m ≡ Some y → make (k + m) y ≡ []
 made-none k make [] none m y there = cc
 made-none k make (x ∷ xs) none zero y there =
     let z : k + 0 ≡ k = omega arith in
-    let same : x ≡ y = some-same x y there in
+    let same : x ≡ y = same_Some x y there in
     ap (make (k + 0)) (sym same) ∙ ap (λ m. make m x) z ∙ (append-none (make k x) (flat_map (λ l. l) (map_from (k + 1) make xs)) none).0
 made-none k make (x ∷ xs) none (suc m) y there =
     let s : k + suc m ≡ k + 1 + m = omega arith in
@@ -99,23 +97,6 @@ first-due sc w t d is = by (flat_map (λ l. l) bius) refl (is.0, sym (flat-appen
         before r Rmu n z there behind = let o : 0 + n ≡ n = omega arith in ap (λ k. ready Rmu k z) (sym o) ∙ r.before n z (ltb-true n r.n behind) there
 
 -- What is due.
-
-some-time : (w : World) (me : Side) (i : ℕ) (s : Site) (a : Timed) → slice_get (of_kind me w.sites) i ≡ Some s → s.ahead ≡ Some a
-    → (t : ℕ) × (least (flat_map times_of (in_order w.sites)) ≡ Some t)
-some-time w me i s a there pend = by (least (flat_map times_of (in_order w.sites))) refl
-  where
-    own : Every (λ u. ⊥) (times_of s) → ⊥
-    own all = (subst (λ o. Every (λ (u : ℕ). ⊥) (option_to_list (option_map (λ (a : Timed). a.time) o) ++ map (λ (c : Coming). c.time) s.coming)) pend all).0
-
-    at : (me : Side) → slice_get (of_kind me w.sites) i ≡ Some s → Every (λ s. Every (λ u. ⊥) (times_of s)) (w.sites.bius ++ w.sites.rmus) → Every (λ u. ⊥) (times_of s)
-    at Biu e all = every-at (λ s. Every (λ u. ⊥) (times_of s)) w.sites.bius i s e (every-front (λ s. Every (λ u. ⊥) (times_of s)) w.sites.bius w.sites.rmus all)
-    at Rmu e all = every-at (λ s. Every (λ u. ⊥) (times_of s)) w.sites.rmus i s e (every-back (λ s. Every (λ u. ⊥) (times_of s)) w.sites.bius w.sites.rmus all)
-
-    by : (o : Option ℕ) → least (flat_map times_of (in_order w.sites)) ≡ o → (t : ℕ) × (least (flat_map times_of (in_order w.sites)) ≡ Some t)
-    by (Some t) e = (t, e)
-    by None e =
-        let none : Every (λ u. ⊥) (flat_map times_of (in_order w.sites)) = least-none (λ u. ⊥) (flat_map times_of (in_order w.sites)) e in
-        absurd (own (at me there (every-unflat (λ u. ⊥) times_of (in_order w.sites) none)))
 
 due-is-at : (sc : Scenario) (w : World) (t : ℕ) → NeedsEvent sc w → least (flat_map times_of (in_order w.sites)) ≡ Some t → due_of sc w ≡ due_at sc w (Some t)
 unfolding due_of
@@ -248,8 +229,8 @@ which-due sc w h me i a first it = by (ready it.due.side it.due.j it.due.s it.du
             → it.d ≡ record { side = me; node = i; pending = Tick a.tick }
         itself same pends is =
             let there : slice_get (of_kind me w.sites) i ≡ Some it.due.s = ap (λ side. slice_get (of_kind side w.sites) i) same.0 ∙ ap (slice_get (of_kind it.due.side w.sites)) same.1 ∙ it.due.there in
-            let node : it.due.s ≡ first.node = some-same it.due.s first.node (sym there ∙ first.there) in
-            let tick_is : tick.0 ≡ a = some-same tick.0 a (sym pends ∙ ap (λ (s : Site). s.ahead) node ∙ first.pends) in
+            let node : it.due.s ≡ first.node = same_Some it.due.s first.node (sym there ∙ first.there) in
+            let tick_is : tick.0 ≡ a = same_Some tick.0 a (sym pends ∙ ap (λ (s : Site). s.ahead) node ∙ first.pends) in
             is ∙ ap (λ (b : Timed). record { side = it.due.side; node = it.due.j; pending = Tick b.tick }) tick_is
             ∙ ap (λ side. record { side = side; node = it.due.j; pending = Tick a.tick }) (sym same.0)
             ∙ ap (λ n. record { side = me; node = n; pending = Tick a.tick }) (sym same.1)
@@ -259,7 +240,7 @@ which-due sc w h me i a first it = by (ready it.due.side it.due.j it.due.s it.du
         late same time you n z there = elim (nodes-order me you i n) [
           | inl behind ↦
               let is = until-behind me you i n a.time behind in
-              every-so (λ c. t ≤ c.time) (λ c. until_tick me i a.time you n ≤ c.time) (λ c le. omega (arith, is, time, le)) z.coming (coming you n z there)
+              every-weaker (λ c. t ≤ c.time) (λ c. until_tick me i a.time you n ≤ c.time) (λ c le. omega (arith, is, time, le)) z.coming (coming you n z there)
           | inr others ↦ elim others [
             | inl before ↦
                 let behind : is_behind you n it.due.side it.due.j ≡ true = ap (λ k. is_behind you n it.due.side k) (sym same.1) ∙ ap (λ side. is_behind you n side i) (sym same.0) ∙ before in
@@ -267,7 +248,7 @@ which-due sc w h me i a first it = by (ready it.due.side it.due.j it.due.s it.du
             | inr its ↦
                 let here : slice_get (of_kind it.due.side w.sites) it.due.j ≡ Some z =
                 ap (slice_get (of_kind it.due.side w.sites)) (sym same.1 ∙ its.1) ∙ ap (λ side. slice_get (of_kind side w.sites) n) (sym same.0 ∙ its.0) ∙ there in
-                let node : it.due.s ≡ z = some-same it.due.s z (sym it.due.there ∙ here) in
+                let node : it.due.s ≡ z = same_Some it.due.s z (sym it.due.there ∙ here) in
                 from-later you n z (subst (λ (s : Site). Every (λ c. t + 1 ≤ c.time) s.coming) node later)
           ]
         ]
@@ -275,7 +256,7 @@ which-due sc w h me i a first it = by (ready it.due.side it.due.j it.due.s it.du
             from-later : (you : Side) (n : ℕ) (z : Site) → Every (λ c. t + 1 ≤ c.time) z.coming → Every (λ c. until_tick me i a.time you n ≤ c.time) z.coming
             from-later you n z all =
                 let most = until-up you n in
-                every-so (λ c. t + 1 ≤ c.time) (λ c. until_tick me i a.time you n ≤ c.time) (λ c le. omega (arith, most, time, le)) z.coming all
+                every-weaker (λ c. t + 1 ≤ c.time) (λ c. until_tick me i a.time you n ≤ c.time) (λ c le. omega (arith, most, time, le)) z.coming all
               where
                 until-up : (you : Side) (n : ℕ) → until_tick me i a.time you n ≤ a.time + 1
                 until-up you n = by (is_behind me i you n) refl

@@ -3,10 +3,10 @@ use Rattle.std.proofs.Common.{◌≡◌, ℕ, suc, ◌+◌, ◌≤◌, ◌⊎◌
 use Rattle.std.proofs.lemmas.Bool.{cases_lt, lt-ltb, le-ltb, ltb-true}
 use Rattle.rb_base.specs.Nodes.{Side}
 use Rattle.rb_base.specs.Nodes.Side.{Biu, Rmu}
+use Rattle.rb_base.proofs.Plain.{option_map-back}
 use Rattle.rb_rules.specs.Book.{Each, map_each, map_from, of_kind}
 use Rattle.rb_rules.specs.WorldStep.{Site, Timed, World}
 use Rattle.rb_rules.proofs.WindowNumbers.{get-each}
-use Rattle.rb_laws_events.proofs.WorldStands.{back-from}
 use Rattle.rb_laws_sweeps.specs.AheadOf.{IsFirstTick, is_behind, until_tick}
 use Rattle.rb_laws_sweeps.proofs.Settles.{each-is}
 
@@ -53,7 +53,7 @@ first-changed g w x me i a is keeps h = record {
   where
     was : (side : Side) (j : ℕ) (s : Site) → slice_get (of_kind side x.sites) j ≡ Some s → (z : Site) × ((slice_get (of_kind side w.sites) j ≡ Some z) × (g side j z ≡ s))
     was side j s there =
-        back-from (g side j) (slice_get (of_kind side w.sites) j) s (sym (get-each g w.sites side j) ∙ ap (λ sites. slice_get (of_kind side sites) j) (sym is) ∙ there)
+        option_map-back (g side j) (slice_get (of_kind side w.sites) j) s (sym (get-each g w.sites side j) ∙ ap (λ sites. slice_get (of_kind side sites) j) (sym is) ∙ there)
 
 pub first-back : (g : Side → ℕ → Site → Site) (w x : World) (me : Side) (i : ℕ) (a : Timed) → x.sites ≡ map_each g w.sites → KeepsAhead g → IsFirstTick x me i a → IsFirstTick w me i a
 first-back g w x me i a is keeps h =
@@ -68,7 +68,7 @@ first-back g w x me i a is keeps h =
   where
     was : (side : Side) (j : ℕ) (s : Site) → slice_get (of_kind side x.sites) j ≡ Some s → (z : Site) × ((slice_get (of_kind side w.sites) j ≡ Some z) × (g side j z ≡ s))
     was side j s there =
-        back-from (g side j) (slice_get (of_kind side w.sites) j) s (sym (get-each g w.sites side j) ∙ ap (λ sites. slice_get (of_kind side sites) j) (sym is) ∙ there)
+        option_map-back (g side j) (slice_get (of_kind side w.sites) j) s (sym (get-each g w.sites side j) ∙ ap (λ sites. slice_get (of_kind side sites) j) (sym is) ∙ there)
 
     now : (side : Side) (j : ℕ) (s : Site) → slice_get (of_kind side w.sites) j ≡ Some s → slice_get (of_kind side x.sites) j ≡ Some (g side j s)
     now side j s there = ap (λ sites. slice_get (of_kind side sites) j) is ∙ get-each g w.sites side j ∙ ap (option_map (g side j)) there

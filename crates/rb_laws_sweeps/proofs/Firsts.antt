@@ -2,35 +2,13 @@
 use Rattle.std.proofs.Common.{◌≡◌, ℕ, zero, suc, ◌<◌, ◌≤◌, Bool, true, false, List, [], ◌∷◌, ◌++◌, length, remove, refl, ap, sym, ◌∙◌, subst, arith, Option, Some, None, if◌then◌else◌, ◌⊎◌, inl, inr}
 use Rattle.std.proofs.lemmas.Bool.{cases_lt}
 use Rattle.std.proofs.lemmas.Bool.Decides.{nat_tests}
+use Rattle.std.proofs.lemmas.Option.{same_Some}
 use Rattle.rb_rules.specs.Hearing.{Coming}
 use Rattle.rb_laws_events.proofs.PendingLists.{StandsAt}
 use Rattle.rb_laws_events.proofs.SameHeard.{Every}
+use Rattle.rb_laws_events.proofs.DueEvents.{every-append, every-weaker}
+use Rattle.rb_laws_events.proofs.Receiving.{every-stands}
 use Rattle.rb_laws_sweeps.specs.Sweeping.{Placed, comes_first, first_of, first_with}
-
-pub some-same : {X : Type 0} (a b : X) → Some a ≡ Some b → a ≡ b
-some-same a b e = cc
-
-pub every-so : {X : Type 0} (P Q : X → Type 0) → ((x : X) → P x → Q x) → (xs : List X) → Every P xs → Every Q xs
-every-so P Q go [] a = tt
-every-so P Q go (x ∷ xs) a = (go x a.0, every-so P Q go xs a.1)
-
-pub every-append : {X : Type 0} (P : X → Type 0) (xs ys : List X) → Every P xs → Every P ys → Every P (xs ++ ys)
-every-append P [] ys a b = b
-every-append P (x ∷ xs) ys a b = (a.0, every-append P xs ys a.1 b)
-
-pub every-stands : (P : Coming → Type 0) (n : ℕ) (c : Coming) (xs : List Coming) → StandsAt n c xs → Every P xs → P c
-every-stands P n c [] s e = absurd s
-every-stands P zero c (x ∷ xs) s e = subst P s e.0
-every-stands P (suc n) c (x ∷ xs) s e = every-stands P n c xs s e.1
-
-pub every-without : (P : Coming → Type 0) (n : ℕ) (xs : List Coming) → Every P xs → Every P (remove xs n)
-every-without P n [] e = none n
-  where
-    none : (n : ℕ) → Every P (remove [] n)
-    none zero = tt
-    none (suc n) = tt
-every-without P zero (x ∷ xs) e = e.1
-every-without P (suc n) (x ∷ xs) e = (e.0, every-without P n xs e.1)
 
 -- Tests.
 
@@ -58,7 +36,7 @@ pick c q b = if b then (record { place = 0; coming = c }) else (record { place =
 pub first-stands : (cs : List Coming) (p : Placed) → first_of cs ≡ Some p → StandsAt p.place p.coming cs
 unfolding first_of
 first-stands [] p e = cc
-first-stands (c ∷ cs) p e = subst (λ p. StandsAt p.place p.coming (c ∷ cs)) (some-same (first_with c (first_of cs)) p e) (by (first_of cs) (first-stands cs) refl)
+first-stands (c ∷ cs) p e = subst (λ p. StandsAt p.place p.coming (c ∷ cs)) (same_Some (first_with c (first_of cs)) p e) (by (first_of cs) (first-stands cs) refl)
   where
     by : (o : Option Placed) → ((q : Placed) → first_of cs ≡ Some q → StandsAt q.place q.coming cs) → first_of cs ≡ o → StandsAt (first_with c o).place (first_with c o).coming (c ∷ cs)
     by None rest h = refl
@@ -74,11 +52,11 @@ first-stands (c ∷ cs) p e = subst (λ p. StandsAt p.place p.coming (c ∷ cs))
 pub first-least : (cs : List Coming) (p : Placed) → first_of cs ≡ Some p → Every (λ d. comes_first p.coming d ≡ true) cs
 unfolding first_of
 first-least [] p e = tt
-first-least (c ∷ cs) p e = subst (λ p. Every (λ d. comes_first p.coming d ≡ true) (c ∷ cs)) (some-same (first_with c (first_of cs)) p e) (by (first_of cs) (first-least cs) (none-least cs) refl)
+first-least (c ∷ cs) p e = subst (λ p. Every (λ d. comes_first p.coming d ≡ true) (c ∷ cs)) (same_Some (first_with c (first_of cs)) p e) (by (first_of cs) (first-least cs) (none-least cs) refl)
   where
     inner : (q : Placed) (b : Bool) → comes_first c q.coming ≡ b → Every (λ d. comes_first q.coming d ≡ true) cs
         → Every (λ d. comes_first (pick c q b).coming d ≡ true) (c ∷ cs)
-    inner q true h all = (itself-first c, every-so (λ d. comes_first q.coming d ≡ true) (λ d. comes_first c d ≡ true) (λ d. first-so-on c q.coming d h) cs all)
+    inner q true h all = (itself-first c, every-weaker (λ d. comes_first q.coming d ≡ true) (λ d. comes_first c d ≡ true) (λ d. first-so-on c q.coming d h) cs all)
     inner q false h all = (other-first c q.coming h, all)
 
     by : (o : Option Placed) → ((q : Placed) → first_of cs ≡ Some q → Every (λ d. comes_first q.coming d ≡ true) cs) → (first_of cs ≡ None → Every (λ d. comes_first c d ≡ true) cs) → first_of cs ≡ o
@@ -127,22 +105,22 @@ first-append (c ∷ cs) more p e later = by (first_of cs) refl (first-append cs 
     alone all is =
         is-first c (cs ++ more)
         (every-append (λ d. comes_first c d ≡ true) cs more all
-        (every-so (λ d. p.coming.time < d.time) (λ d. comes_first c d ≡ true)
+        (every-weaker (λ d. p.coming.time < d.time) (λ d. comes_first c d ≡ true)
         (λ d lt. earlier-first c d (subst (λ (p : Placed). p.coming.time < d.time) is lt)) more later)) ∙ ap Some (sym is)
 
     inner : (q : Placed) (b : Bool) → first_of cs ≡ Some q → comes_first c q.coming ≡ b → ((q : Placed) → first_of cs ≡ Some q → Every (λ d. q.coming.time < d.time) more → first_of (cs ++ more) ≡ Some q)
         → first_of (c ∷ (cs ++ more)) ≡ Some p
     inner q true h f rest =
-        alone (every-so (λ d. comes_first q.coming d ≡ true) (λ d. comes_first c d ≡ true) (λ d. first-so-on c q.coming d f) cs (first-least cs q h))
-        (some-same p (pick c q true) (sym e ∙ ap (λ o. Some (first_with c o)) h ∙ ap (λ b. Some (pick c q b)) f))
+        alone (every-weaker (λ d. comes_first q.coming d ≡ true) (λ d. comes_first c d ≡ true) (λ d. first-so-on c q.coming d f) cs (first-least cs q h))
+        (same_Some p (pick c q true) (sym e ∙ ap (λ o. Some (first_with c o)) h ∙ ap (λ b. Some (pick c q b)) f))
     inner q false h f rest =
-        let is : p ≡ pick c q false = some-same p (pick c q false) (sym e ∙ ap (λ o. Some (first_with c o)) h ∙ ap (λ b. Some (pick c q b)) f) in
-        ap (λ o. Some (first_with c o)) (rest q h (every-so (λ d. p.coming.time < d.time) (λ d. q.coming.time < d.time) (λ d lt. subst (λ (p : Placed). p.coming.time < d.time) is lt) more later))
+        let is : p ≡ pick c q false = same_Some p (pick c q false) (sym e ∙ ap (λ o. Some (first_with c o)) h ∙ ap (λ b. Some (pick c q b)) f) in
+        ap (λ o. Some (first_with c o)) (rest q h (every-weaker (λ d. p.coming.time < d.time) (λ d. q.coming.time < d.time) (λ d lt. subst (λ (p : Placed). p.coming.time < d.time) is lt) more later))
         ∙ ap (λ b. Some (pick c q b)) f ∙ ap Some (sym is)
 
     by : (o : Option Placed) → first_of cs ≡ o → ((q : Placed) → first_of cs ≡ Some q → Every (λ d. q.coming.time < d.time) more → first_of (cs ++ more) ≡ Some q)
         → first_of (c ∷ (cs ++ more)) ≡ Some p
-    by None h rest = alone (none-there (λ d. comes_first c d ≡ true) cs h) (some-same p (record { place = 0; coming = c }) (sym e ∙ ap (λ o. Some (first_with c o)) h))
+    by None h rest = alone (none-there (λ d. comes_first c d ≡ true) cs h) (same_Some p (record { place = 0; coming = c }) (sym e ∙ ap (λ o. Some (first_with c o)) h))
     by (Some q) h rest = inner q (comes_first c q.coming) h refl rest
 
 -- Either the first comes before a time, or nothing does.
@@ -153,7 +131,7 @@ which-first until cs = by (first_of cs) refl
     by None h = inr (none-there (λ c. until ≤ c.time) cs h)
     by (Some p) h = elim (cases_lt p.coming.time until) [
       | inl lt ↦ inl (p, (h, lt))
-      | inr ge ↦ inr (every-so (λ d. comes_first p.coming d ≡ true) (λ c. until ≤ c.time) (λ d f. let le = not-later p.coming d f in omega (arith, le, ge)) cs (first-least cs p h))
+      | inr ge ↦ inr (every-weaker (λ d. comes_first p.coming d ≡ true) (λ c. until ≤ c.time) (λ d f. let le = not-later p.coming d f in omega (arith, le, ge)) cs (first-least cs p h))
     ]
 
 -- An item that is taken out.

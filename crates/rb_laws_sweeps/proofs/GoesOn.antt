@@ -2,7 +2,9 @@
 use Rattle.std.proofs.Common.{◌≡◌, ℕ, suc, ◌+◌, ◌<◌, ◌≤◌, ◌⊎◌, ◌&&◌, Bool, true, false, List, [], ◌∷◌, ◌++◌, append_assoc, refl, ap, sym, ◌∙◌, subst, arith, inl, inr, Option, Some, None, option_map, slice_get, if◌then◌else◌}
 use Rattle.std.proofs.lemmas.Bool.{cases_lt}
 use Rattle.std.proofs.lemmas.List.{append-nil}
+use Rattle.std.proofs.lemmas.Option.{same_Some}
 use Rattle.rb_base.specs.Nodes.{Side, other}
+use Rattle.rb_base.proofs.Plain.{option_map-back}
 use Rattle.rb_rules.specs.declared.message.Message.{Message}
 use Rattle.rb_rules.specs.Book.{Each, Record, map_each, of_kind}
 use Rattle.rb_rules.specs.Clock.{time_of}
@@ -18,14 +20,13 @@ use Rattle.rb_rules.specs.WorldStep.Way.{ByAnEvent}
 use Rattle.rb_rules.proofs.WindowNumbers.{get-each}
 use Rattle.rb_laws_events.proofs.OneEvent.{happens-is}
 use Rattle.rb_laws_events.proofs.WorldNodes.{settle-sites}
-use Rattle.rb_laws_events.proofs.WorldStands.{back-from, get-at, is_node, node-is, node-itself}
+use Rattle.rb_laws_events.proofs.WorldStands.{get-at, is_node, node-is, node-itself}
 use Rattle.rb_laws_sweeps.specs.AheadOf.{GoesOnAhead, IsFirstTick, LeadsToTick, TellsAhead, after_takes, ahead_of, each_swept, is_behind, tick_alone, told_in, until_tick}
 use Rattle.rb_laws_sweeps.specs.Laws.{NeedsEvent, WorldsGoOnAhead}
 use Rattle.rb_laws_sweeps.specs.Sweeping.{swept}
 use Rattle.rb_laws_sweeps.specs.Told.{heard, told_alone, told_next, telling}
 use Rattle.rb_laws_sweeps.proofs.AfterTick.{Later, TicksNow, act-later, takes-are, ticks-now}
 use Rattle.rb_laws_sweeps.proofs.EachNode.{KeepsAhead, behind-so-on, each-alike, first-changed, nodes-order, until-behind, until-least, until-most, until-not, until-own}
-use Rattle.rb_laws_sweeps.proofs.Firsts.{some-same}
 use Rattle.rb_laws_sweeps.proofs.Hearing.{hearing-composes, hears-none, sent-unheard}
 use Rattle.rb_laws_sweeps.proofs.Leads.{leads-to-tick}
 use Rattle.rb_laws_sweeps.proofs.OpenWorlds.{Goes, goes-reached}
@@ -107,7 +108,7 @@ message-back sc me i frame k None sites side n y there = (y, (there, refl))
 message-back sc me i frame k (Some m) sites side n y there =
     let x : Sending = record { tick = k; message = m } in
     let sent : Side → ℕ → Site → Site = sent_to sc me i frame x in
-    let was = back-from (sent side n) (slice_get (of_kind side sites) n) y (sym (get-each sent sites side n) ∙ there) in
+    let was = option_map-back (sent side n) (slice_get (of_kind side sites) n) y (sym (get-each sent sites side n) ∙ there) in
     (was.0, (was.1.0, ap (λ (s : Site). s.ahead) (sym was.1.1) ∙ sent-ahead sc me i frame x side n was.0))
 
 -- a node with it, if there is one, hears in a sweep through its tick what it hears without it
@@ -125,8 +126,8 @@ node-back : (me : Side) (i : ℕ) (first next : Site → Site) (sites : Each Sit
     → slice_get (of_kind side (at_node me i next (at_node me i first sites))) n ≡ Some y
     → (s : Site) × ((slice_get (of_kind side sites) n ≡ Some s) × (((is_node me i side n ≡ true) × (y ≡ next (first s))) ⊎ ((is_node me i side n ≡ false) × (y ≡ s))))
 node-back me i first next sites side n y there =
-    let was = back-from (one_changes next me i side n) (slice_get (of_kind side (at_node me i first sites)) n) y (sym (get-at me side i n next (at_node me i first sites)) ∙ there) in
-    let before = back-from (one_changes first me i side n) (slice_get (of_kind side sites) n) was.0 (sym (get-at me side i n first sites) ∙ was.1.0) in
+    let was = option_map-back (one_changes next me i side n) (slice_get (of_kind side (at_node me i first sites)) n) y (sym (get-at me side i n next (at_node me i first sites)) ∙ there) in
+    let before = option_map-back (one_changes first me i side n) (slice_get (of_kind side sites) n) was.0 (sym (get-at me side i n first sites) ∙ was.1.0) in
     (before.0, (before.1.0, by before.0 (is_node me i side n) refl (ap (one_changes next me i side n) before.1.1 ∙ was.1.1)))
   where
     by : (s : Site) (b : Bool) → is_node me i side n ≡ b
@@ -239,7 +240,7 @@ goes-on sc lawful choices until w is event me i a first le = record { leads = le
         ap (with_message sc me i frame a.tick x.message)
         (node-passes sc next me i sweep act w.sites
         (λ y here.
-        let same : first.node ≡ y = some-same first.node y (sym first.there ∙ here) in
+        let same : first.node ≡ y = same_Some first.node y (sym first.there ∙ here) in
         subst (λ y. act (swept sc me i (next me i) y) ≡ swept sc me i (next me i) (act (sweep y))) same
         (subst (λ u. act (swept sc me i u first.node) ≡ swept sc me i u (act (sweep first.node))) (sym own) (sym (sweep-stays sc me i (a.time + 1) (act z) acted.coming)))))
         ∙ message-passes sc lawful next me i frame a.tick x.message (at_node me i act (at_node me i sweep w.sites))
@@ -328,7 +329,7 @@ goes-on sc lawful choices until w is event me i a first le = record { leads = le
         by s here true e =
             let is = node-is me side i j e in
             let its : slice_get (of_kind me w.sites) i ≡ Some s = sym (ap (λ k. slice_get (of_kind k w.sites) j) is.0 ∙ ap (slice_get (of_kind me w.sites)) is.1) ∙ here in
-            let same : first.node ≡ s = some-same first.node s (sym first.there ∙ its) in
+            let same : first.node ≡ s = same_Some first.node s (sym first.there ∙ its) in
             subst (λ s. heard sc side j (next side j) s ++ told_next sc side j there ≡ told_alone sc w me i a side j s ++ heard sc side j (next side j) (act (sweep s))) same
             (subst (λ k. heard sc k j (next k j) first.node ++ told_next sc k j there ≡ told_alone sc w me i a k j first.node ++ heard sc k j (next k j) (act z)) (sym is.0)
             (subst (λ m. heard sc me m (next me m) first.node ++ told_next sc me m there ≡ told_alone sc w me i a me m first.node ++ heard sc me m (next me m) (act z)) (sym is.1) own-tells))
@@ -346,7 +347,7 @@ goes-on sc lawful choices until w is event me i a first le = record { leads = le
         by s here pends (inl its) =
             let at = node-is me you i m its.0 in
             let here_me : slice_get (of_kind me w.sites) i ≡ Some s = sym (ap (λ k. slice_get (of_kind k w.sites) m) at.0 ∙ ap (slice_get (of_kind me w.sites)) at.1) ∙ here in
-            let same : s ≡ first.node = some-same s first.node (sym here_me ∙ first.there) in
+            let same : s ≡ first.node = same_Some s first.node (sym here_me ∙ first.there) in
             let up : a.time + 1 ≤ b.time = acted.tick b (ap (λ s. (act (sweep s)).ahead) (sym same) ∙ ap (λ (s : Site). s.ahead) (sym its.1) ∙ pends) in
             inl (omega (arith, up))
         by s here pends (inr its) =

@@ -1,8 +1,9 @@
 -- In every world what came to a node came from nodes that there are.
 use Rattle.std.proofs.Common.{◌≡◌, ℕ, ◌<◌, ◌&&◌, Bool, true, false, List, [], ◌∷◌, ◌++◌, fold, length, refl, ap, sym, ◌∙◌, subst, arith, Option, Some, None, slice_get}
-use Rattle.std.proofs.lemmas.Option.{slice_get_within}
+use Rattle.std.proofs.lemmas.Option.{same_Some, slice_get_within}
 use Rattle.rb_base.specs.Nodes.{Side, other}
 use Rattle.rb_base.specs.Nodes.Side.{Biu}
+use Rattle.rb_base.proofs.Plain.{option_map-back}
 use Rattle.rb_rules.specs.declared.closing.Closed.{Closed}
 use Rattle.rb_rules.specs.declared.message.Message.{Message}
 use Rattle.rb_rules.specs.declared.record.Epoch.{Epoch}
@@ -19,9 +20,9 @@ use Rattle.rb_rules.specs.WorldStep.Way.{ByAnEvent, ByItself}
 use Rattle.rb_rules.proofs.WindowNumbers.{get-each, get-made}
 use Rattle.rb_laws_events.proofs.DueEvents.{IsDue, IsReady, due-is}
 use Rattle.rb_laws_events.proofs.OneEvent.{happens-is}
+use Rattle.rb_laws_events.proofs.Receiving.{every-stands}
 use Rattle.rb_laws_events.proofs.WorldNodes.{Known, NodesKnown, choose-known, first-counts, first-known, known-append, settle-sites}
-use Rattle.rb_laws_events.proofs.WorldStands.{back-from, is_node, node-is}
-use Rattle.rb_laws_sweeps.proofs.Firsts.{every-stands, some-same}
+use Rattle.rb_laws_events.proofs.WorldStands.{is_node, node-is}
 
 abbrev pub GotKnown : Scenario → Each Site → Type 0
 GotKnown sc sites = (me : Side) (i : ℕ) (s : Site) → slice_get (of_kind me sites) i ≡ Some s → Known sc.sizes me s.got
@@ -30,7 +31,7 @@ each-got : (sc : Scenario) (f : Side → ℕ → Site → Site) (sites : Each Si
     → ((me : Side) (i : ℕ) (s : Site) → slice_get (of_kind me sites) i ≡ Some s → Known sc.sizes me s.got → Known sc.sizes me (f me i s).got)
     → GotKnown sc sites → GotKnown sc (map_each f sites)
 each-got sc f sites go h me i s e =
-    let was = back-from (f me i) (slice_get (of_kind me sites) i) s (sym (get-each f sites me i) ∙ e) in
+    let was = option_map-back (f me i) (slice_get (of_kind me sites) i) s (sym (get-each f sites me i) ∙ e) in
     subst (λ (x : Site). Known sc.sizes me x.got) was.1.1 (go me i was.0 was.1.0 (h me i was.0 was.1.0))
 
 -- A tick.
@@ -143,7 +144,7 @@ first-got sc me i s e =
     let within : i < length (of_kind me (each_of sc.sizes make)) = slice_get_within (of_kind me (each_of sc.sizes make)) i s e in
     let long : length (of_kind me (each_of sc.sizes make)) ≡ count_of me sc.sizes = first-counts sc.sizes make me in
     let made : slice_get (of_kind me (each_of sc.sizes make)) i ≡ Some (make me i) = get-made sc.sizes make me i (omega arith) in
-    let same : make me i ≡ s = some-same (make me i) s (sym made ∙ e) in
+    let same : make me i ≡ s = same_Some (make me i) s (sym made ∙ e) in
     let fresh : Site = fresh_site sc.sizes me in
     let none : (make me i).got ≡ [] = enter-got sc me i (span_from sc.sizes sc.plan me fresh.core.state fresh.core.had) fresh in
     subst (λ (x : Site). Known sc.sizes me x.got) same (subst (Known sc.sizes me) (sym none) tt)

@@ -1,45 +1,28 @@
 -- For the law that what is pending behind is few: where the run breaks off in a sync slot the nodes keep room for what came to them, too.
-use Rattle.std.proofs.Common.{◌≡◌, ℕ, zero, suc, ◌+◌, ◌*◌, ◌^◌, ◌<◌, ◌≤◌, ◌&&◌, Bool, true, false, List, [], ◌∷◌, ◌++◌, append_assoc, cond, filter, length, length-append, refl, remove, ap, sym, ◌∙◌, subst, arith, inl, inr, Option, Some, None, option_map, slice_get}
-use Rattle.std.proofs.lemmas.Bool.{cases_lt}
+use Rattle.std.proofs.Common.{◌≡◌, ℕ, zero, suc, ◌+◌, ◌*◌, ◌<◌, ◌≤◌, ◌&&◌, Bool, true, false, List, [], ◌∷◌, ◌++◌, append_assoc, cond, filter, length, length-append, refl, remove, ap, sym, ◌∙◌, subst, arith, inl, Option, Some, None, option_map, slice_get}
+use Rattle.std.proofs.lemmas.Option.{same_Some, slice_get_within}
 use Rattle.rb_base.specs.Nodes.{Side, other}
 use Rattle.rb_base.specs.Sizes.{Sizes}
+use Rattle.rb_base.proofs.Plain.{option_map-back}
 use Rattle.rb_rules.specs.declared.message.Message.{Message}
 use Rattle.rb_rules.specs.Book.{Each, of_kind}
-use Rattle.rb_rules.specs.Clock.{stamp_of, time_of}
-use Rattle.rb_rules.specs.Core.{Act, Core, arrive, pass_to}
-use Rattle.rb_rules.specs.Goodness.{Scenario, clock_of, is_good}
+use Rattle.rb_rules.specs.Core.{Act}
+use Rattle.rb_rules.specs.Goodness.{Scenario, is_good}
 use Rattle.rb_rules.specs.Hearing.{Coming, coming_of}
 use Rattle.rb_rules.specs.Lawful.{IsLawful}
-use Rattle.rb_rules.specs.NodeState.{NodeState}
 use Rattle.rb_rules.specs.Ports.{HandIn, PortState}
-use Rattle.rb_rules.specs.Rounds.{moment}
 use Rattle.rb_rules.specs.Slots.{count_of, same_side}
-use Rattle.rb_rules.specs.WorldStep.{Site, Timed, after_act, after_arrival, at_node, pass_and_tick, with_message}
-use Rattle.rb_rules.proofs.Drift.{times_rise_to}
-use Rattle.rb_rules.proofs.QuietTicks.{arrive-same}
-use Rattle.rb_rules.proofs.Stamps.{Moves}
+use Rattle.rb_rules.specs.WorldStep.{Site, after_act, after_arrival, at_node, pass_and_tick, with_message}
 use Rattle.rb_laws_events.specs.PendingEvents.{most_coming}
 use Rattle.rb_laws_events.proofs.BreakBegins.{FirstCloses}
-use Rattle.rb_laws_events.proofs.BreakEvents.{TickBreaks}
-use Rattle.rb_laws_events.proofs.BreakMessages.{closed-more}
-use Rattle.rb_laws_events.proofs.BreakNodes.{BreaksAt, KeepsNodes}
-use Rattle.rb_laws_events.proofs.BreakRooms.{HasLater, has-later}
-use Rattle.rb_laws_events.proofs.BreakSites.{closed-arrives}
+use Rattle.rb_laws_events.proofs.BreakNodes.{KeepsNodes}
 use Rattle.rb_laws_events.proofs.EventsHold.{keeps, nodes_at}
-use Rattle.rb_laws_events.proofs.FewBreak.{MayBreak, breaks-few}
-use Rattle.rb_laws_events.proofs.FewLast.{MayLast, last-few}
-use Rattle.rb_laws_events.proofs.FewKeeps.{may_at}
-use Rattle.rb_laws_events.proofs.FewOff.{HaveRooms, StepsOn, messages_in, rooms-change}
-use Rattle.rb_laws_events.proofs.FewSent.{HasSpoken, spoken-kept}
-use Rattle.rb_laws_events.proofs.Invariant.{is_good_at}
-use Rattle.rb_laws_events.proofs.LastSites.{told-arrives, told-more}
+use Rattle.rb_laws_events.proofs.FewKeeps.{may-arrives, may-reached, may_at, steps-at, sum-same, tick-small}
+use Rattle.rb_laws_events.proofs.FewOff.{HaveRooms, messages_in, rooms-change}
 use Rattle.rb_laws_events.proofs.PendingLists.{StandsAt, filter-last}
-use Rattle.rb_laws_events.proofs.Settling.{get-within}
-use Rattle.rb_laws_events.proofs.SourceSums.{sum_to}
 use Rattle.rb_laws_events.proofs.Takes.{length-without}
-use Rattle.rb_laws_events.proofs.TickRooms.{has-room}
-use Rattle.rb_laws_events.proofs.WorldStands.{IsDown, IsUp, back-from, is_node, node-is, sent_by, some-same}
-use Rattle.rb_laws_events.proofs.WorldTicks.{after_tick, get-after, length-after, moved, reached}
+use Rattle.rb_laws_events.proofs.WorldStands.{IsDown, IsUp, is_node, node-is, sent_by}
+use Rattle.rb_laws_events.proofs.WorldTicks.{after_tick, get-after, length-after, moved}
 use Rattle.rb_rules.specs.declared.closing.Closed.{Closed}
 use Rattle.rb_rules.specs.declared.record.Epoch.{Epoch}
 use Rattle.rb_rules.specs.Hearing.{Sending, Span}
@@ -73,17 +56,13 @@ rooms-had sc q hands b sent sites h me i s there =
 
 -- It begins.
 
-sum-same : (k n : ℕ) → sum_to (λ _. k) n ≡ n * k
-sum-same k zero = omega arith
-sum-same k (suc n) = let rest = sum-same k n in omega (arith, rest)
-
 begins-had : (sc : Scenario) (q : ℕ) (hands : List HandIn) (b now : ℕ) (at : Side → ℕ → ℕ) (sites : Each Site) (t : ℕ) → FirstCloses sc hands now at sites b t → HadOff sc q hands b sites
 begins-had sc q hands b now at sites t h = record {
   sends = λ _ _. 2;
   enters = λ _ _. 2;
   rooms = record {
     room = λ me i s there.
-        let was = back-from (with_had sc.sizes me i) (slice_get (of_kind me sites) i) s (sym (get-each (with_had sc.sizes) sites me i) ∙ there) in
+        let was = option_map-back (with_had sc.sizes me i) (slice_get (of_kind me sites) i) s (sym (get-each (with_had sc.sizes) sites me i) ∙ there) in
         let same : length (with_had sc.sizes me i was.0).coming ≡ length s.coming = ap (λ (s : Site). length s.coming) was.1.1 in
         let long = length-append (had_of sc.sizes me was.0) was.0.coming in
         let all = sum-same 2 (count_of (other me) sc.sizes) in
@@ -114,77 +93,6 @@ begins-had sc q hands b now at sites t h = record {
     starts (suc (suc q)) me i s = inl (omega arith, omega arith)
 
 -- Messages and arrivals.
-
-may-more : (sc : Scenario) (q : ℕ) (hands : List HandIn) (b : ℕ) (me : Side) (i r e : ℕ) (s : Site) (more : List Coming) → may_at sc q hands b me i r e s → may_at sc q hands b me i r e (record s { coming = more })
-unfolding told-more
-may-more sc q hands b me i r e s more h = by q h
-  where
-    early : MayBreak sc hands b me i r e s → MayBreak sc hands b me i r e (record s { coming = more })
-    early (inl h) = inl h
-    early (inr h) = inr (closed-more sc hands b me i s (record s { coming = more }) refl refl refl h.0, h.1)
-
-    late : MayLast sc hands b me i r e s → MayLast sc hands b me i r e (record s { coming = more })
-    late (inl h) = inl h
-    late (inr h) = inr (record { told = told-more sc hands b me i s more h.told; enters = h.enters; tail = h.tail; turned = h.turned })
-
-    by : (q : ℕ) → may_at sc q hands b me i r e s → may_at sc q hands b me i r e (record s { coming = more })
-    by zero h = early h
-    by (suc zero) h = early h
-    by (suc (suc q)) h = late h
-
-may-reached : (sc : Scenario) (q : ℕ) (hands : List HandIn) (b : ℕ) (me : Side) (i frame k : ℕ) (m : Option Message) (side : Side) (j r e : ℕ) (z : Site)
-    → may_at sc q hands b side j r e z → may_at sc q hands b side j r e (reached sc me i frame k m side j z)
-may-reached sc q hands b me i frame k None side j r e z h = h
-may-reached sc q hands b me i frame k (Some m) side j r e z h = by (same_side side (other me) && z.runs)
-  where
-    by : (d : Bool) → may_at sc q hands b side j r e (elim d as (λ _. Site) [
-      | true ↦ record z { coming = z.coming ++ coming_of sc side j i frame (record { tick = k; message = m }) ∷ [] }
-      | false ↦ z
-    ])
-    by true = may-more sc q hands b side j r e z (z.coming ++ coming_of sc side j i frame (record { tick = k; message = m }) ∷ []) h
-    by false = h
-
-may-arrives : (sc : Scenario) (q : ℕ) (hands : List HandIn) (b : ℕ) (me : Side) (i r e n : ℕ) (c : Coming) (s : Site) → (is_good_at sc (moment sc hands b) me i ≡ true → Moves (clock_of sc me i))
-    → ((a : Timed) → s.ahead ≡ Some a → c.time ≤ a.time) → may_at sc q hands b me i r e s → may_at sc q hands b me i r e (after_arrival sc me i n c s)
-unfolding after_arrival told-arrives
-may-arrives sc q hands b me i r e n c s moves before h = by q h
-  where
-    passed : Core
-    passed = pass_to (stamp_of (clock_of sc me i) c.time) s.core
-
-    new : Core
-    new = arrive sc.sizes me passed c.from c.bytes
-
-    state : new.state ≡ s.core.state
-    state = (arrive-same sc.sizes me passed c.from c.bytes).0
-
-    had : s.core.had ≤ new.had
-    had = let same = (arrive-same sc.sizes me passed c.from c.bytes).1 in let more : s.core.had ≤ passed.had = omega arith in omega (arith, same, more)
-
-    spoken : HasSpoken sc.sizes sc.plan me s.core.state s.core.had → HasSpoken sc.sizes sc.plan me new.state new.had
-    spoken g = subst (λ y. HasSpoken sc.sizes sc.plan me y new.had) (sym state)
-        (spoken-kept sc.sizes sc.plan me s.core.state s.core.state s.core.had new.had (record { epoch = refl; k1 = refl; k2 = refl }) had g)
-
-    frame : new.state.frame ≡ s.core.state.frame
-    frame = ap (λ (y : NodeState). y.frame) state
-
-    early : MayBreak sc hands b me i r e s → MayBreak sc hands b me i r e (after_arrival sc me i n c s)
-    early (inl h) = inl h
-    early (inr h) = inr (closed-arrives sc hands me i b n c s (moves h.0.good) h.0 before, elim h.1 [ inl one ↦ inl one | inr g ↦ inr (spoken g) ])
-
-    late : MayLast sc hands b me i r e s → MayLast sc hands b me i r e (after_arrival sc me i n c s)
-    late (inl h) = inl h
-    late (inr h) = inr (record {
-      told = told-arrives sc hands me i b n c s (moves h.told.good) h.told before;
-      enters = λ lt. h.enters (omega (arith, lt, had));
-      tail = λ f. elim (h.tail (sym frame ∙ f)) [ inl two ↦ inl two | inr g ↦ inr (g.0, spoken g.1) ];
-      turned = λ f. elim (h.turned (sym frame ∙ f)) [ inl one ↦ inl one | inr over ↦ inr (omega (arith, over, had)) ];
-    })
-
-    by : (q : ℕ) → may_at sc q hands b me i r e s → may_at sc q hands b me i r e (after_arrival sc me i n c s)
-    by zero h = early h
-    by (suc zero) h = early h
-    by (suc (suc q)) h = late h
 
 -- what came to the nodes, after one of them changes and a message is on its way
 
@@ -227,7 +135,7 @@ had-node sizes me i change s sites there =
     by side n z here true e =
         let is = node-is me side i n e in
         let its : slice_get (of_kind me sites) i ≡ Some z = sym (ap (λ k. slice_get (of_kind k sites) n) is.0 ∙ ap (slice_get (of_kind me sites)) is.1) ∙ here in
-        ap (λ z. with_had sizes me i (change z)) (some-same s z (sym there ∙ its))
+        ap (λ z. with_had sizes me i (change z)) (same_Some s z (sym there ∙ its))
         ∙ ap (λ k. with_had sizes k n (change z)) (sym is.0)
 
 -- one node changes, and a message is on its way
@@ -241,11 +149,11 @@ changes-had sc q hands b sites me i frame k m change s r e h there room sent may
   rooms = subst (HaveRooms sc (most_coming sc) (moved me i r h.sends) (moved me i e h.enters))
       (ap (with_message sc me i frame k m) (had-node sc.sizes me i change s sites there) ∙ had-message sc me i frame k m (at_node me i change sites))
       (rooms-change sc (most_coming sc) h.sends h.enters (map_each (with_had sc.sizes) sites) me i frame k m (λ z. with_had sc.sizes me i (change s)) (with_had sc.sizes me i s) r e
-      (let within = get-within (of_kind me sites) i s there in let long = h.counts me in omega (arith, within, long))
+      (let within = slice_get_within (of_kind me sites) i s there in let long = h.counts me in omega (arith, within, long))
       (get-each (with_had sc.sizes) sites me i ∙ ap (option_map (with_had sc.sizes me i)) there) room sent h.rooms);
   counts = λ side. length-after sc me i frame k m change sites side ∙ h.counts side;
   may = λ side j z f.
-      let was = back-from (after_tick sc me i frame k m change side j) (slice_get (of_kind side sites) j) z (sym (get-after sc me i frame k m change sites side j) ∙ f) in
+      let was = option_map-back (after_tick sc me i frame k m change side j) (slice_get (of_kind side sites) j) z (sym (get-after sc me i frame k m change sites side j) ∙ f) in
       subst (may_at sc q hands b side j (moved me i r h.sends side j) (moved me i e h.enters side j)) was.1.1
       (may-reached sc q hands b me i frame k m side j (moved me i r h.sends side j) (moved me i e h.enters side j) (elim (is_node me i side j) as (λ _. Site) [ true ↦ change was.0 | false ↦ was.0 ])
       (its side j was.0 was.1.0 (is_node me i side j) refl));
@@ -256,42 +164,9 @@ changes-had sc q hands b sites me i frame k m change s r e h there room sent may
     its side j was at true f =
         let is = node-is me side i j f in
         let here : slice_get (of_kind me sites) i ≡ Some was = sym (ap (λ y. slice_get (of_kind y sites) j) is.0 ∙ ap (slice_get (of_kind me sites)) is.1) ∙ at in
-        subst (λ was. may_at sc q hands b side j r e (change was)) (some-same s was (sym there ∙ here))
+        subst (λ was. may_at sc q hands b side j r e (change was)) (same_Some s was (sym there ∙ here))
         (subst (λ y. may_at sc q hands b y j r e (change s)) (sym is.0) (subst (λ n. may_at sc q hands b me n r e (change s)) (sym is.1) may))
     its side j was at false f = h.may side j was at
-
--- Ticks.
-
-steps-at : (sc : Scenario) → IsLawful sc → (q : ℕ) (hands : List HandIn) (b : ℕ) → BreaksAt sc hands b q → (sent : Side → ℕ → ℕ → Bool) (ports : List PortState) (sites : Each Site) → nodes_at sc q hands b sent sites
-    → (me : Side) (i : ℕ) (s : Site) (a : Timed) (r e : ℕ) → TickBreaks sc hands sent ports b me i s a → a.tick < 2 ^ 31 → slice_get (of_kind me sites) i ≡ Some s → may_at sc q hands b me i r e s
-    → StepsOn sc (may_at sc q hands b me i) (pass_and_tick sc ports me i a.tick s.core).message s (after_act sc ports me i (pass_and_tick sc ports me i a.tick s.core) s) r e
-steps-at sc lawful zero hands b off sent ports sites h me i s a r e t small there may =
-    breaks-few sc hands lawful (has-room sc lawful) sent (h me i s there).0 ports b 0 off.running (omega arith) off.window me i s a r e t small (h me i s there).1 may
-steps-at sc lawful (suc zero) hands b off sent ports sites h me i s a r e t small there may =
-    breaks-few sc hands lawful (has-room sc lawful) sent (h me i s there).0 ports b 1 off.running (omega arith) off.window me i s a r e t small (h me i s there).1 may
-steps-at sc lawful (suc (suc zero)) hands b off sent ports sites h me i s a r e t small there may =
-    last-few sc hands lawful (has-room sc lawful) sent ports b off.running off.window me i s a r e t (h me i s there) may
-steps-at sc lawful (suc (suc (suc q))) hands b off sent ports sites h me i s a r e t small there may = absurd (let few = off.small in omega (arith, few))
-
-none-pends : {P : Type 0} (a : Timed) (o : Option Timed) → o ≡ None → o ≡ Some a → P
-none-pends a None e f = cc
-none-pends a (Some b) e f = cc
-
--- a tick that is due is one of those that the node may have
-tick-small : (sc : Scenario) → IsLawful sc → (q : ℕ) → KeepsNodes sc q (nodes_at sc q) → (hands : List HandIn) (b : ℕ) → BreaksAt sc hands b q → (sent : Side → ℕ → ℕ → Bool) (ports : List PortState) (sites : Each Site)
-    → nodes_at sc q hands b sent sites → (me : Side) (i : ℕ) (s : Site) (a : Timed) → TickBreaks sc hands sent ports b me i s a → slice_get (of_kind me sites) i ≡ Some s → a.tick < 2 ^ 31
-tick-small sc lawful q its hands b off sent ports sites h me i s a t there =
-    let ahead = its.ahead hands b off sent sites h me i s there a t.pend in
-    let good : is_good_at sc (moment sc hands b) me i ≡ true = elim (its.goes hands b off sent sites h me i s there) [ inl stopped ↦ none-pends a s.ahead stopped.ahead t.pend | inr good ↦ good ] in
-    let later : HasLater sc a.time me i = has-later sc hands lawful b q a.time off (record { you = t.you; j = t.j; yours = t.yours; there = t.there; good = t.good; first = t.first }) me i good in
-    let small = later.small in
-    let after = later.later in
-    elim (cases_lt a.tick later.k) [
-      | inl lt ↦ omega (arith, lt, small)
-      | inr ge ↦
-          let up : time_of (clock_of sc me i) later.k ≤ time_of (clock_of sc me i) a.tick = times_rise_to (clock_of sc me i) later.k a.tick ge in
-          absurd (omega (arith, up, after, ahead.1))
-    ]
 
 -- What came, after a tick and after an arrival.
 

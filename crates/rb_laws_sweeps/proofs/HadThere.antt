@@ -1,19 +1,19 @@
 -- What came to a node for its open window and what is pending there are few together, where the nodes stand in the rounds.
-use Rattle.std.proofs.Common.{◌≡◌, ℕ, zero, suc, ◌+◌, ◌*◌, ◌≤◌, ◌==◌, nat_lt, Bool, true, false, List, [], ◌∷◌, cond, filter, length, refl, ap, sym, subst, arith, Option, Some, None, option_map, option_to_list}
+use Rattle.std.proofs.Common.{◌≡◌, ℕ, zero, suc, ◌+◌, ◌*◌, ◌≤◌, ◌==◌, nat_lt, Bool, true, false, List, [], ◌∷◌, cond, filter, length, refl, ap, sym, subst, arith}
 use Rattle.std.proofs.lemmas.Bool.{ltb-true}
 use Rattle.std.proofs.lemmas.Bool.Decides.{nat_tests}
 use Rattle.rb_base.specs.Nodes.{Side, other}
 use Rattle.rb_base.specs.Sizes.{Sizes}
 use Rattle.rb_rules.specs.Clock.{time_of}
 use Rattle.rb_rules.specs.Goodness.{Scenario, clock_of}
-use Rattle.rb_rules.specs.Hearing.{Coming, Sending, Span, coming_of, coming_said, is_said, said_by, span_of}
+use Rattle.rb_rules.specs.Hearing.{Coming, Span, coming_said, is_said, said_by, span_of}
 use Rattle.rb_rules.specs.NodeState.{NodeState}
 use Rattle.rb_rules.specs.Ports.{HandIn}
 use Rattle.rb_rules.specs.Rounds.{Moment, moment, window_in}
 use Rattle.rb_rules.specs.Slots.{count_of}
 use Rattle.rb_rules.specs.WorldStep.{Site, Timed, coming_from}
-use Rattle.rb_laws_events.proofs.FewThere.{length-mapped, said-once}
-use Rattle.rb_laws_events.proofs.Invariant.{NodeStands, ahead_so_far, entry_of, heard_so_far, is_good_at, last_tick, next_stage, sending_of}
+use Rattle.rb_laws_events.proofs.FewThere.{ahead-few, entry-once, if-sent, length-mapped, said-once}
+use Rattle.rb_laws_events.proofs.Invariant.{NodeStands, ahead_so_far, entry_of, heard_so_far, is_good_at, last_tick, next_stage}
 use Rattle.rb_laws_events.proofs.PendingLists.{Hears}
 use Rattle.rb_laws_events.proofs.SourceSums.{all-of-sources, coming_of_source, items-once, sum-larger, sum-le, sum-plus, sum-twos, sum_to}
 
@@ -58,17 +58,6 @@ sum-both f g (suc n) = let rest = sum-both f g n in omega (arith, rest)
 abbrev entries_of : Scenario → Side → ℕ → Span → ℕ → ℕ
 entries_of sc me i span j = length (filter (is_said me i j span) sc.says)
 
-if-sent : (b : Bool) (xs : List Coming) → length xs ≤ 1 → length (elim b as (λ _. List Coming) [ true ↦ xs | false ↦ [] ]) ≤ 1
-if-sent true xs le = le
-if-sent false xs le = omega arith
-
-entry-once : (sc : Scenario) (m : Moment) (me : Side) (i j : ℕ) → length (entry_of sc m me i j) ≤ 1
-entry-once sc m me i j = by (sending_of sc m (other me) j)
-  where
-    by : (o : Option Sending) → length (option_to_list (option_map (coming_of sc me i j m.frame) o)) ≤ 1
-    by None = omega arith
-    by (Some x) = omega arith
-
 heard-few : (sc : Scenario) (m : Moment) (me : Side) (i : ℕ) (span : Span) (sent : ℕ → Bool) (j : ℕ) → length (heard_so_far sc m me i span sent j) ≤ 1 + entries_of sc me i span j
 heard-few sc m me i span sent j = by (is_good_at sc m (other me) j)
   where
@@ -78,16 +67,6 @@ heard-few sc m me i span sent j = by (is_good_at sc m (other me) j)
     ]) ≤ 1 + entries_of sc me i span j
     by true = let one = if-sent (sent j) (entry_of sc m me i j) (entry-once sc m me i j) in omega (arith, one)
     by false = let many = length-mapped (coming_said sc.plan.version (clock_of sc me i) j span) (filter (is_said me i j span) sc.says) in omega (arith, many)
-
-ahead-few : (sc : Scenario) (m : Moment) (me : Side) (i : ℕ) (sent : ℕ → Bool) (j : ℕ) → length (ahead_so_far sc m me i sent j) ≤ 1
-ahead-few sc m me i sent j = by (is_good_at sc m (other me) j)
-  where
-    by : (b : Bool) → length (elim b as (λ _. List Coming) [
-      | true ↦ elim (sent j) as (λ _. List Coming) [ true ↦ entry_of sc m me i j | false ↦ [] ]
-      | false ↦ []
-    ]) ≤ 1
-    by true = if-sent (sent j) (entry_of sc m me i j) (entry-once sc m me i j)
-    by false = omega arith
 
 pub had-where-it-stands : (sc : Scenario) (hands : List HandIn) (sent : Side → ℕ → ℕ → Bool) (now : ℕ) (me : Side) (i p : ℕ) (s : Site) (st : NodeState) (a : Timed)
     → NodeStands sc hands sent now me i p s st a → length (filter (is_known sc.sizes me) s.got) + length s.coming ≤ 2 * count_of (other me) sc.sizes + length sc.says

@@ -10,10 +10,12 @@ use Rattle.rb_rules.specs.Slots.{same_side}
 use Rattle.rb_rules.specs.WorldStep.{Site, Timed, after_arrival, sent_to}
 use Rattle.rb_rules.specs.WorldStep.Pending.{Arrival}
 use Rattle.rb_laws_events.proofs.SameHeard.{Every}
+use Rattle.rb_laws_events.proofs.Receiving.{every-stands}
+use Rattle.rb_laws_events.proofs.DueEvents.{every-append, every-weaker}
 use Rattle.rb_laws_sweeps.specs.Laws.{HearingComposes, HearingTakesTheFirst, NothingIsHeard, with_more}
 use Rattle.rb_laws_sweeps.specs.Sweeping.{Placed, after_first, first_of, swept}
 use Rattle.rb_laws_sweeps.specs.Told.{Told, heard, heard_by, heard_first, telling}
-use Rattle.rb_laws_sweeps.proofs.Firsts.{every-append, every-so, every-stands, first-append, first-stands, length-without}
+use Rattle.rb_laws_sweeps.proofs.Firsts.{first-append, first-stands, length-without}
 use Rattle.rb_laws_sweeps.proofs.SentLater.{message-later, sent_where}
 use Rattle.rb_laws_sweeps.proofs.Sweeps.{all-every, arrival-more, step-stays, step-takes, sweep-of, sweep-stays, sweep-takes}
 
@@ -86,7 +88,7 @@ push-unheard sc me i until ahead more s later =
     (λ s p e lt rest.
     let t : Told = telling sc [] me i s (Arrival p.place p.coming) in
     hears-first sc me i until (with_more ahead more s) p
-    (first-append s.coming more p e (every-so (λ c. until ≤ c.time) (λ c. p.coming.time < c.time) (λ c le. omega (arith, lt, le)) more later)) lt
+    (first-append s.coming more p e (every-weaker (λ c. until ≤ c.time) (λ c. p.coming.time < c.time) (λ c le. omega (arith, lt, le)) more later)) lt
     ∙ ap (λ z. t ∷ heard sc me i until z) (arrival-more sc me i p.place p.coming ahead more s (first-stands s.coming p e)) ∙ ap (λ l. t ∷ l) rest
     ∙ sym (hears-first sc me i until s p e lt)) s
 

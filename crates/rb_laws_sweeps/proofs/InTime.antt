@@ -1,7 +1,9 @@
 -- The first tick of a world behind is in time.
 use Rattle.std.proofs.Common.{◌≡◌, ℕ, zero, suc, ◌+◌, ◌^◌, ◌<◌, ◌≤◌, true, false, List, [], ◌∷◌, ◌++◌, remove, ap, sym, ◌∙◌, subst, arith, inl, inr, Some, option_map, slice_get}
+use Rattle.std.proofs.lemmas.Option.{same_Some}
 use Rattle.rb_base.specs.Nodes.{Side, other}
 use Rattle.rb_base.specs.Sizes.{Sizes}
+use Rattle.rb_base.proofs.Plain.{true-false}
 use Rattle.rb_rules.specs.Book.{of_kind}
 use Rattle.rb_rules.specs.Clock.{time_of}
 use Rattle.rb_rules.specs.Goodness.{Scenario, clock_of}
@@ -21,23 +23,21 @@ use Rattle.rb_laws_events.proofs.EventsHold.{any, keeps, nodes_at}
 use Rattle.rb_laws_events.proofs.EveryWorld.{AnyWorld, due-going}
 use Rattle.rb_laws_events.proofs.Invariant.{is_good_at}
 use Rattle.rb_laws_events.proofs.NodeEvents.{tick-after}
-use Rattle.rb_laws_events.proofs.OneEvent.{all-pend, pend-of}
+use Rattle.rb_laws_events.proofs.OneEvent.{all-pend}
 use Rattle.rb_laws_events.proofs.OneTake.{StandsInRounds}
 use Rattle.rb_laws_events.proofs.PendingLists.{StandsAt}
 use Rattle.rb_laws_events.proofs.WorldNodes.{Known, events-due, worlds-known}
 use Rattle.rb_laws_events.proofs.WorldStands.{AllPend, IsUp, sent_by}
+use Rattle.rb_laws_events.proofs.Behind.{pend-of}
 use Rattle.rb_laws_sweeps.specs.AheadOf.{GoesOnAhead, LeadsToTick, after_takes, ahead_of, each_swept, until_tick}
 use Rattle.rb_laws_sweeps.specs.Room.{TicksBehindAreInTime}
 use Rattle.rb_laws_sweeps.specs.Sweeping.{Placed, first_of, swept}
 use Rattle.rb_laws_sweeps.proofs.AfterTick.{TicksNow, takes-are, ticks-now}
 use Rattle.rb_laws_sweeps.proofs.EachNode.{until-own}
-use Rattle.rb_laws_sweeps.proofs.Firsts.{first-stands, some-same}
+use Rattle.rb_laws_sweeps.proofs.Firsts.{first-stands}
 use Rattle.rb_laws_sweeps.proofs.GoesOn.{each-compose, sweep_to, worlds-go-on}
 use Rattle.rb_laws_sweeps.proofs.GotKnown.{worlds-got}
 use Rattle.rb_laws_sweeps.proofs.Sweeps.{every-all, sweep-of, sweep-stays, sweep-takes, sweeps-keep}
-
-true-false : {P : Type 0} → true ≡ false → P
-true-false e = absurd (cc)
 
 -- Ticks that nodes have.
 
@@ -79,8 +79,8 @@ ticks-by sc lawful cs w is me i a z = subst (λ w. By w) is by
         let w : World = world_after sc cs in
         let d : Due = record { side = me; node = i; pending = Tick a.tick } in
         let it : IsDue w d = events-due sc cs 0 d due in
-        let same : it.s ≡ z = some-same it.s z (sym it.there ∙ there) in
-        let b_is : it.ready.0 ≡ a = some-same it.ready.0 a (sym it.ready.1.0 ∙ ap (λ (s : Site). s.ahead) same ∙ pends) in
+        let same : it.s ≡ z = same_Some it.s z (sym it.there ∙ there) in
+        let b_is : it.ready.0 ≡ a = same_Some it.ready.0 a (sym it.ready.1.0 ∙ ap (λ (s : Site). s.ahead) same ∙ pends) in
         let time : a.time ≡ it.t = ap (λ (a : Timed). a.time) (sym b_is) ∙ it.ready.1.1.1.0 in
         subst (HasTickBy sc side j) (sym time)
         (has-tick sc lawful w (any sc lawful cs) (due-going sc w 0 d due).0 it.t (all-pend w it.t it.first) side j s here runs)
@@ -115,7 +115,7 @@ pub ticks-behind-in-time : TicksBehindAreInTime
 ticks-behind-in-time sc lawful choices until w is event me i a first le = record {
   time = ticks.time;
   small = ticks.small;
-  had = λ s here. subst (λ (s : Site). (swept sc me i (a.time + 1) s).core.had ≤ a.tick) (some-same first.node s (sym first.there ∙ here)) ticks.had;
+  had = λ s here. subst (λ (s : Site). (swept sc me i (a.time + 1) s).core.had ≤ a.tick) (same_Some first.node s (sym first.there ∙ here)) ticks.had;
   others = λ side j s here runs.
       ticks-by sc lawful cs there (sym (takes-are sc choices n).1 ∙ there-is) me i a z node-there pends due side j (swept sc side j (next side j) s)
       (get-each (sweep_to sc next) w.sites side j ∙ ap (option_map (sweep_to sc next side j)) here) (ap (λ (s : Site). s.runs) (sweeps-keep sc side j (next side j) s).is ∙ runs);

@@ -1,5 +1,6 @@
 -- Takes of arrivals lead to the first tick.
 use Rattle.std.proofs.Common.{◌≡◌, ℕ, zero, suc, ◌+◌, ◌<◌, ◌≤◌, Bool, true, false, [], ◌∷◌, ◌++◌, refl, ap, sym, ◌∙◌, subst, arith, inl, inr, Some, None, option_map, slice_get, if◌then◌else◌}
+use Rattle.std.proofs.lemmas.Option.{same_Some}
 use Rattle.rb_base.specs.Nodes.{Side}
 use Rattle.rb_rules.specs.Book.{Each, of_kind}
 use Rattle.rb_rules.specs.Goodness.{Scenario}
@@ -18,7 +19,7 @@ use Rattle.rb_laws_sweeps.specs.Sweeping.{Placed, first_of, swept}
 use Rattle.rb_laws_sweeps.specs.Told.{heard, told_next}
 use Rattle.rb_laws_sweeps.proofs.DueFirst.{ArrivalDue, TickDue, WhatIsDue, what-is-due, which-due}
 use Rattle.rb_laws_sweeps.proofs.EachNode.{KeepsAhead, each-alike, each-itself, first-changed}
-use Rattle.rb_laws_sweeps.proofs.Firsts.{first-stands, some-same}
+use Rattle.rb_laws_sweeps.proofs.Firsts.{first-stands}
 use Rattle.rb_laws_sweeps.proofs.Hearing.{hears-first, hears-none}
 use Rattle.rb_laws_sweeps.proofs.OpenWorlds.{Goes, after_one, arrival-still, arrival-told, goes-reached}
 use Rattle.rb_laws_sweeps.proofs.Settles.{complete-same, each-fuse}
@@ -65,7 +66,7 @@ arrives-swept sc until sites me i s p there step =
     by side n x here true e =
         let is = node-is me side i n e in
         let its : slice_get (of_kind me sites) i ≡ Some x = sym (ap (λ k. slice_get (of_kind k sites) n) is.0 ∙ ap (slice_get (of_kind me sites)) is.1) ∙ here in
-        let same : s ≡ x = some-same s x (sym there ∙ its) in
+        let same : s ≡ x = same_Some s x (sym there ∙ its) in
         subst (λ x. swept sc side n (until side n) (change x) ≡ swept sc side n (until side n) x) same
         (subst (λ k. swept sc k n (until k n) (change s) ≡ swept sc k n (until k n) s) (sym is.0)
         (subst (λ m. swept sc me m (until me m) (change s) ≡ swept sc me m (until me m) s) (sym is.1) (sym step)))
@@ -107,7 +108,7 @@ arrives-told sc until w me i s p there first early due side j x here =
     by x here true e =
         let is = node-is me side i j e in
         let its : slice_get (of_kind me w.sites) i ≡ Some x = sym (ap (λ k. slice_get (of_kind k w.sites) j) is.0 ∙ ap (slice_get (of_kind me w.sites)) is.1) ∙ here in
-        let same : s ≡ x = some-same s x (sym there ∙ its) in
+        let same : s ≡ x = same_Some s x (sym there ∙ its) in
         subst (λ x. heard sc side j (until side j) x ≡ told_next sc side j w ++ heard sc side j (until side j) (change x)) same
         (subst (λ k. heard sc k j (until k j) s ≡ told_next sc k j w ++ heard sc k j (until k j) (change s)) (sym is.0)
         (subst (λ m. heard sc me m (until me m) s ≡ told_next sc me m w ++ heard sc me m (until me m) (change s)) (sym is.1) own))

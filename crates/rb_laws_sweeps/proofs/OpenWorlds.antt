@@ -1,7 +1,8 @@
 -- What comes next in a world that was reached, and needs an event, still waits for a node. So an arrival settles nothing.
-use Rattle.std.proofs.Common.{◌≡◌, ℕ, ◌+◌, ◌<◌, ◌==◌, ◌&&◌, Bool, true, false, List, refl, ap, sym, ◌∙◌, arith, inl, inr, Some, None, slice_get, if◌then◌else◌}
-use Rattle.std.proofs.lemmas.Bool.{lt-ltb}
+use Rattle.std.proofs.Common.{◌≡◌, ℕ, ◌+◌, ◌<◌, ◌==◌, Bool, true, false, List, refl, ap, sym, ◌∙◌, arith, inl, inr, Some, None, slice_get, if◌then◌else◌}
+use Rattle.std.proofs.lemmas.Bool.{and_right, lt-ltb}
 use Rattle.rb_base.specs.Nodes.{Side}
+use Rattle.rb_base.proofs.Plain.{true-false}
 use Rattle.rb_rules.specs.Book.{Book}
 use Rattle.rb_rules.specs.Book.Milestone.{Begin, End, Stage}
 use Rattle.rb_rules.specs.Goodness.{Scenario}
@@ -27,9 +28,6 @@ use Rattle.rb_laws_events.proofs.WorldNodes.{NodesKnown, worlds-known}
 use Rattle.rb_laws_events.proofs.WorldStands.{is_node}
 use Rattle.rb_laws_sweeps.specs.Laws.{ArrivalsSettleNothing, NeedsEvent}
 use Rattle.rb_laws_sweeps.proofs.Settles.{KeepsTold, changed, settle-changed}
-
-true-false : {P : Type 0} → true ≡ false → P
-true-false e = absurd (cc)
 
 -- where the run breaks off the book waits for the stage
 waits-for : (sc : Scenario) (hands : List HandIn) (b q : ℕ) (book : Book) → BreaksAt sc hands b q → book ≡ (moment sc hands b).book → needs_no_event sc book.upcoming ≡ false
@@ -89,10 +87,6 @@ arrival-told sc me i place c = record {
     by-begun s true = refl
     by-begun s false = refl
 
-and-false : (a b : Bool) → b ≡ false → (a && b) ≡ false
-and-false true b e = e
-and-false false b e = refl
-
 -- the world after it
 abbrev pub after_one : Scenario → Side → ℕ → ℕ → Coming → World → World
 after_one sc me i place c w = record w { sites = at_node me i (after_arrival sc me i place c) w.sites; turn = None }
@@ -105,7 +99,7 @@ arrival-still sc w h n me i place c e =
     let due : IsDue w d = due-is sc w n d (record { known = h.known.known }) e in
     let g : Side → ℕ → Site → Site = λ side n s. elim (is_node me i side n) as (λ _. Site) [ true ↦ after_arrival sc me i place c s | false ↦ s ] in
     let still : settle_next sc ByAnEvent w ≡ w =
-    waits-still sc w (λ going. and-false (comes_so sc ByAnEvent w.book.upcoming) (is_complete sc w.sites w.book.upcoming) h.open_still) in
+    waits-still sc w (λ going. and_right (comes_so sc ByAnEvent w.book.upcoming) (is_complete sc w.sites w.book.upcoming) h.open_still) in
     ap (take_if_due sc w) e ∙ ap (settle sc ByAnEvent 2) (happens-is sc w d due.s due.there)
     ∙ settle-changed sc ByAnEvent 2 g w (arrival-told sc me i place c) ∙ ap (changed g) (settle-still sc ByAnEvent 2 w still)
 

@@ -2,6 +2,7 @@
 use Rattle.std.proofs.Common.{◌≡◌, ℕ, zero, suc, ◌+◌, ◌<◌, ◌≤◌, ◌==◌, ◌&&◌, ◌⊎◌, Bool, true, false, List, [], ◌∷◌, ◌++◌, cond, filter, flat_map, map, refl, ap, sym, ◌∙◌, subst, arith, inl, inr, Option, Some, None, slice_get}
 use Rattle.std.specs.List.{enumerate_from, range_with_len}
 use Rattle.std.proofs.lemmas.Bool.Decides.{nat_tests}
+use Rattle.std.proofs.lemmas.Option.{same_Some}
 use Rattle.rb_base.specs.Counting.{numbers}
 use Rattle.rb_base.specs.Nodes.{Side, other}
 use Rattle.rb_base.specs.Sizes.{Sizes}
@@ -12,8 +13,10 @@ use Rattle.rb_rules.specs.WorldStep.{Due, Site, arrivals_at, ready_at, tick_at, 
 use Rattle.rb_rules.specs.WorldStep.Pending.{Arrival}
 use Rattle.rb_laws_events.proofs.SameHeard.{Every}
 use Rattle.rb_laws_events.proofs.WorldNodes.{Known}
+use Rattle.rb_laws_events.proofs.DueEvents.{every-weaker}
+use Rattle.rb_laws_events.proofs.Receiving.{every-stands}
 use Rattle.rb_laws_sweeps.specs.Sweeping.{Placed, comes_first, first_of, first_with}
-use Rattle.rb_laws_sweeps.proofs.Firsts.{every-so, every-stands, first-least, first-stands, pick, some-same, which-first}
+use Rattle.rb_laws_sweeps.proofs.Firsts.{first-least, first-stands, pick, which-first}
 
 -- At a source.
 
@@ -50,7 +53,7 @@ unfolding first_of
 found-first k [] p e = cc
 found-first k (c ∷ cs) p e =
     subst (λ (p : Placed). Begins (k + p.place, p.coming) (filter (λ (c : ℕ × Coming). is_at p.coming.from p.coming.time c.1) (enumerate_from k (c ∷ cs))))
-    (some-same (first_with c (first_of cs)) p e) (by (first_of cs) refl (found-first (k + 1) cs))
+    (same_Some (first_with c (first_of cs)) p e) (by (first_of cs) refl (found-first (k + 1) cs))
   where
     Found : Placed → Type 0
     Found p = Begins (k + p.place, p.coming) (filter (λ (c : ℕ × Coming). is_at p.coming.from p.coming.time c.1) (enumerate_from k (c ∷ cs)))
@@ -135,14 +138,14 @@ ready-first sizes t me i s known late = elim (which-first (t + 1) s.coming) [
         ap (arrivals_at me i t s) z ∙ ap (λ t. arrivals_at me i t s k) (sym time)
         ∙ ap (map due)
         (none-found (is_at k p.coming.time) 0 s.coming
-        (every-so (λ d. comes_first p.coming d ≡ true) (λ d. is_at k p.coming.time d ≡ false) (λ d f. lower-source p.coming d k f lt) s.coming (first-least s.coming p e))) in
+        (every-weaker (λ d. comes_first p.coming d ≡ true) (λ d. is_at k p.coming.time d ≡ false) (λ d f. lower-source p.coming d k f lt) s.coming (first-least s.coming p e))) in
         let all = flat-head (arrivals_at me i t s) 0 n j (due (p.place, p.coming)) counted lower (subst (λ k. Begins (due (p.place, p.coming)) (arrivals_at me i t s k)) (sym z) here) in
         (all.0, ap (λ l. unless_any l (tick_at me i t s.ahead)) all.1)
 
     quiet : Every (λ c. t + 1 ≤ c.time) s.coming → flat_map (arrivals_at me i t s) (numbers n) ≡ []
     quiet later =
         flat-none (arrivals_at me i t s) 0 n
-        (λ k. ap (map due) (none-found (is_at k t) 0 s.coming (every-so (λ c. t + 1 ≤ c.time) (λ c. is_at k t c ≡ false) (λ c le. later-there c k t (omega (arith, le))) s.coming later)))
+        (λ k. ap (map due) (none-found (is_at k t) 0 s.coming (every-weaker (λ c. t + 1 ≤ c.time) (λ c. is_at k t c ≡ false) (λ c le. later-there c k t (omega (arith, le))) s.coming later)))
 
 -- Among nodes.
 
@@ -182,5 +185,5 @@ first-made k make (x ∷ xs) d is = by (make k x) refl is (first-made (k + 1) ma
         record { n = suc r.n; x = r.x; there = r.there; is = subst (λ m. Begins d (make m r.x)) s r.is; before = before r }
       where
         before : (r : FirstMade (k + 1) make xs d) (m : ℕ) (y : _) → m < suc r.n → slice_get (x ∷ xs) m ≡ Some y → make (k + m) y ≡ []
-        before r zero y lt there = let same : x ≡ y = some-same x y there in ap (make (k + 0)) (sym same) ∙ ap (λ m. make m x) z ∙ e
+        before r zero y lt there = let same : x ≡ y = same_Some x y there in ap (make (k + 0)) (sym same) ∙ ap (λ m. make m x) z ∙ e
         before r (suc m) y lt there = let s : k + suc m ≡ k + 1 + m = omega arith in ap (λ n. make n y) s ∙ r.before m y (omega (arith, lt)) there

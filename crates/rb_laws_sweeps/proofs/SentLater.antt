@@ -1,9 +1,7 @@
 -- What is sent, and what is said in a window, comes later than the tick before.
-use Rattle.std.proofs.Common.{◌≡◌, ℕ, zero, suc, ◌+◌, ◌<◌, ◌≤◌, ◌&&◌, Bool, true, false, List, [], ◌∷◌, ◌++◌, cond, filter, flat_map, length, map, refl, ap, sym, ◌∙◌, arith}
+use Rattle.std.proofs.Common.{◌≡◌, ℕ, zero, suc, ◌+◌, ◌<◌, ◌≤◌, ◌&&◌, Bool, true, false, List, [], ◌∷◌, ◌++◌, cond, filter, flat_map, length, refl, ap, sym, ◌∙◌, arith}
 use Rattle.std.specs.List.{range_with_len}
 use Rattle.rb_base.specs.Nodes.{Side, other}
-use Rattle.rb_base.specs.Nodes.Side.{Biu, Rmu}
-use Rattle.rb_base.specs.Sizes.{Sizes}
 use Rattle.rb_base.specs.declared.values.Place.{Place}
 use Rattle.rb_rules.specs.declared.say.Say.{Say}
 use Rattle.rb_rules.specs.Clock.{Timeline, time_of}
@@ -15,14 +13,14 @@ use Rattle.rb_rules.specs.Plan.{longest_of, shortest_of}
 use Rattle.rb_rules.specs.Slots.{count_of, same_side}
 use Rattle.rb_rules.specs.WorldStep.{Site, says_in, sent_to}
 use Rattle.rb_rules.proofs.Drift.{HasLengths, has_lengths, times_rise_to}
+use Rattle.rb_rules.proofs.Slots.{other_twice, place-within, same_side-is}
 use Rattle.rb_rules.proofs.Stamps.{Moves}
 use Rattle.rb_laws_events.proofs.CloseOrder.{shortest-some}
+use Rattle.rb_laws_events.proofs.DueEvents.{every-append, every-map, every-weaker}
 use Rattle.rb_laws_events.proofs.ReceiverHears.{way-least}
 use Rattle.rb_laws_events.proofs.SameHeard.{Every}
-use Rattle.rb_laws_events.proofs.WorldStands.{other-twice, same-kind}
 use Rattle.rb_laws_sweeps.specs.Laws.{SweepsFrom, WhatIsSentComesLaterInLawful, with_more}
 use Rattle.rb_laws_sweeps.specs.Sweeping.{swept}
-use Rattle.rb_laws_sweeps.proofs.Firsts.{every-append, every-so}
 use Rattle.rb_laws_sweeps.proofs.Sweeps.{all-every, every-all, push-passes, sweeps-keep}
 
 -- A message.
@@ -32,7 +30,7 @@ pub message-later : (sc : Scenario) → IsLawful sc → (me side : Side) (j i fr
     → time_of (clock_of sc me j) x.tick + 1 ≤ (coming_of sc side i j frame x).time
 message-later sc lawful me side j i frame x kind =
     let place : Place = record { frame = frame; slot = x.message.slot; stage = x.message.stage } in
-    let twice : other side ≡ me = ap other (same-kind side (other me) kind) ∙ other-twice me in
+    let twice : other side ≡ me = ap other (same_side-is side (other me) kind) ∙ other_twice me in
     let time : time_of (clock_of sc (other side) j) x.tick ≡ time_of (clock_of sc me j) x.tick = ap (λ side. time_of (clock_of sc side j) x.tick) twice in
     let low : sc.plan.dmin ≤ delay_of sc.delays (name_of (other side) j) (name_of side i) place = way-least sc lawful (name_of (other side) j) (name_of side i) place in
     let some : 1 ≤ sc.plan.dmin = lawful.plan.dmin.0 in
@@ -77,14 +75,10 @@ sent-passes sc lawful me side j i frame until x s le = by (same_side side (other
 
 -- What is said.
 
-place-in : (sizes : Sizes) (me : Side) (i n : ℕ) → n ≡ sizes.bius + sizes.rmus → i < count_of me sizes → clock_place sizes me i < n
-place-in sizes Biu i n e lt = omega (arith, e, lt)
-place-in sizes Rmu i n e lt = omega (arith, e, lt)
-
 pub node-clock : (sc : Scenario) → IsLawful sc → (me : Side) (i : ℕ) → i < count_of me sc.sizes → HasLengths (shortest_of sc.plan) (longest_of sc.plan) (clock_of sc me i)
 node-clock sc lawful me i counted =
     has_lengths (shortest_of sc.plan) (longest_of sc.plan) (clock_of sc me i)
-    (lawful.clocks (clock_place sc.sizes me i) (record { start = 0; segments = [] }) (place-in sc.sizes me i (length sc.clocks) lawful.one_clock_each counted))
+    (lawful.clocks (clock_place sc.sizes me i) (record { start = 0; segments = [] }) (place-within sc.sizes me i (length sc.clocks) lawful.one_clock_each counted))
 
 pub node-moves : (sc : Scenario) → IsLawful sc → (me : Side) (i : ℕ) → i < count_of me sc.sizes → Moves (clock_of sc me i)
 node-moves sc lawful me i counted tick =
@@ -99,10 +93,6 @@ every-filter P q (x ∷ xs) a = by (q x) (every-filter P q xs a.1)
     by : (b : Bool) → Every P (filter q xs) → Every P (cond b (x ∷ filter q xs) (filter q xs))
     by true rest = (a.0, rest)
     by false rest = rest
-
-every-map : {X Y : Type 0} (P : X → Type 0) (Q : Y → Type 0) (f : X → Y) → ((x : X) → P x → Q (f x)) → (xs : List X) → Every P xs → Every Q (map f xs)
-every-map P Q f go [] a = tt
-every-map P Q f go (x ∷ xs) a = (go x a.0, every-map P Q f go xs a.1)
 
 every-flat : {Y : Type 0} (Q : Y → Type 0) (f : ℕ → List Y) (a n : ℕ) → ((k : ℕ) → Every Q (f k)) → Every Q (flat_map f (range_with_len a n))
 every-flat Q f a zero all = tt
@@ -119,7 +109,7 @@ said-later sc lawful me i k span counted first j =
     omega (arith, up, low, early))
     (filter (is_said me i j span) sc.says)
     (every-filter (λ (s : Say). s.early < shortest_of sc.plan) (is_said me i j span) sc.says
-    (every-so (IsSayOf sc) (λ (s : Say). s.early < shortest_of sc.plan) (λ s is. is.early) sc.says (all-every (IsSayOf sc) sc.says lawful.says)))
+    (every-weaker (IsSayOf sc) (λ (s : Say). s.early < shortest_of sc.plan) (λ s is. is.early) sc.says (all-every (IsSayOf sc) sc.says lawful.says)))
 
 pub says-later : (sc : Scenario) → IsLawful sc → (me : Side) (i k : ℕ) (span : Span) → i < count_of me sc.sizes → span.first ≡ k + 1
     → Every (λ c. time_of (clock_of sc me i) k + 1 ≤ c.time) (says_in sc me i span)

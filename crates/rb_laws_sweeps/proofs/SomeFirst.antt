@@ -1,8 +1,10 @@
 -- As long as a record needs an event some tick is pending, and so one of them is the first.
-use Rattle.std.proofs.Common.{◌≡◌, ℕ, zero, suc, ◌<◌, ◌≤◌, ◌⊎◌, true, false, List, [], ◌∷◌, refl, ap, sym, ◌∙◌, subst, arith, inl, inr, Option, Some, None, slice_get}
+use Rattle.std.proofs.Common.{◌≡◌, ℕ, zero, suc, ◌<◌, ◌≤◌, ◌⊎◌, true, List, [], ◌∷◌, refl, ap, sym, ◌∙◌, subst, arith, inl, inr, Option, Some, None, slice_get}
 use Rattle.std.proofs.lemmas.Bool.{cases_lt, ltb-true}
+use Rattle.std.proofs.lemmas.Option.{same_Some}
 use Rattle.rb_base.specs.Nodes.{Side}
 use Rattle.rb_base.specs.Nodes.Side.{Biu, Rmu}
+use Rattle.rb_base.proofs.Plain.{true-false}
 use Rattle.rb_rules.specs.Book.{of_kind}
 use Rattle.rb_rules.specs.Goodness.{Scenario}
 use Rattle.rb_rules.specs.Lawful.{IsLawful}
@@ -18,11 +20,7 @@ use Rattle.rb_laws_events.proofs.WorldStands.{IsUp, sent_by}
 use Rattle.rb_laws_sweeps.specs.AheadOf.{IsFirstTick, is_behind}
 use Rattle.rb_laws_sweeps.specs.Laws.{NeedsEvent, SomeTickIsFirst}
 use Rattle.rb_laws_sweeps.proofs.EachNode.{first-back}
-use Rattle.rb_laws_sweeps.proofs.Firsts.{some-same}
 use Rattle.rb_laws_sweeps.proofs.GoesOn.{swept-ahead, sweep_to}
-
-true-false : {P : Type 0} → true ≡ false → P
-true-false e = absurd (cc)
 
 none-some : {P : Type 0} (a : Timed) → None ≡ Some a → P
 none-some a e = absurd (no a e)
@@ -62,8 +60,8 @@ at-head x xs a pends others = record { n = 0; s = x; a = a; there = refl; pends 
   where
     least : (m : ℕ) (y : Site) (b : Timed) → slice_get (x ∷ xs) m ≡ Some y → y.ahead ≡ Some b → a.time ≤ b.time
     least zero y b there its =
-        let same : x ≡ y = some-same x y there in
-        let time : a ≡ b = some-same a b (sym pends ∙ ap (λ (s : Site). s.ahead) same ∙ its) in
+        let same : x ≡ y = same_Some x y there in
+        let time : a ≡ b = same_Some a b (sym pends ∙ ap (λ (s : Site). s.ahead) same ∙ its) in
         subst (λ (b : Timed). a.time ≤ b.time) time (omega arith)
     least (suc m) y b there its = others m y b there its
 
@@ -71,7 +69,7 @@ in-tail : (x : Site) (xs : List Site) (r : FirstIn xs) → ((b : Timed) → x.ah
 in-tail x xs r later = record { n = suc r.n; s = r.s; a = r.a; there = r.there; pends = r.pends; least = least; first = first }
   where
     head : (y : Site) (b : Timed) → slice_get (x ∷ xs) 0 ≡ Some y → y.ahead ≡ Some b → r.a.time < b.time
-    head y b there its = let same : x ≡ y = some-same x y there in later b (ap (λ (s : Site). s.ahead) same ∙ its)
+    head y b there its = let same : x ≡ y = same_Some x y there in later b (ap (λ (s : Site). s.ahead) same ∙ its)
 
     least : (m : ℕ) (y : Site) (b : Timed) → slice_get (x ∷ xs) m ≡ Some y → y.ahead ≡ Some b → r.a.time ≤ b.time
     least zero y b there its = let lt = head y b there its in omega (arith, lt)
@@ -89,7 +87,7 @@ first-in [] = inl none
 first-in (x ∷ xs) = by x.ahead refl (first-in xs)
   where
     none-all : x.ahead ≡ None → NonePends xs → NonePends (x ∷ xs)
-    none-all e none zero y there = ap (λ (s : Site). s.ahead) (sym (some-same x y there)) ∙ e
+    none-all e none zero y there = ap (λ (s : Site). s.ahead) (sym (same_Some x y there)) ∙ e
     none-all e none (suc m) y there = none m y there
 
     by : (o : Option Timed) → x.ahead ≡ o → NonePends xs ⊎ FirstIn xs → NonePends (x ∷ xs) ⊎ FirstIn (x ∷ xs)
@@ -97,7 +95,7 @@ first-in (x ∷ xs) = by x.ahead refl (first-in xs)
     by None e (inr r) = inr (in-tail x xs r (λ b its. none-some b (sym e ∙ its)))
     by (Some a) e (inl none) = inr (at-head x xs a e (λ m y b there its. none-some b (sym (none m y there) ∙ its)))
     by (Some a) e (inr r) = elim (cases_lt r.a.time a.time) [
-      | inl lt ↦ inr (in-tail x xs r (λ b its. subst (λ (b : Timed). r.a.time < b.time) (some-same a b (sym e ∙ its)) lt))
+      | inl lt ↦ inr (in-tail x xs r (λ b its. subst (λ (b : Timed). r.a.time < b.time) (same_Some a b (sym e ∙ its)) lt))
       | inr ge ↦ inr (at-head x xs a e (λ m y b there its. let low = r.least m y b there its in omega (arith, low, ge)))
     ]
 

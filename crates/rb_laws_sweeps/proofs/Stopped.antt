@@ -1,8 +1,9 @@
 -- At a node that has stopped nothing is pending.
 use Rattle.std.proofs.Common.{◌≡◌, ℕ, ◌+◌, ◌<◌, ◌≤◌, ◌&&◌, Bool, true, false, List, [], ◌∷◌, ◌++◌, fold, length, refl, ap, sym, ◌∙◌, subst, arith, Option, Some, None, option_map, slice_get}
-use Rattle.std.proofs.lemmas.Option.{slice_get_within}
+use Rattle.std.proofs.lemmas.Option.{same_Some, slice_get_within}
 use Rattle.rb_base.specs.Nodes.{Side, other}
 use Rattle.rb_base.specs.Nodes.Side.{Biu}
+use Rattle.rb_base.proofs.Plain.{option_map-back, true-false}
 use Rattle.rb_rules.specs.declared.closing.Closed.{Closed}
 use Rattle.rb_rules.specs.declared.message.Message.{Message}
 use Rattle.rb_rules.specs.declared.record.Epoch.{Epoch}
@@ -22,15 +23,11 @@ use Rattle.rb_laws_events.proofs.OneEvent.{happens-is}
 use Rattle.rb_laws_events.proofs.PendingLists.{StandsAt}
 use Rattle.rb_laws_events.proofs.SameHeard.{Every}
 use Rattle.rb_laws_events.proofs.WorldNodes.{NodesKnown, choose-known, first-counts, first-known, settle-sites}
-use Rattle.rb_laws_events.proofs.WorldStands.{back-from, get-at, is_node, node-is, node-itself}
+use Rattle.rb_laws_events.proofs.WorldStands.{get-at, is_node, node-is, node-itself}
 use Rattle.rb_laws_sweeps.specs.AheadOf.{IsFirstTick, tick_alone}
 use Rattle.rb_laws_sweeps.specs.Room.{StoppedHaveNothing, StoppedStayEmptyInEach}
 use Rattle.rb_laws_sweeps.specs.Sweeping.{swept}
-use Rattle.rb_laws_sweeps.proofs.Firsts.{some-same}
 use Rattle.rb_laws_sweeps.proofs.Sweeps.{sweep-stays, sweeps-keep}
-
-true-false : {P : Type 0} → true ≡ false → P
-true-false e = absurd (cc)
 
 -- a node that runs, or at which nothing is pending
 abbrev pub RunsOrEmpty : Site → Type 0
@@ -42,7 +39,7 @@ AllRunOrEmpty sites = (me : Side) (i : ℕ) (s : Site) → slice_get (of_kind me
 each-empty : (f : Side → ℕ → Site → Site) (sites : Each Site) → ((me : Side) (i : ℕ) (s : Site) → slice_get (of_kind me sites) i ≡ Some s → RunsOrEmpty s → RunsOrEmpty (f me i s))
     → AllRunOrEmpty sites → AllRunOrEmpty (map_each f sites)
 each-empty f sites go h me i s e =
-    let was = back-from (f me i) (slice_get (of_kind me sites) i) s (sym (get-each f sites me i) ∙ e) in
+    let was = option_map-back (f me i) (slice_get (of_kind me sites) i) s (sym (get-each f sites me i) ∙ e) in
     subst RunsOrEmpty was.1.1 (go me i was.0 was.1.0 (h me i was.0 was.1.0))
 
 node-empty : (me : Side) (i : ℕ) (change : Site → Site) (sites : Each Site) → ((s : Site) → slice_get (of_kind me sites) i ≡ Some s → RunsOrEmpty (change s)) → AllRunOrEmpty sites
@@ -128,10 +125,10 @@ pending-empty sc w me i t s (Tick k) there ready h =
     let x : Act = pass_and_tick sc w.ports me i k s.core in
     message-empty sc me i x.core.state.frame k x.message (at_node me i (after_act sc w.ports me i x) w.sites)
     (node-empty me i (after_act sc w.ports me i x) w.sites
-    (λ z here. act-empty sc w.ports me i x z (ap (λ (s : Site). s.runs) (some-same z s (sym here ∙ there)) ∙ runs-ahead s ready.0 (h me i s there) ready.1.0)) h)
+    (λ z here. act-empty sc w.ports me i x z (ap (λ (s : Site). s.runs) (same_Some z s (sym here ∙ there)) ∙ runs-ahead s ready.0 (h me i s there) ready.1.0)) h)
 pending-empty sc w me i t s (Arrival place c) there ready h =
     node-empty me i (after_arrival sc me i place c) w.sites
-    (λ z here e. none-stands s.coming (h me i s there (ap (λ (s : Site). s.runs) (some-same s z (sym there ∙ here)) ∙ e)).1 place c ready.0) h
+    (λ z here e. none-stands s.coming (h me i s there (ap (λ (s : Site). s.runs) (same_Some s z (sym there ∙ here)) ∙ e)).1 place c ready.0) h
 
 due-empty : (sc : Scenario) (w : World) (d : Due) → IsDue w d → AllRunOrEmpty w.sites → AllRunOrEmpty (take_if_due sc w (Some d)).sites
 due-empty sc w d due h =
@@ -174,7 +171,7 @@ first-empty sc me i s e =
     let long : length (of_kind me (each_of sc.sizes make)) ≡ count_of me sc.sizes = first-counts sc.sizes make me in
     let made : slice_get (of_kind me (each_of sc.sizes make)) i ≡ Some (make me i) = get-made sc.sizes make me i (omega arith) in
     let fresh : Site = fresh_site sc.sizes me in
-    subst RunsOrEmpty (some-same (make me i) s (sym made ∙ e)) (enter-empty sc me i (span_from sc.sizes sc.plan me fresh.core.state fresh.core.had) fresh refl)
+    subst RunsOrEmpty (same_Some (make me i) s (sym made ∙ e)) (enter-empty sc me i (span_from sc.sizes sc.plan me fresh.core.state fresh.core.had) fresh refl)
 
 from-empty : (sc : Scenario) (choices : List Choice) (w : World) → NodesKnown sc w.sites → AllRunOrEmpty w.sites → AllRunOrEmpty (fold (choose sc) w choices).sites
 from-empty sc [] w known h = h
@@ -230,7 +227,7 @@ alone-empty sc w me i a first h = subst AllRunOrEmpty (sym sites) done
     done =
         message-empty sc me i x.core.state.frame a.tick x.message (at_node me i (after_act sc w.ports me i x) alone.sites)
         (node-empty me i (after_act sc w.ports me i x) alone.sites
-        (λ y here. act-empty sc w.ports me i x y (ap (λ (s : Site). s.runs) (some-same y z (sym here ∙ node-alone)) ∙ runs)) swept-all)
+        (λ y here. act-empty sc w.ports me i x y (ap (λ (s : Site). s.runs) (same_Some y z (sym here ∙ node-alone)) ∙ runs)) swept-all)
 
 pub stopped-stay-empty : StoppedStayEmptyInEach
 stopped-stay-empty sc = record {

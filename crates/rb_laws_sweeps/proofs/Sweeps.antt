@@ -10,10 +10,12 @@ use Rattle.rb_rules.specs.Hearing.{Coming}
 use Rattle.rb_rules.specs.WorldStep.{Site, Timed, after_arrival}
 use Rattle.rb_rules.proofs.QuietTicks.{arrive-same}
 use Rattle.rb_laws_events.proofs.PendingLists.{StandsAt}
+use Rattle.rb_laws_events.proofs.Receiving.{every-stands}
 use Rattle.rb_laws_events.proofs.SameHeard.{Every}
+use Rattle.rb_laws_events.proofs.DueEvents.{every-append, every-weaker}
 use Rattle.rb_laws_sweeps.specs.Laws.{NothingIsSwept, PushesPassASweep, SweepsCompose, SweepsFrom, SweepsKeepTheRest, SweepsTakeTheFirst, with_more}
 use Rattle.rb_laws_sweeps.specs.Sweeping.{Placed, after_first, first_of, swept, swept_by}
-use Rattle.rb_laws_sweeps.proofs.Firsts.{every-append, every-so, every-stands, first-append, first-stands, length-without, which-first, without-append}
+use Rattle.rb_laws_sweeps.proofs.Firsts.{first-append, first-stands, length-without, which-first, without-append}
 
 pub every-all : {X : Type 0} (P : X → Type 0) (xs : List X) → Every P xs → All P xs
 every-all P [] a = All-nil P
@@ -124,7 +126,7 @@ push-passes sc me i until ahead more s later =
     ∙ ap (with_more ahead more) (sym (sweep-stays sc me i until s late)))
     (λ s p e lt rest.
     sweep-takes sc me i until (with_more ahead more s) p
-    (first-append s.coming more p e (every-so (λ c. until ≤ c.time) (λ c. p.coming.time < c.time) (λ c le. omega (arith, lt, le)) more later)) lt
+    (first-append s.coming more p e (every-weaker (λ c. until ≤ c.time) (λ c. p.coming.time < c.time) (λ c le. omega (arith, lt, le)) more later)) lt
     ∙ ap (swept sc me i until) (arrival-more sc me i p.place p.coming ahead more s (first-stands s.coming p e)) ∙ rest
     ∙ ap (with_more ahead more) (sym (sweep-takes sc me i until s p e lt))) s
 

@@ -48,7 +48,7 @@ same-named Rmu Rmu i j = numbers i j
 pub named-itself : (me : Side) (i : ℕ) → same_node (name_of me i) (name_of me i) ≡ true
 named-itself me i = same-named me me i i ∙ node-itself me i
 
-shown-node : (sc : Scenario) (ports : List PortState) (me : Side) (i : ℕ) (c : Core) (pending : Pending) → (event_of sc ports me i c pending).node ≡ name_of me i
+pub shown-node : (sc : Scenario) (ports : List PortState) (me : Side) (i : ℕ) (c : Core) (pending : Pending) → (event_of sc ports me i c pending).node ≡ name_of me i
 shown-node sc ports me i c (Tick k) = refl
 shown-node sc ports me i c (Arrival place a) = refl
 

@@ -1,19 +1,19 @@
 -- What a tick makes pending behind is few, too.
-use Rattle.std.proofs.Common.{◌≡◌, ℕ, suc, ◌+◌, ◌≤◌, ◌&&◌, true, false, List, [], ◌∷◌, ◌++◌, length, length-append, map, ap, sym, ◌∙◌, subst, arith, Option, Some, None, option_map, option_to_list, slice_get}
+use Rattle.std.proofs.Common.{◌≡◌, ℕ, suc, ◌+◌, ◌≤◌, ◌&&◌, true, false, List, [], length, ap, sym, ◌∙◌, subst, arith, Option, Some, option_map, slice_get}
 use Rattle.rb_base.specs.Nodes.{Side, other}
 use Rattle.rb_rules.specs.declared.message.Message.{Message}
 use Rattle.rb_rules.specs.Book.{Each, of_kind}
 use Rattle.rb_rules.specs.Core.{Act}
 use Rattle.rb_rules.specs.Goodness.{Scenario}
-use Rattle.rb_rules.specs.Hearing.{Sending, coming_of}
-use Rattle.rb_rules.specs.WorldStep.{Choice, Due, Site, Timed, World, after_act, at_node, happens, pass_and_tick, sent_to, times_of, with_act, with_message, world_after}
+use Rattle.rb_rules.specs.Hearing.{Sending}
+use Rattle.rb_rules.specs.WorldStep.{Choice, Due, Site, World, after_act, at_node, happens, pass_and_tick, sent_to, times_of, with_act, with_message, world_after}
 use Rattle.rb_rules.specs.WorldStep.Pending.{Tick}
 use Rattle.rb_rules.specs.WorldStep.Way.{ByAnEvent}
 use Rattle.rb_laws_events.specs.PendingEvents.{most_pending}
-use Rattle.rb_laws_events.proofs.FewThere.{length-mapped}
+use Rattle.rb_laws_events.proofs.FewPending.{received}
 use Rattle.rb_laws_events.proofs.OneEvent.{happens-is}
 use Rattle.rb_laws_events.proofs.WorldNodes.{settle-sites}
-use Rattle.rb_laws_events.proofs.WorldStands.{get-at, is_node, kind-itself, node-itself, not-other}
+use Rattle.rb_laws_events.proofs.WorldStands.{get-at, is_node, node-itself, not-other}
 use Rattle.rb_laws_events.proofs.WorldTicks.{after_tick, get-after, kind-other, reached, reached-not}
 use Rattle.rb_laws_sweeps.specs.AheadOf.{GoesOnAhead, after_takes, ahead_of, tick_alone, until_tick}
 use Rattle.rb_laws_sweeps.specs.Room.{TicksBehindFit}
@@ -28,29 +28,6 @@ abbrev HaveRoom : Scenario → Each Site → Type 0
 HaveRoom sc sites = (me : Side) (i : ℕ) (s : Site) → slice_get (of_kind me sites) i ≡ Some s → length (times_of s) ≤ most_pending sc me
 
 -- A tick makes pending what is pending after it.
-
--- a message that comes to a node
-received : (sc : Scenario) (me : Side) (i frame : ℕ) (x : Sending) (j : ℕ) (z : Site) → z.runs ≡ true
-    → length (times_of (sent_to sc me i frame x (other me) j z)) ≡ length (times_of z) + 1
-received sc me i frame x j z runs =
-    ap (λ b. length (times_of (elim b as (λ _. Site) [ true ↦ more | false ↦ z ]))) (ap (λ b. b && z.runs) (kind-itself (other me)) ∙ runs)
-    ∙ by z.ahead
-  where
-    more : Site
-    more = record z { coming = z.coming ++ coming_of sc (other me) j i frame x ∷ [] }
-
-    by : (o : Option Timed) → length (option_to_list (option_map (λ a. a.time) o) ++ map (λ c. c.time) (z.coming ++ coming_of sc (other me) j i frame x ∷ []))
-        ≡ length (option_to_list (option_map (λ a. a.time) o) ++ map (λ c. c.time) z.coming) + 1
-    by None =
-        let new = length-mapped (λ c. c.time) (z.coming ++ coming_of sc (other me) j i frame x ∷ []) in
-        let old = length-mapped (λ c. c.time) z.coming in
-        let one = length-append z.coming (coming_of sc (other me) j i frame x ∷ []) in
-        omega (arith, new, old, one)
-    by (Some a) =
-        let new = length-mapped (λ c. c.time) (z.coming ++ coming_of sc (other me) j i frame x ∷ []) in
-        let old = length-mapped (λ c. c.time) z.coming in
-        let one = length-append z.coming (coming_of sc (other me) j i frame x ∷ []) in
-        omega (arith, new, old, one)
 
 message-few : (sc : Scenario) (me : Side) (i frame k : ℕ) (o : Option Message) (m : Message) (change : Site → Site) (sites : Each Site)
     → HaveRoom sc (with_message sc me i frame k o (at_node me i change sites)) → o ≡ Some m → (j : ℕ) (z : Site) → slice_get (of_kind (other me) sites) j ≡ Some z

@@ -3,7 +3,7 @@
 use Rattle.std.proofs.Common.{◌≡◌, ℕ, zero, suc, ◌+◌, ◌-◌, ◌*◌, ◌≤◌, ◌<◌, not, nat_le, true, false, List, [], ◌∷◌, map, Option, Some, None, is_some, get_or, refl, sym, ◌∙◌, ap, subst, arith, inl, inr, zero-add}
 use Rattle.std.specs.Prelude.{⊤, All, filter}
 use Rattle.std.specs.List.{list_any}
-use Rattle.std.proofs.lemmas.Bool.{and_parts, leb-true}
+use Rattle.std.proofs.lemmas.Bool.{and_parts, leb-true, or_left}
 use Rattle.std.proofs.lemmas.List.Elements.{All-filter, All-map}
 use Rattle.std.proofs.lemmas.List.FromFn.{get_or-map-range_with_len}
 use Rattle.rb_base.specs.Nodes.{Side, other, has}
@@ -34,7 +34,7 @@ use Rattle.rb_laws_agreement.proofs.JudgedWindows.{rows_of, sight-is, taken_in_s
 use Rattle.rb_laws_agreement.proofs.NodeWindows.{HasTick, Windows, heard_in, kept_in, sense_in, sync_tick, sync_windows_are, word_at}
 use Rattle.rb_laws_agreement.proofs.StageVotes.{IsSeen}
 use Rattle.rb_laws_agreement.proofs.SyncWindows.{close-sync}
-use Rattle.rb_laws_agreement.proofs.Tests.{or_first, or_neither_first, true_or_false}
+use Rattle.rb_laws_agreement.proofs.Tests.{or_neither_first, true_or_false}
 use Rattle.rb_laws_synchrony.proofs.PlanNumbers.{drift_of}
 use Rattle.rb_laws_synchrony.proofs.TakenCalls.{IsStage, is_set, taken_from, took, windows}
 use Rattle.rb_laws_synchrony.proofs.TimelyWindows.{good_here}
@@ -42,7 +42,7 @@ use Rattle.rb_laws_synchrony.proofs.Times.{Steady, steady}
 
 -- What a good node shows.
 
-get-see : (f : ℕ → Option ℕ) (j : ℕ) → j < 16 → get_or (map see_time (each_node f)) j Nothing ≡ see_time (f j)
+pub get-see : (f : ℕ → Option ℕ) (j : ℕ) → j < 16 → get_or (map see_time (each_node f)) j Nothing ≡ see_time (f j)
 get-see f j below = mapped (each_node f) j ∙ ap see_time (get_or-map-range_with_len f 0 16 j j None below (zero-add j))
   where
     mapped : (taken : List (Option ℕ)) (j : ℕ) → get_or (map see_time taken) j Nothing ≡ see_time (get_or taken j None)
@@ -104,7 +104,7 @@ took_is_seen sc hands n m s q c me i j st here below some =
     record {
       trusts = ap (λ t. has t j) (sym (far-held sc m s me st (c.agree.nodes me i st here)))
           ∙ trusts_taken (took sc m q ws me i st j) refl some;
-      seen = ap not (or_first (was_taken (other me) j stage) (list_any (was_taken (other me) j) m.book.stages) taken);
+      seen = ap not (or_left (was_taken (other me) j stage) (list_any (was_taken (other me) j) m.book.stages) taken);
     }
   where
     trusts_taken : (o : Option ℕ) → took sc m q (windows sc hands n m s q c) me i st j ≡ o → is_some o ≡ true → has st.far.trusted j ≡ true

@@ -1,11 +1,13 @@
 -- For the law that events are rounds: in every moment of a run that has not ended the calls of good nodes are ticks of their own
 -- windows, their next frames begin after all windows of this one, and no frame begins late.
-use Rattle.std.proofs.Common.{◌≡◌, ℕ, zero, suc, ◌+◌, ◌-◌, ◌*◌, ◌≤◌, ◌<◌, ◌&&◌, nat_lt, Bool, true, false, List, Option, Some, None, is_some, refl, sym, ◌∙◌, ap, subst, arith, inl, inr, lit<}
+use Rattle.std.proofs.Common.{◌≡◌, ℕ, zero, suc, ◌+◌, ◌-◌, ◌*◌, ◌≤◌, ◌<◌, ◌&&◌, nat_lt, Bool, true, false, List, Option, Some, refl, sym, ◌∙◌, ap, subst, arith, inl, inr, lit<}
 use Rattle.std.proofs.lemmas.Bool.{cases_lt}
 use Rattle.std.proofs.lemmas.Bool.Decides.{nat_tests}
+use Rattle.std.proofs.lemmas.Option.{same_Some}
 use Rattle.rb_base.specs.Nodes.{Side}
 use Rattle.rb_base.specs.Nodes.Side.{Biu, Rmu}
 use Rattle.rb_base.specs.Sizes.{Sizes, sync_slot_of}
+use Rattle.rb_base.proofs.Plain.{none_and_known}
 use Rattle.rb_rules.specs.declared.role.Role.TheVariants.{Sync}
 use Rattle.rb_rules.specs.Goodness.{Scenario, is_good}
 use Rattle.rb_rules.specs.Lawful.{IsLawful}
@@ -23,7 +25,6 @@ use Rattle.rb_laws_agreement.proofs.NextMoments.{CameFrom, came_from, next}
 use Rattle.rb_laws_agreement.proofs.NodeWindows.{sync_windows_are, tail_windows}
 use Rattle.rb_laws_agreement.proofs.Settings.{after}
 use Rattle.rb_laws_agreement.proofs.SlotRuns.{next-window}
-use Rattle.rb_laws_agreement.proofs.Tests.{same_some}
 use Rattle.rb_laws_synchrony.proofs.KeptMiddles.{Keeps, Leaves, keeps, tail_leaves}
 use Rattle.rb_laws_synchrony.proofs.SyncSteps.{epoch_after, tick_some}
 use Rattle.rb_laws_synchrony.proofs.Synchronous.{KnowNext, KnowsMiddle}
@@ -43,11 +44,7 @@ AllKeepTicks sc m = (me : Side) (i : ℕ) (st : NodeState) → IsGoodNode sc m m
 
 -- ---- middles that are not known
 
-none-known : {P : Type 0} (o : Option ℕ) (k : ℕ) → is_some o ≡ false → o ≡ Some k → P
-none-known None k e h = cc
-none-known (Some x) k e h = cc
-
-not-yet : (sizes : Sizes) (me : Side) (stage n : ℕ) → n ≤ 3 * sync_slot_of sizes + stage - 1 → knows sizes me stage n ≡ false
+pub not-yet : (sizes : Sizes) (me : Side) (stage n : ℕ) → n ≤ 3 * sync_slot_of sizes + stage - 1 → knows sizes me stage n ≡ false
 not-yet sizes me stage n early = go (listens me Sync stage) (nat_lt (3 * sync_slot_of sizes + stage - 1) n) (less-false (3 * sync_slot_of sizes + stage - 1) n early)
   where
     less-false : (a b : ℕ) → b ≤ a → nat_lt a b ≡ false
@@ -62,8 +59,8 @@ early-ticks : (sc : Scenario) (hands : List HandIn) (n : ℕ) (m : Moment) (s : 
 early-ticks sc hands n m s agree early me i st h =
     let known : Knows sc.sizes me m.window st = (agree.nodes me i st h).knows in
     record {
-      second = λ k is. none-known st.k1 k (known.k1 ∙ not-yet sc.sizes me 1 m.window (omega arith)) is;
-      third = λ k is. none-known st.k2 k (known.k2 ∙ not-yet sc.sizes me 2 m.window (omega arith)) is;
+      second = λ k is. none_and_known st.k1 k (known.k1 ∙ not-yet sc.sizes me 1 m.window (omega arith)) is;
+      third = λ k is. none_and_known st.k2 k (known.k2 ∙ not-yet sc.sizes me 2 m.window (omega arith)) is;
     }
 
 -- ---- middles that are
@@ -71,7 +68,7 @@ early-ticks sc hands n m s agree early me i st h =
 first-tick : (sc : Scenario) (me : Side) (i : ℕ) (st : NodeState) (o : Option ℕ) (k first last own low high n : ℕ) → KnowsMiddle sc me i st o first last own low high → o ≡ Some k
     → (st.epoch + (first + n) ≤ k + n) × (k + n < st.epoch + (own + n))
 first-tick sc me i st o k first last own low high n knows is =
-    let e : knows.tick ≡ k = same_some knows.tick k (sym knows.is ∙ is) in
+    let e : knows.tick ≡ k = same_Some knows.tick k (sym knows.is ∙ is) in
     (omega (arith, e, knows.from), omega (arith, e, knows.own_window))
 
 swap : (e f a b k : ℕ) → k < e + (f + a + b) → k < e + (f + b + a)
@@ -86,13 +83,13 @@ second-ticks sc hands n x at Rmu i st h =
       second = λ k is.
           let b = first-tick sc Rmu i st st.k1 k f (f + sc.plan.l) (f + sc.plan.v) _ _ sc.plan.l (x.near.first at i st h) is in
           (b.0, swap st.epoch f sc.plan.v sc.plan.l (k + sc.plan.l) b.1);
-      third = λ k is. none-known st.k2 k (known.k2 ∙ not-yet sc.sizes Rmu 2 (moment sc hands n).window (omega arith)) is;
+      third = λ k is. none_and_known st.k2 k (known.k2 ∙ not-yet sc.sizes Rmu 2 (moment sc hands n).window (omega arith)) is;
     }
 second-ticks sc hands n x at Biu i st h =
     let known : Knows sc.sizes Biu (moment sc hands n).window st = (x.agree.nodes Biu i st h).knows in
     record {
-      second = λ k is. none-known st.k1 k (known.k1) is;
-      third = λ k is. none-known st.k2 k (known.k2 ∙ not-yet sc.sizes Biu 2 (moment sc hands n).window (omega arith)) is;
+      second = λ k is. none_and_known st.k1 k (known.k1) is;
+      third = λ k is. none_and_known st.k2 k (known.k2 ∙ not-yet sc.sizes Biu 2 (moment sc hands n).window (omega arith)) is;
     }
 
 ticks-kept : (sc : Scenario) (st now : NodeState) → now.epoch ≡ st.epoch → now.k1 ≡ st.k1 → now.k2 ≡ st.k2 → KeepsTicks sc st → KeepsTicks sc now
@@ -151,7 +148,7 @@ after-tail sc hands n m s agree at before me i now h =
 
 -- ---- the run
 
-begins-at : (sc : Scenario) (hands : List HandIn) (m : Moment) → (next_frame sc hands m).window ≡ 0
+pub begins-at : (sc : Scenario) (hands : List HandIn) (m : Moment) → (next_frame sc hands m).window ≡ 0
 unfolding begin_frame
 begins-at sc hands m = refl
 

@@ -1,7 +1,8 @@
 -- For the law that events are rounds: in every moment of a run that has not ended good nodes have had no more ticks before their
 -- frame than so many frames may take, and the frame is one of the run.
-use Rattle.std.proofs.Common.{◌≡◌, ℕ, zero, suc, ◌+◌, ◌*◌, ◌≤◌, ◌<◌, ◌==◌, nat_lt, max, Bool, true, false, List, Some, slice_get, refl, sym, ◌∙◌, ap, subst, arith, inl, inr}
+use Rattle.std.proofs.Common.{◌≡◌, ℕ, zero, suc, ◌+◌, ◌*◌, ◌≤◌, ◌<◌, ◌==◌, max, false, List, Some, slice_get, refl, sym, ◌∙◌, ap, subst, arith, inl, inr}
 use Rattle.std.proofs.lemmas.Bool.Decides.{nat_tests}
+use Rattle.std.proofs.lemmas.Option.{same_Some}
 use Rattle.rb_base.specs.Nodes.{Side}
 use Rattle.rb_base.specs.Sizes.{Sizes}
 use Rattle.rb_rules.specs.declared.plan.Plan.{Plan}
@@ -12,20 +13,20 @@ use Rattle.rb_rules.specs.Moments.{IsRunning}
 use Rattle.rb_rules.specs.NodeState.{NodeState, first_state}
 use Rattle.rb_rules.specs.Plan.{tail_start_of}
 use Rattle.rb_rules.specs.Ports.{HandIn}
-use Rattle.rb_rules.specs.Rounds.{Moment, begin_frame, first_moment, moment, next_frame, step, windows_in}
+use Rattle.rb_rules.specs.Rounds.{Moment, begin_frame, first_moment, moment, next_frame, windows_in}
 use Rattle.rb_rules.specs.Slots.{count_of}
-use Rattle.rb_rules.proofs.Books.{stepped}
 use Rattle.rb_rules.proofs.WindowNumbers.{get-made}
-use Rattle.rb_laws_agreement.proofs.Agreement.{ended-end, running_before, step_is}
-use Rattle.rb_laws_agreement.proofs.FrameAgrees.{TurnedFrom, turned_from}
+use Rattle.rb_laws_agreement.proofs.Agreement.{running_before, step_is}
+use Rattle.rb_laws_agreement.proofs.FrameAgrees.{TurnedFrom, begin-frame, turned_from}
+use Rattle.rb_laws_agreement.proofs.FrameBegins.{not-over}
+use Rattle.rb_laws_agreement.proofs.FrameTimes.{turned-epoch}
 use Rattle.rb_laws_agreement.proofs.Goodnesses.{good_counts}
 use Rattle.rb_laws_agreement.proofs.Invariant.{Agree, IsGoodNode, Shared, slot_numbered}
 use Rattle.rb_laws_agreement.proofs.NextMoments.{CameFrom, came_from, next}
 use Rattle.rb_laws_agreement.proofs.SlotRuns.{next-frame}
-use Rattle.rb_laws_agreement.proofs.Tests.{same_some}
 use Rattle.rb_laws_synchrony.proofs.SyncSteps.{epoch_after}
 use Rattle.rb_laws_synchrony.proofs.Synchronous.{KnowNext, KnowsEpoch}
-use Rattle.rb_laws_synchrony.proofs.Synchrony.{IsSynchronous, synchrony, turned_epoch}
+use Rattle.rb_laws_synchrony.proofs.Synchrony.{IsSynchronous, synchrony}
 
 -- a frame takes fewer ticks than this
 abbrev pub frame_ticks : Sizes → Plan → ℕ
@@ -41,7 +42,7 @@ first-begins sc hands me i st h =
     let counted : i < count_of me sc.sizes = good_counts sc me i 0 (slot_numbered sc.sizes 0) h.good in
     let made : slice_get (of_kind me (each_of sc.sizes (λ me i. first_state sc.sizes me))) i ≡ Some (first_state sc.sizes me) =
     get-made sc.sizes (λ me i. first_state sc.sizes me) me i counted in
-    let same : first_state sc.sizes me ≡ st = same_some (first_state sc.sizes me) st (sym made ∙ h.there) in
+    let same : first_state sc.sizes me ≡ st = same_Some (first_state sc.sizes me) st (sym made ∙ h.there) in
     let e : 0 ≡ st.epoch = ap (λ x. x.epoch) same in
     omega (arith, e)
 
@@ -56,7 +57,7 @@ unfolding begin_frame
 turn-begins sc hands n m s agree known before me i now h =
     let from : TurnedFrom sc m me i now = turned_from sc hands n m s agree me i now h in
     let k : KnowsEpoch sc me i from.st known.0 = known.1 me i from.st from.was in
-    let e : k.takes.epoch ≡ now.epoch = sym (turned_epoch sc.sizes sc.plan me from.st k.takes.epoch k.takes.known) ∙ ap (λ x. x.epoch) from.is in
+    let e : k.takes.epoch ≡ now.epoch = sym (turned-epoch sc.sizes sc.plan me from.st k.takes.epoch k.takes.known) ∙ ap (λ x. x.epoch) from.is in
     one-more m.frame (frame_ticks sc.sizes sc.plan) from.st.epoch now.epoch (before me i from.st from.was)
     (later from.st.epoch (tail_start_of sc.sizes sc.plan) (max sc.plan.z (sc.plan.v + sc.plan.c)) k.takes.epoch now.epoch k.takes.most e)
   where
@@ -82,25 +83,13 @@ begin_by_then sc hands law (suc n) running =
 
 -- ---- the frames of the run
 
-not-over : (sc : Scenario) (hands : List HandIn) (m : Moment) → IsRunning (step sc hands m) → (m.frame == sc.frames) ≡ false
-unfolding step
-not-over sc hands m running = go (m.frame == sc.frames) (nat_lt m.window (windows_in sc.sizes)) running
-  where
-    go : (over in_frame : Bool) → IsRunning (stepped sc hands m over in_frame) → over ≡ false
-    go true in_frame h = let both : true ≡ false = sym (ended-end m.book) ∙ h in cc
-    go false in_frame h = refl
-
-turned-frame : (sc : Scenario) (hands : List HandIn) (m : Moment) → (next_frame sc hands m).frame ≡ m.frame + 1
+pub turned-frame : (sc : Scenario) (hands : List HandIn) (m : Moment) → (next_frame sc hands m).frame ≡ m.frame + 1
 unfolding begin_frame
 turned-frame sc hands m = refl
 
-first-frame : (sc : Scenario) (hands : List HandIn) → (first_moment sc hands).frame ≡ 0
-unfolding begin_frame
-first-frame sc hands = refl
-
 -- the frame that begins after the last one is the end
 pub within_run : (sc : Scenario) (hands : List HandIn) (n : ℕ) → IsRunning (moment sc hands n) → (moment sc hands n).frame ≤ sc.frames
-within_run sc hands zero running = omega (arith, first-frame sc hands)
+within_run sc hands zero running = omega (arith, begin-frame sc hands)
 within_run sc hands (suc n) running =
     let m : Moment = moment sc hands n in
     let before : m.frame ≤ sc.frames = within_run sc hands n (running_before sc hands m running) in

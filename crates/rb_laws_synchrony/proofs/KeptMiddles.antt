@@ -1,6 +1,6 @@
 -- What a window of the sync slot, or the tail, leaves of the middles that a node keeps.
-use Rattle.std.proofs.Common.{◌≡◌, ℕ, ◌+◌, ◌≤◌, ◌&&◌, nat_le, true, false, Bool, Option, Some, None, unwrap_or, refl, sym, ◌∙◌, ap, subst, arith, inl, inr}
-use Rattle.std.proofs.lemmas.Bool.Decides.{nat_tests}
+use Rattle.std.proofs.Common.{◌≡◌, ℕ, ◌+◌, ◌≤◌, ◌&&◌, nat_le, true, false, Bool, Option, Some, None, unwrap_or, refl, sym, ◌∙◌, ap, subst, inl, inr}
+use Rattle.std.proofs.lemmas.Bool.{leb-true}
 use Rattle.rb_base.specs.Nodes.{Side}
 use Rattle.rb_base.specs.Nodes.Side.{Biu, Rmu}
 use Rattle.rb_base.specs.Sizes.{Sizes, sync_slot_of}
@@ -84,15 +84,12 @@ passed-over sc m slot stage ws me i st none =
     go true false h = refl
     go false false h = refl
 
-le-from : (a b : ℕ) → nat_le a b ≡ true → a ≤ b
-le-from a b h = grind (arith, nat_tests)
-
 -- the tail is one
 pub tail_leaves : (sc : Scenario) (m : Moment) (ws : Windows sc m (sync_slot_of sc.sizes) 4) (me : Side) (i : ℕ) (st : NodeState)
     → is_good sc me i m.frame (sync_slot_of sc.sizes) ≡ true → Leaves st (after sc m me i st)
 tail_leaves sc m ws me i st good =
     elim (true_or_false (nat_le (ws.first me st) (ws.last me st))) [
-      | inl tick ↦ tail-leaves me _ st (after sc m me i st) (keeps sc m 4 ws me i st good (le-from (ws.first me st) (ws.last me st) tick))
+      | inl tick ↦ tail-leaves me _ st (after sc m me i st) (keeps sc m 4 ws me i st good (leb-true (ws.first me st) (ws.last me st) tick))
       | inr none ↦
           subst (Leaves st) (sym (passed-over sc m (sync_slot_of sc.sizes) 4 ws me i st none)) (record { k1 = refl; k2 = refl; k3 = refl })
     ]

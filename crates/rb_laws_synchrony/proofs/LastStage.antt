@@ -54,7 +54,7 @@ rmu_begins plan u d f least x fit at = record { least = omega (arith, at.least);
 abbrev heard-third : (sc : Scenario) (hands : List HandIn) (n : ℕ) (m : Moment) (s : Shared) → IsPassedStage sc hands n m s 2 → IsHeardStage sc hands n m s 2 Rmu
 heard-third sc hands n m s c = record { stage = c.stage; listening = refl; premise = c.premise }
 
-third-middle : (sc : Scenario) (hands : List HandIn) (n : ℕ) (m : Moment) (s : Shared) (low : ℕ) (c : IsHeardStage sc hands n m s 2 Rmu) → Synchronous sc m s low
+pub third-middle : (sc : Scenario) (hands : List HandIn) (n : ℕ) (m : Moment) (s : Shared) (low : ℕ) (c : IsHeardStage sc hands n m s 2 Rmu) → Synchronous sc m s low
     → (i : ℕ) (st : NodeState) → IsGoodNode sc m Rmu i st
     → StageMiddle sc m 2 (ws_of sc hands n m s 2 Rmu c) Rmu i st (f0_of sc.sizes sc.plan + sc.plan.l + sc.plan.v) (f0_of sc.sizes sc.plan + sc.plan.l + sc.plan.v + sc.plan.z)
     (f0_of sc.sizes sc.plan + sc.plan.l + sc.plan.v + sc.plan.z) (from_3 sc low) (to_3 sc low)
@@ -76,7 +76,7 @@ third-middle sc hands n m s low c sync i st here =
         (last_plus (f + sc.plan.l + sc.plan.v) sc.plan.z law.plan.z.0) fit.after_3
 
 -- the calls of stage 3 are near
-third-near : (sc : Scenario) (hands : List HandIn) (n : ℕ) (m : Moment) (s : Shared) (low : ℕ) → IsPassedStage sc hands n m s 2 → Synchronous sc m s low
+pub third-near : (sc : Scenario) (hands : List HandIn) (n : ℕ) (m : Moment) (s : Shared) (low : ℕ) → IsPassedStage sc hands n m s 2 → Synchronous sc m s low
     → CallNear sc m Biu 3 (near_3 sc.plan)
 third-near sc hands n m s low c sync =
     let at : m.window ≡ 3 * sync_slot_of sc.sizes + 2 = c.stage.at in

@@ -1,6 +1,7 @@
 -- For the law that events are rounds: what good nodes send for the stage after one in which the run breaks off.
 use Rattle.std.proofs.Common.{◌≡◌, ℕ, ◌+◌, ◌-◌, ◌*◌, ◌/◌, ◌%◌, ◌≤◌, ◌<◌, List, Some, option_map, refl, sym, ◌∙◌, ap, subst, arith, inl, inr, lit<}
 use Rattle.std.proofs.lemmas.Bool.{cases_lt}
+use Rattle.std.proofs.lemmas.Option.{same_Some}
 use Rattle.rb_base.specs.Nodes.Side.{Biu, Rmu}
 use Rattle.rb_base.specs.Sizes.{sync_slot_of}
 use Rattle.rb_rules.specs.Clock.{time_of}
@@ -19,7 +20,7 @@ use Rattle.rb_laws_agreement.proofs.NextMoments.{CameFrom, came_from, next}
 use Rattle.rb_laws_agreement.proofs.NodeWindows.{sync_windows_are}
 use Rattle.rb_laws_agreement.proofs.SlotRuns.{next-frame, next-window}
 use Rattle.rb_laws_synchrony.proofs.PlanNumbers.{drift_of, eps_of}
-use Rattle.rb_laws_synchrony.proofs.StageCalls.{Begun, IsAt, clock_now, first_about, first_at, first_calls, same_tick, third_about, third_at, third_calls}
+use Rattle.rb_laws_synchrony.proofs.StageCalls.{Begun, IsAt, clock_now, first_about, first_at, first_calls, third_about, third_at, third_calls}
 use Rattle.rb_laws_synchrony.proofs.Synchronous.{Synchronous, from_1, from_3, ticks_on, to_1, to_3}
 use Rattle.rb_laws_synchrony.proofs.SyncSteps.{begun_next}
 use Rattle.rb_laws_synchrony.proofs.TimelyMoments.{AllInFrame, timely_exact, timely_stage}
@@ -76,7 +77,7 @@ next_message sc m s low c at sync i j st source here there epoch known =
     let call : IsBetween (from_3 sc low) (to_3 sc low) (time_of (clock_of sc Biu j) (k.tick + sc.plan.v)) =
     (third_calls sc law m s low sync at).between j source (k.tick + sc.plan.v) there (ap (option_map (λ k2. k2 + sc.plan.v)) k.is) in
     let e : k.tick + sc.plan.v + sc.plan.z + sc.plan.c ≡ epoch =
-    same_tick (k.tick + sc.plan.v + sc.plan.z + sc.plan.c) epoch (sym (ap (option_map (λ k2. k2 + sc.plan.v + sc.plan.z + sc.plan.c)) k.is) ∙ known) in
+    same_Some (k.tick + sc.plan.v + sc.plan.z + sc.plan.c) epoch (sym (ap (option_map (λ k2. k2 + sc.plan.v + sc.plan.z + sc.plan.c)) k.is) ∙ known) in
     let biu : Steady u d (clock_of sc Biu j) = clock_now sc law m Biu j source there in
     let rmu : Steady u d (clock_of sc Rmu i) = clock_now sc law m Rmu i st here in
     let sent : IsBetween (time_of (clock_of sc Biu j) (k.tick + sc.plan.v) + (sc.plan.z + sc.plan.c + sc.plan.h) * u)

@@ -1,8 +1,11 @@
 -- One stage of the sync slot, whatever comes of the nodes that are not good.
 use Rattle.std.proofs.Common.{◌≡◌, ℕ, zero, suc, ◌+◌, ◌-◌, ◌<◌, ◌≤◌, ◌==◌, ◌&&◌, inl, inr, Bool, true, false, map, not, Option, Some, None, is_some, unwrap_or, if◌then◌else◌, refl, sym, ◌∙◌, ap, subst, arith}
+use Rattle.std.proofs.lemmas.Bool.{and_from, not-true}
 use Rattle.std.proofs.lemmas.Bool.Decides.{nat_tests}
+use Rattle.std.proofs.lemmas.Option.{same_Some}
 use Rattle.rb_base.specs.Counting.{numbers}
 use Rattle.rb_base.specs.Nodes.{has}
+use Rattle.rb_base.proofs.Plain.{and_first, and_second}
 use Rattle.rb_rules.specs.declared.plan.Plan.{Plan}
 use Rattle.rb_rules.specs.declared.role.Role.TheVariants.{Sync}
 use Rattle.rb_rules.specs.Clock.{IsStamp, Timeline, stamp_of, time_of}
@@ -17,7 +20,6 @@ use Rattle.rb_rules.proofs.Drift.{HasLengths, clock_moves, has_lengths, stamp_ne
 use Rattle.rb_rules.proofs.Middles.{AreNear, IsBetween}
 use Rattle.rb_rules.proofs.Stamps.{Moves, stamp_of-is, stamps_rise}
 use Rattle.rb_rules.proofs.Standings.{expected_is_taken, others_stay, right_is_no_evidence}
-use Rattle.rb_laws_agreement.proofs.Tests.{and_both, and_first, and_second, not_true, same_some}
 use Rattle.rb_laws_synchrony.specs.OneStage.{HearNear, HearsGoodCalls, IsCalledBetween, Listener, MiddlesAreNear, MiddlesLieAmongGoodCalls, TakeNear, middle_kept, stamp_taken, state_after}
 use Rattle.rb_laws_synchrony.proofs.Middles.{BothNear, HasStamp, middle_times_near, middle_within, some_middle}
 
@@ -72,7 +74,7 @@ kept-is x listening low high =
 -- a good source is expected and eligible, so its call is taken
 expected : (plan : Plan) (good : ℕ → Bool) (low high : ℕ) (x : Listener) → HearsGoodCalls plan good low high x → (j : ℕ) → good j ≡ true → expects_call x.me x.state x.stage j ≡ true
 expected plan good low high x c j g =
-    and_both (listens x.me Sync x.stage) (has x.state.far.trusted j) c.listening
+    and_from (listens x.me Sync x.stage) (has x.state.far.trusted j) c.listening
     (and_first (has x.state.far.trusted j) (not (has x.state.far.direct j)) (c.eligible j g))
 
 stamped : (plan : Plan) (good : ℕ → Bool) (low high : ℕ) (x : Listener) → HearsGoodCalls plan good low high x → (j : ℕ) → good j ≡ true
@@ -116,7 +118,7 @@ spares plan good low high x c j g =
     ap (λ b. does_wrong b (x.came j)) (expected plan good low high x c j g) ∙ ap (does_wrong true) call.came in
     others_stay (has_evidence x.state.far (expects_call x.me x.state x.stage) x.came) x.state.far j (c.numbered j g)
     (right_is_no_evidence x.state.far (expects_call x.me x.state x.stage) x.came j right)
-    ∙ not_true (has x.state.far.direct j) (and_second (has x.state.far.trusted j) (not (has x.state.far.direct j)) (c.eligible j g))
+    ∙ not-true (has x.state.far.direct j) (and_second (has x.state.far.trusted j) (not (has x.state.far.direct j)) (c.eligible j g))
 
 pub middles-lie-among : MiddlesLieAmongGoodCalls
 middles-lie-among plan good low high x c =
@@ -161,8 +163,8 @@ pub middles-are-near : MiddlesAreNear
 middles-are-near plan good low high x y c k l is_k is_l =
     let mine : FindsMiddle x low high = finds plan good low high x c.mine in
     let yours : FindsMiddle y low high = finds plan good low high y c.yours in
-    let same_k : mine.tick ≡ k = same_some mine.tick k (sym mine.kept ∙ is_k) in
-    let same_l : yours.tick ≡ l = same_some yours.tick l (sym yours.kept ∙ is_l) in
+    let same_k : mine.tick ≡ k = same_Some mine.tick k (sym mine.kept ∙ is_k) in
+    let same_l : yours.tick ≡ l = same_Some yours.tick l (sym yours.kept ∙ is_l) in
     let near : AreNear (plan.dmax - plan.dmin + longest_of plan) (time_of x.clock k) (time_of y.clock l) =
     middle_times_near (plan.dmax - plan.dmin + longest_of plan) (time_of x.clock) (time_of y.clock) (stamp_taken x) (stamp_taken y) k l
     (record { keeps = λ a b le. times_rise_to x.clock a b le }) (record { keeps = λ a b le. times_rise_to y.clock a b le })

@@ -50,7 +50,7 @@ window-rest ticks h shortest n inside le =
     let parts : ticks * shortest ≡ (k + (1 + h)) * shortest = ap (λ t. t * shortest) all in
     omega (arith, parts, low)
 
-enough : (a b : ℕ) → pos a ≤ℤ pos b → a ≤ b
+pub enough : (a b : ℕ) → pos a ≤ℤ pos b → a ≤ b
 enough a b h = omega (arith, ints)
 
 -- a bound of a greatest less a least is one of each less each

@@ -1,5 +1,6 @@
 -- When good nodes send in a window, by what holds of them before it, and that the windows of all lie about those times.
 use Rattle.std.proofs.Common.{◌≡◌, ℕ, ◌+◌, ◌-◌, ◌*◌, ◌/◌, ◌%◌, ◌≤◌, ◌<◌, Option, Some, option_map, sym, ◌∙◌, ap, arith}
+use Rattle.std.proofs.lemmas.Option.{same_Some}
 use Rattle.rb_base.specs.Nodes.{Side}
 use Rattle.rb_base.specs.Nodes.Side.{Biu, Rmu}
 use Rattle.rb_base.specs.Sizes.{sync_slot_of}
@@ -92,9 +93,6 @@ pub record CallWell (sc : Scenario) (m : Moment) (kind : Side) (stage first last
   pub own : (j : ℕ) (st : NodeState) (tick : ℕ) → IsGoodNode sc m kind j st → call_tick_of sc.sizes sc.plan st stage ≡ Some tick
       → (st.epoch + first ≤ tick) × (tick < st.epoch + last)
 
-pub same_tick : (a b : ℕ) → Some a ≡ Some b → a ≡ b
-same_tick a b h = cc
-
 -- a good node's clock, from its frame's begin
 pub clock_now : (sc : Scenario) → IsLawful sc → (m : Moment) (me : Side) (i : ℕ) (st : NodeState) → IsGoodNode sc m me i st → Steady (shortest_of sc.plan) (drift_of sc.plan) (clock_of sc me i)
 clock_now sc law m me i st h = steady sc law me i m.frame _ h.good
@@ -104,9 +102,9 @@ pub first_calls : (sc : Scenario) → IsLawful sc → (m : Moment) (low : ℕ) �
 first_calls sc law m low begun = record {
   between = λ j st tick h at.
       at_offset (shortest_of sc.plan) (drift_of sc.plan) (clock_of sc Biu j) (clock_now sc law m Biu j st h) low sc.plan.p st.epoch (f0_of sc.sizes sc.plan + sc.plan.h) tick
-      (sym (same_tick (st.epoch + f0_of sc.sizes sc.plan + sc.plan.h) tick at) ∙ group st.epoch (f0_of sc.sizes sc.plan) sc.plan.h) (begun Biu j st h);
+      (sym (same_Some (st.epoch + f0_of sc.sizes sc.plan + sc.plan.h) tick at) ∙ group st.epoch (f0_of sc.sizes sc.plan) sc.plan.h) (begun Biu j st h);
   own = λ j st tick h at.
-      let e : st.epoch + f0_of sc.sizes sc.plan + sc.plan.h ≡ tick = same_tick (st.epoch + f0_of sc.sizes sc.plan + sc.plan.h) tick at in
+      let e : st.epoch + f0_of sc.sizes sc.plan + sc.plan.h ≡ tick = same_Some (st.epoch + f0_of sc.sizes sc.plan + sc.plan.h) tick at in
       within st.epoch (f0_of sc.sizes sc.plan) sc.plan.h sc.plan.l tick e (lawful_fits sc law).in_l;
 }
   where
@@ -122,7 +120,7 @@ after-middle : (sc : Scenario) → IsLawful sc → (m : Moment) (me : Side) (i :
     → IsBetween (low + n * shortest_of sc.plan) (high + n * tick_of sc.plan) (time_of (clock_of sc me i) tick)
     × (st.epoch + (first + n) ≤ tick) × (tick < st.epoch + (own + n))
 after-middle sc law m me i st h k first last own low high n tick knows at =
-    let e : knows.tick + n ≡ tick = same_tick (knows.tick + n) tick (sym (ap (option_map (λ k. k + n)) knows.is) ∙ at) in (
+    let e : knows.tick + n ≡ tick = same_Some (knows.tick + n) tick (sym (ap (option_map (λ k. k + n)) knows.is) ∙ at) in (
       ticks_on (shortest_of sc.plan) (drift_of sc.plan) (clock_of sc me i) (clock_now sc law m me i st h) low high knows.tick n tick (sym e) knows.between,
       omega (arith, e, knows.from),
       omega (arith, e, knows.own_window),

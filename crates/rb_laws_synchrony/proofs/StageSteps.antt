@@ -1,6 +1,7 @@
 -- A stage of the sync slot that passes, at one good node: the middle that it keeps is a tick of the window, and the next call is one
 -- of the next window.
 use Rattle.std.proofs.Common.{◌≡◌, ℕ, ◌+◌, ◌-◌, ◌*◌, ◌≤◌, ◌<◌, true, List, Some, option_and_then, unwrap_or, slice_get, refl, sym, ◌∙◌, ap, subst, arith}
+use Rattle.std.proofs.lemmas.Option.{same_Some}
 use Rattle.rb_base.specs.Nodes.{Side, other}
 use Rattle.rb_base.specs.Sizes.{sync_slot_of}
 use Rattle.rb_rules.specs.Book.{of_kind}
@@ -17,7 +18,6 @@ use Rattle.rb_rules.proofs.Middles.{AreNear, IsBetween}
 use Rattle.rb_laws_agreement.proofs.Goodnesses.{good_below_16, slot_last}
 use Rattle.rb_laws_agreement.proofs.Invariant.{IsGoodNode, Shared, is_good_now, slot_numbered}
 use Rattle.rb_laws_agreement.proofs.NodeWindows.{Windows}
-use Rattle.rb_laws_agreement.proofs.Tests.{same_some}
 use Rattle.rb_laws_synchrony.proofs.Middles.{HasLeast, least_of}
 use Rattle.rb_laws_synchrony.proofs.PlanNumbers.{drift_of, le_trans}
 use Rattle.rb_laws_synchrony.proofs.StageCalls.{Begun, IsAt, clock_now}
@@ -75,7 +75,7 @@ pub closer : (sc : Scenario) (hands : List HandIn) (n : ℕ) (m : Moment) (s : S
     → IsBetween (heard_from sc least) (heard_to sc most) (time_of (clock_of sc me i) k.tick)
 closer sc hands n m s q me c first last own low high least most calls i st here some k =
     let h : HearsMiddle sc m q (ws_of sc hands n m s q me c) me i st least most = hears_middle sc hands n m s q me c least most calls i st here in
-    let same : h.tick ≡ k.tick = same_some h.tick k.tick (sym h.found ∙ k.found) in
+    let same : h.tick ≡ k.tick = same_Some h.tick k.tick (sym h.found ∙ k.found) in
     subst (λ t. IsBetween (heard_from sc least) (heard_to sc most) (time_of (clock_of sc me i) t)) same
     (record { least = h.not_early; most = h.not_late (omega (arith, same, k.from, some)) })
 

@@ -1,6 +1,7 @@
 -- From one window to the next of its frame good nodes stay near.
 use Rattle.std.proofs.Common.{◌≡◌, ℕ, zero, suc, ◌+◌, ◌-◌, ◌*◌, ◌≤◌, ◌<◌, List, ◌∷◌, Option, Some, refl, sym, ◌∙◌, ap, subst, arith}
 use Rattle.std.specs.List.{list_any}
+use Rattle.std.proofs.lemmas.Option.{same_Some}
 use Rattle.rb_base.specs.Nodes.{Side}
 use Rattle.rb_base.specs.Nodes.Side.{Biu, Rmu}
 use Rattle.rb_base.specs.Sizes.{sync_slot_of}
@@ -22,7 +23,7 @@ use Rattle.rb_laws_agreement.proofs.NodeWindows.{HasTick, Windows, sync_tick, sy
 use Rattle.rb_laws_agreement.proofs.Premises.{Premise}
 use Rattle.rb_laws_agreement.proofs.Settings.{after}
 use Rattle.rb_laws_agreement.proofs.SyncAgrees.{book_sync}
-use Rattle.rb_laws_agreement.proofs.Tests.{or_neither_second, same_some}
+use Rattle.rb_laws_agreement.proofs.Tests.{or_neither_second}
 use Rattle.rb_laws_synchrony.proofs.CallSights.{stages_with}
 use Rattle.rb_laws_synchrony.proofs.KeptMiddles.{Keeps, keeps_found}
 use Rattle.rb_laws_synchrony.proofs.PlanNumbers.{drift_of, last_plus, second_own}
@@ -162,8 +163,8 @@ near_first sc hands n m s low c sync = record {
       let kb = first-middle sc hands n m s low heard sync.begun b from_b.st from_b.was in
       let kept_a = kept_found sc hands n m s 0 Rmu heard _ _ _ _ _ a from_a.st from_a.was ka in
       let kept_b = kept_found sc hands n m s 0 Rmu heard _ _ _ _ _ b from_b.st from_b.was kb in
-      let ea : ka.tick ≡ k = same_some ka.tick k (sym (ap (λ x. x.k1) (sym from_a.is) ∙ kept_a.k1) ∙ is_k) in
-      let eb : kb.tick ≡ l = same_some kb.tick l (sym (ap (λ x. x.k1) (sym from_b.is) ∙ kept_b.k1) ∙ is_l) in
+      let ea : ka.tick ≡ k = same_Some ka.tick k (sym (ap (λ x. x.k1) (sym from_a.is) ∙ kept_a.k1) ∙ is_k) in
+      let eb : kb.tick ≡ l = same_Some kb.tick l (sym (ap (λ x. x.k1) (sym from_b.is) ∙ kept_b.k1) ∙ is_l) in
       let near : AreNear (near_1 sc.plan) (time_of (clock_of sc Rmu a) ka.tick) (time_of (clock_of sc Rmu b) kb.tick) =
       middles_of_alike sc hands n m s 0 Rmu heard (subst (NoneUnlike sc m s Biu) c.stages none) a b from_a.st from_b.st from_a.was from_b.was ka.late kb.late ka.tick kb.tick ka.middle kb.middle in
       subst (λ x. AreNear (near_1 sc.plan) (time_of (clock_of sc Rmu a) x) (time_of (clock_of sc Rmu b) l)) ea

@@ -1,33 +1,30 @@
 -- In every moment of a run that has not ended good nodes are near each other.
-use Rattle.std.proofs.Common.{◌≡◌, ℕ, zero, suc, ◌+◌, ◌-◌, ◌*◌, ◌≤◌, ◌<◌, nat_lt, true, false, List, [], length, get_or, Some, None, slice_get, refl, sym, ◌∙◌, ap, subst, arith, inl, inr, lit<}
-use Rattle.std.proofs.lemmas.Bool.{cases_lt}
-use Rattle.std.proofs.lemmas.Bool.Decides.{nat_tests}
-use Rattle.rb_base.specs.Nodes.{Side}
-use Rattle.rb_base.specs.Sizes.{Sizes, sync_slot_of}
-use Rattle.rb_rules.specs.declared.plan.Plan.{Plan}
+use Rattle.std.proofs.Common.{◌≡◌, ℕ, zero, suc, ◌+◌, ◌-◌, ◌*◌, ◌≤◌, ◌<◌, nat_lt, false, List, [], length, get_or, Some, slice_get, refl, sym, ◌∙◌, ap, subst, arith, inl, inr, lit<}
+use Rattle.std.proofs.lemmas.Bool.{cases_lt, lt-ltb, ltb-true}
+use Rattle.std.proofs.lemmas.Option.{same_Some}
+use Rattle.rb_base.specs.Sizes.{sync_slot_of}
 use Rattle.rb_rules.specs.Book.{each_of, of_kind}
 use Rattle.rb_rules.specs.Clock.{Timeline, time_of}
 use Rattle.rb_rules.specs.Conviction.{turn}
 use Rattle.rb_rules.specs.Goodness.{Scenario, clock_of, clock_place}
 use Rattle.rb_rules.specs.Lawful.{IsLawful}
 use Rattle.rb_rules.specs.Moments.{IsRunning}
-use Rattle.rb_rules.specs.NodeState.{NodeState, first_state}
-use Rattle.rb_rules.specs.NodeSteps.{turn_if_known}
+use Rattle.rb_rules.specs.NodeState.{first_state}
 use Rattle.rb_rules.specs.Ports.{HandIn}
 use Rattle.rb_rules.specs.Rounds.{Moment, begin_frame, first_moment, moment, next_frame, step, windows_in}
 use Rattle.rb_rules.specs.Slots.{count_of}
-use Rattle.rb_rules.specs.SyncStage.{new_epoch_of}
 use Rattle.rb_rules.proofs.Middles.{IsBetween}
+use Rattle.rb_rules.proofs.Slots.{place-within}
 use Rattle.rb_rules.proofs.WindowNumbers.{get-made}
 use Rattle.rb_laws_agreement.proofs.Agreement.{IsAgreed, agreement, running_before, step_is}
 use Rattle.rb_laws_agreement.proofs.FrameAgrees.{TurnedFrom, agree_first, first_shared, turned_from}
+use Rattle.rb_laws_agreement.proofs.FrameTimes.{turned-epoch}
 use Rattle.rb_laws_agreement.proofs.Goodnesses.{good_counts}
 use Rattle.rb_laws_agreement.proofs.Invariant.{Agree, Shared, slot_numbered}
 use Rattle.rb_laws_agreement.proofs.JudgedWindows.{IsPassed, passed, rows_of}
 use Rattle.rb_laws_agreement.proofs.NextMoments.{next}
 use Rattle.rb_laws_agreement.proofs.NodeWindows.{sync_windows_are, tail_windows}
 use Rattle.rb_laws_agreement.proofs.SyncAgrees.{agree_sync, book_sync, stage_setting, tail_setting}
-use Rattle.rb_laws_agreement.proofs.Tests.{same_some}
 use Rattle.rb_laws_synchrony.proofs.LastStage.{near_tail, near_third}
 use Rattle.rb_laws_synchrony.proofs.LaterStages.{near_second}
 use Rattle.rb_laws_synchrony.proofs.Middles.{HasLeast, least_of}
@@ -35,22 +32,15 @@ use Rattle.rb_laws_synchrony.proofs.StageCalls.{Begun}
 use Rattle.rb_laws_synchrony.proofs.SyncSteps.{IsPassedStage, near_exact, near_first, passed_stage}
 use Rattle.rb_laws_synchrony.proofs.Synchronous.{KnowNext, KnowsEpoch, Synchronous}
 use Rattle.rb_laws_synchrony.proofs.TakenCalls.{IsStage}
-use Rattle.rb_laws_synchrony.proofs.Times.{place_within}
 
 -- ---- the first frame
-
-less-true : (a b : ℕ) → a < b → nat_lt a b ≡ true
-less-true a b h = grind (arith, nat_tests)
-
-lt-from : (a b : ℕ) → nat_lt a b ≡ true → a < b
-lt-from a b h = grind (arith, nat_tests)
 
 -- the clocks start at most p apart
 starts : (sc : Scenario) → IsLawful sc → HasLeast (λ k. nat_lt k (length sc.clocks)) (λ k. (get_or sc.clocks k (record { start = 0; segments = [] })).start) sc.plan.p (length sc.clocks)
 starts sc law =
     let none : Timeline = record { start = 0; segments = [] } in
     least_of (λ k. nat_lt k (length sc.clocks)) (λ k. (get_or sc.clocks k none).start) sc.plan.p
-    (λ i j g h. law.starts i none (lt-from i (length sc.clocks) g) j none (lt-from j (length sc.clocks) h)) (length sc.clocks)
+    (λ i j g h. law.starts i none (ltb-true i (length sc.clocks) g) j none (ltb-true j (length sc.clocks) h)) (length sc.clocks)
 
 -- all begin frame 0 with tick 0
 begun-first : (sc : Scenario) (hands : List HandIn) (law : IsLawful sc) → Begun sc (first_moment sc hands) (starts sc law).least
@@ -59,10 +49,10 @@ begun-first sc hands law me i st h =
     let counted : i < count_of me sc.sizes = good_counts sc me i 0 (slot_numbered sc.sizes 0) h.good in
     let made : slice_get (of_kind me (each_of sc.sizes (λ me i. first_state sc.sizes me))) i ≡ Some (first_state sc.sizes me) =
     get-made sc.sizes (λ me i. first_state sc.sizes me) me i counted in
-    let same : first_state sc.sizes me ≡ st = same_some (first_state sc.sizes me) st (sym made ∙ h.there) in
-    let within : clock_place sc.sizes me i < length sc.clocks = place_within sc.sizes me i (length sc.clocks) law.one_clock_each counted in
+    let same : first_state sc.sizes me ≡ st = same_Some (first_state sc.sizes me) st (sym made ∙ h.there) in
+    let within : clock_place sc.sizes me i < length sc.clocks = place-within sc.sizes me i (length sc.clocks) law.one_clock_each counted in
     subst (λ st. IsBetween (starts sc law).least ((starts sc law).least + sc.plan.p) (time_of (clock_of sc me i) st.epoch)) same
-    ((starts sc law).at (clock_place sc.sizes me i) within (less-true (clock_place sc.sizes me i) (length sc.clocks) within))
+    ((starts sc law).at (clock_place sc.sizes me i) within (lt-ltb (clock_place sc.sizes me i) (length sc.clocks) within))
 
 near-first : (sc : Scenario) (hands : List HandIn) (law : IsLawful sc) → Synchronous sc (first_moment sc hands) (first_shared sc) (starts sc law).least
 unfolding begin_frame
@@ -77,12 +67,6 @@ near-first sc hands law = record {
 
 -- ---- from frame to frame
 
--- a node turns with the tick that it knows
-pub turned_epoch : (sizes : Sizes) (plan : Plan) (me : Side) (st : NodeState) (epoch : ℕ) → new_epoch_of plan me st ≡ Some epoch → (turn_if_known sizes plan me st).epoch ≡ epoch
-unfolding turn
-turned_epoch sizes plan me st epoch known =
-    ap (λ o. (elim o as (λ _. NodeState) [ None ↦ st | Some epoch ↦ turn sizes plan.probation me epoch st ]).epoch) known
-
 near-turned : (sc : Scenario) (hands : List HandIn) (n : ℕ) (m : Moment) (s t : Shared) (low : ℕ) → Agree sc hands n m s → m.window ≡ windows_in sc.sizes → (sync : Synchronous sc m s low)
     → (later : ℕ) × Synchronous sc (next_frame sc hands m) t later
 unfolding begin_frame
@@ -92,7 +76,7 @@ near-turned sc hands n m s t low agree at sync = (
     begun = λ me i now h.
         let from : TurnedFrom sc m me i now = turned_from sc hands n m s agree me i now h in
         let k : KnowsEpoch sc me i from.st known.0 = known.1 me i from.st from.was in
-        let e : k.takes.epoch ≡ now.epoch = sym (turned_epoch sc.sizes sc.plan me from.st k.takes.epoch k.takes.known) ∙ ap (λ x. x.epoch) from.is in
+        let e : k.takes.epoch ≡ now.epoch = sym (turned-epoch sc.sizes sc.plan me from.st k.takes.epoch k.takes.known) ∙ ap (λ x. x.epoch) from.is in
         subst (λ x. IsBetween known.0 (known.0 + sc.plan.p) (time_of (clock_of sc me i) x)) e k.between;
     first = λ at. absurd (omega arith);
     first_near = λ at. absurd (omega arith);

@@ -1,9 +1,9 @@
 -- A stage of the sync slot: what a good node takes of each source, and what it shows of that.
 use Rattle.std.proofs.Common.{◌≡◌, ℕ, ◌+◌, ◌*◌, ◌%◌, ◌<◌, ◌==◌, ◌&&◌, Bool, true, false, List, [], ◌∷◌, map, Option, Some, None, if◌then◌else◌, refl, sym, ◌∙◌, ap, arith}
 use Rattle.std.specs.Prelude.{option_to_list, option_map}
-use Rattle.std.proofs.lemmas.Bool.Decides.{nat_tests}
 use Rattle.rb_base.specs.Nodes.{Side, other, has}
 use Rattle.rb_base.specs.Sizes.{Sizes, sync_slot_of}
+use Rattle.rb_base.proofs.Plain.{all_four, eq_self}
 use Rattle.rb_rules.specs.declared.message.Message.{Message}
 use Rattle.rb_rules.specs.declared.plan.Plan.{Plan}
 use Rattle.rb_rules.specs.declared.role.Role.TheVariants.{Sync}
@@ -25,15 +25,12 @@ use Rattle.rb_rules.specs.Standing.{is_eligible, taken_of}
 use Rattle.rb_rules.specs.SyncStage.{call_of, call_tick_of, calls, expects_call, send_tick_of}
 use Rattle.rb_rules.proofs.RoundStates.{keeping-stays}
 use Rattle.rb_rules.proofs.Senses.{spelled_is_one}
-use Rattle.rb_laws_agreement.proofs.ExactWindows.{other_twice}
+use Rattle.rb_rules.proofs.Slots.{few_slots, other_twice}
 use Rattle.rb_laws_agreement.proofs.Exchanges.{far-held}
-use Rattle.rb_laws_agreement.proofs.Goodnesses.{few_slots, slot_last}
+use Rattle.rb_laws_agreement.proofs.Goodnesses.{slot_last}
 use Rattle.rb_laws_agreement.proofs.Invariant.{Agree, Holds, IsGoodNode, Shared}
 use Rattle.rb_laws_agreement.proofs.NodeWindows.{Windows, heard_in, kept_in, sense_in, sync_windows_are, word_at}
 use Rattle.rb_laws_synchrony.proofs.TimelyWindows.{IsSent, IsSet, heard_good, sent_parts}
-
-same-number : (n : ℕ) → (n == n) ≡ true
-same-number n = grind (arith, nat_tests)
 
 -- stage q + 1 of the sync slot, before which all good nodes agree
 pub record IsStage (sc : Scenario) (hands : List HandIn) (n : ℕ) (m : Moment) (s : Shared) (q : ℕ) : Type 0 where
@@ -61,7 +58,7 @@ pub call_sent : (sizes : Sizes) (plan : Plan) (me : Side) (i : ℕ) (st : NodeSt
     → (call_tick_of sizes plan st stage ≡ Some s.tick) × (listens (other me) Sync stage ≡ true)
 call_sent sizes plan me i st stage word s h =
     let parts : IsSent sizes plan me i st (sync_slot_of sizes) stage word s = sent_parts sizes plan me i st (sync_slot_of sizes) stage word s h in
-    let in_sync : (sync_slot_of sizes == sync_slot_of sizes) ≡ true = same-number (sync_slot_of sizes) in
+    let in_sync : (sync_slot_of sizes == sync_slot_of sizes) ≡ true = eq_self (sync_slot_of sizes) in
     let tick : send_tick_of sizes plan st (sync_slot_of sizes) stage ≡ call_tick_of sizes plan st stage = rw in_sync refl in
     let said : message_said sizes me i st (sync_slot_of sizes) stage word ≡ calls sizes me st stage = rw in_sync refl in
     (sym tick ∙ parts.tick, go (listens (other me) Sync stage) (sym said ∙ parts.message))
@@ -75,7 +72,7 @@ sends-call : (sizes : Sizes) (plan : Plan) (me : Side) (i : ℕ) (st : NodeState
     → sending sizes plan me i st (sync_slot_of sizes) stage word ≡ Some (record { tick = tick; message = call_of sizes st stage })
 unfolding sending
 sends-call sizes plan me i st stage word tick speaks at =
-    let in_sync : (sync_slot_of sizes == sync_slot_of sizes) ≡ true = same-number (sync_slot_of sizes) in
+    let in_sync : (sync_slot_of sizes == sync_slot_of sizes) ≡ true = eq_self (sync_slot_of sizes) in
     rw (in_sync, speaks, at) refl
 
 -- What is taken.
@@ -128,9 +125,6 @@ pub record IsCallTaken (sc : Scenario) (m : Moment) (q : ℕ) (ws : Windows sc m
   pub heard : heard_in sc m (sync_slot_of sc.sizes) (q + 1) ws me i st j ≡ coming_of sc me i j st.frame (record { tick = tick; message = message }) ∷ []
   pub taken : took sc m q ws me i st j ≡ Some (stamp_of (clock_of sc me i) (coming_of sc me i j st.frame (record { tick = tick; message = message })).time)
 
-all_four : (a b c d : Bool) → a ≡ true → b ≡ true → c ≡ true → d ≡ true → (a && b && c && d) ≡ true
-all_four a b c d p q r s = rw (p, q, r, s) refl
-
 pub takes_call : (sc : Scenario) (hands : List HandIn) (n : ℕ) (m : Moment) (s : Shared) (q : ℕ) (c : IsStage sc hands n m s q) (me : Side) (i j : ℕ) (st source : NodeState) (tick : ℕ)
     → listens me Sync (q + 1) ≡ true → IsGoodNode sc m me i st → IsGoodNode sc m (other me) j source
     → call_tick_of sc.sizes sc.plan source (q + 1) ≡ Some tick
@@ -156,7 +150,7 @@ takes_call sc hands n m s q c me i j st source tick listening here there at =
     source_holds.frame ∙ sym holds.frame ∙ sym (keeping-stays sc.sizes me i st slot (q + 1) (word_at sc m slot i)).frame in
     let suited : suits e call ≡ true =
     all_four (source.frame % 65536 == kept.frame % 65536) (slot == slot) (q + 1 == q + 1) (slot == slot)
-    (ap (λ f. f % 65536 == kept.frame % 65536) frames ∙ same-number (kept.frame % 65536)) (same-number slot) (same-number (q + 1)) (same-number slot) in
+    (ap (λ f. f % 65536 == kept.frame % 65536) frames ∙ eq_self (kept.frame % 65536)) (eq_self slot) (eq_self (q + 1)) (eq_self slot) in
     let fits : IsMessage call =
     let small : q < 3 = c.small in
     record { frame = omega arith; slot = omega (arith, few_slots sc.sizes c.law.sizes); some_stage = omega arith; most_stages = omega arith; value = refl } in

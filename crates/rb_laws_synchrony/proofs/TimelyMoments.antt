@@ -1,11 +1,12 @@
 -- Where good nodes are near each other before a window, the window is timely.
 use Rattle.std.proofs.Common.{◌≡◌, ℕ, zero, suc, ◌+◌, ◌-◌, ◌*◌, ◌/◌, ◌%◌, ◌≤◌, ◌<◌, ◌==◌, true, false, List, Some, refl, sym, ◌∙◌, ap, subst, arith, inl, inr, lit<}
 use Rattle.std.proofs.lemmas.Bool.{cases_lt}
-use Rattle.std.proofs.lemmas.Bool.Decides.{nat_tests}
+use Rattle.std.proofs.lemmas.Option.{same_Some}
 use Rattle.std.proofs.Math.Nat.{mul-le-mul_right}
 use Rattle.rb_base.specs.Nodes.{Side, other}
 use Rattle.rb_base.specs.Nodes.Side.{Biu, Rmu}
 use Rattle.rb_base.specs.Sizes.{sync_slot_of}
+use Rattle.rb_base.proofs.Plain.{less-differs}
 use Rattle.rb_rules.specs.declared.role.Role.TheVariants.{Sync}
 use Rattle.rb_rules.specs.Goodness.{Scenario, clock_of}
 use Rattle.rb_rules.specs.Hearing.{Sending, sending}
@@ -22,7 +23,7 @@ use Rattle.rb_laws_agreement.proofs.Invariant.{Agree, IsGoodNode, Shared}
 use Rattle.rb_laws_agreement.proofs.NodeWindows.{exact_windows, tail_windows, word_at}
 use Rattle.rb_laws_synchrony.proofs.PlanNumbers.{drift_of, exact_early, exact_late, last_plus}
 use Rattle.rb_laws_synchrony.proofs.StageMiddles.{tick_of}
-use Rattle.rb_laws_synchrony.proofs.StageCalls.{Begun, CallWell, IsAt, clock_now, exact_at, first_about, first_at, first_calls, lie_about, same_tick, second_about, second_at, second_calls, third_about, third_at, third_calls}
+use Rattle.rb_laws_synchrony.proofs.StageCalls.{Begun, CallWell, IsAt, clock_now, exact_at, first_about, first_at, first_calls, lie_about, second_about, second_at, second_calls, third_about, third_at, third_calls}
 use Rattle.rb_laws_synchrony.proofs.Synchronous.{Synchronous, at_offset, from_1, from_2, from_3, to_1, to_2, to_3}
 use Rattle.rb_laws_synchrony.proofs.TakenCalls.{IsStage, call_sent, is_set}
 use Rattle.rb_laws_synchrony.proofs.TimelyWindows.{IsSent, IsSet, LieAbout, sent_parts, timely, timely_silent}
@@ -30,17 +31,14 @@ use Rattle.rb_laws_synchrony.proofs.Times.{lawful_fits, plan_fits}
 
 -- ---- below the sync slot
 
-not-sync : (slot sync : ℕ) → slot < sync → (slot == sync) ≡ false
-not-sync slot sync h = grind (arith, nat_tests)
-
 -- what a good node sends there is sent at the offset of its stage
 exact-tick : (sc : Scenario) (m : Moment) (slot q : ℕ) (me : Side) (i : ℕ) (st : NodeState) (word : ℕ) (s : Sending) → slot < sync_slot_of sc.sizes → m.window ≡ 3 * slot + q
     → sending sc.sizes sc.plan me i st slot (q + 1) word ≡ Some s → s.tick ≡ st.epoch + (m.window * sc.plan.l + sc.plan.h)
 exact-tick sc m slot q me i st word s below at is =
     let parts : IsSent sc.sizes sc.plan me i st slot (q + 1) word s = sent_parts sc.sizes sc.plan me i st slot (q + 1) word s is in
-    let away : (slot == sync_slot_of sc.sizes) ≡ false = not-sync slot (sync_slot_of sc.sizes) below in
+    let away : (slot == sync_slot_of sc.sizes) ≡ false = less-differs slot (sync_slot_of sc.sizes) below in
     let tick : send_tick_of sc.sizes sc.plan st slot (q + 1) ≡ Some (st.epoch + send_offset_of sc.plan slot (q + 1)) = rw away refl in
-    let e : st.epoch + send_offset_of sc.plan slot (q + 1) ≡ s.tick = same_tick (st.epoch + send_offset_of sc.plan slot (q + 1)) s.tick (sym tick ∙ parts.tick) in
+    let e : st.epoch + send_offset_of sc.plan slot (q + 1) ≡ s.tick = same_Some (st.epoch + send_offset_of sc.plan slot (q + 1)) s.tick (sym tick ∙ parts.tick) in
     let w : 3 * slot + (q + 1) - 1 ≡ m.window = omega arith in
     sym e ∙ ap (λ w. st.epoch + (w * sc.plan.l + sc.plan.h)) w
 

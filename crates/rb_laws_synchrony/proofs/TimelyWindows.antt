@@ -1,6 +1,6 @@
 -- When a window is timely: where what good nodes send in it is sent at their own ticks of it, and between two times about which
 -- the windows of all good nodes lie.
-use Rattle.std.proofs.Common.{◌≡◌, ℕ, ◌+◌, ◌≤◌, true, List, [], Option, Some, None, slice_get, option_map, option_and_then, refl, sym, ◌∙◌, ap, subst, arith}
+use Rattle.std.proofs.Common.{◌≡◌, ℕ, ◌+◌, ◌≤◌, true, [], Option, Some, None, slice_get, option_map, option_and_then, refl, sym, ◌∙◌, ap, subst, arith}
 use Rattle.std.specs.Prelude.{All, IfSome, option_to_list}
 use Rattle.std.proofs.lemmas.List.Elements.{All-cons, All-nil}
 use Rattle.rb_base.specs.Nodes.{Side, other}
@@ -10,9 +10,8 @@ use Rattle.rb_rules.specs.declared.message.Message.{Message}
 use Rattle.rb_rules.specs.declared.plan.Plan.{Plan}
 use Rattle.rb_rules.specs.Book.{of_kind}
 use Rattle.rb_rules.specs.Clock.{stamp_of, time_of}
-use Rattle.rb_rules.specs.ExactStage.{at_source}
 use Rattle.rb_rules.specs.Goodness.{Scenario, clock_of, is_good}
-use Rattle.rb_rules.specs.Hearing.{Coming, Sending, Span, coming_of, heard_from, sending, span_of}
+use Rattle.rb_rules.specs.Hearing.{Coming, Sending, coming_of, sending, span_of}
 use Rattle.rb_rules.specs.Lawful.{IsDelay, IsLawful}
 use Rattle.rb_rules.specs.Links.{delay_of, name_of}
 use Rattle.rb_rules.specs.NodeState.{NodeState}
@@ -22,7 +21,7 @@ use Rattle.rb_rules.specs.Rounds.{IsGoodIn, IsTickOf, IsTimely, Moment, heard_at
 use Rattle.rb_rules.specs.SyncStage.{send_tick_of}
 use Rattle.rb_rules.proofs.Middles.{IsBetween}
 use Rattle.rb_laws_agreement.proofs.Invariant.{IsGoodNode, slot_numbered}
-use Rattle.rb_laws_agreement.proofs.NodeWindows.{Windows, heard_in, own_window, sent-at, word_at}
+use Rattle.rb_laws_agreement.proofs.NodeWindows.{Windows, from-good, heard_in, own_window, sent-at, word_at}
 use Rattle.rb_laws_synchrony.proofs.PlanNumbers.{drift_of}
 use Rattle.rb_laws_synchrony.proofs.Times.{Steady, delay_within, stamp_from, stamp_to, steady}
 
@@ -49,12 +48,6 @@ sent_parts sizes plan me i st slot stage word s h =
         record { tick = q ∙ ap (λ (x : Sending). Some x.tick) same; message = p ∙ ap (λ (x : Sending). Some x.message) same }
 
 -- What a good node hears of a good one.
-
-from-good : (sc : Scenario) (me : Side) (i : ℕ) (span : Span) (sent : List (Option Sending)) (j : ℕ)
-    → is_good sc (other me) j span.place.frame span.place.slot ≡ true
-    → heard_from sc me i span sent j ≡ option_to_list (option_map (coming_of sc me i j span.place.frame) (at_source sent j))
-unfolding heard_from
-from-good sc me i span sent j good = rw (good, heard_from) refl
 
 -- what good source j sent, if anything, comes to node i
 pub heard_good : (sc : Scenario) (m : Moment) (slot stage : ℕ) (ws : Windows sc m slot stage) (me : Side) (i j : ℕ) (st source : NodeState)

@@ -4,8 +4,6 @@ use Rattle.std.specs.Prelude.{All}
 use Rattle.std.proofs.lemmas.Bool.{cases_lt}
 use Rattle.std.proofs.lemmas.List.Elements.{All-head, All-tail}
 use Rattle.rb_base.specs.Nodes.{Side}
-use Rattle.rb_base.specs.Nodes.Side.{Biu, Rmu}
-use Rattle.rb_base.specs.Sizes.{Sizes}
 use Rattle.rb_base.specs.declared.node.NodeName.{NodeName}
 use Rattle.rb_base.specs.declared.values.Place.{Place}
 use Rattle.rb_rules.specs.declared.link.Rule.{Rule}
@@ -15,8 +13,8 @@ use Rattle.rb_rules.specs.Goodness.{Scenario, clock_of, clock_place, is_good}
 use Rattle.rb_rules.specs.Lawful.{IsDelay, IsLawful}
 use Rattle.rb_rules.specs.Links.{applies, delay_after, delay_of}
 use Rattle.rb_rules.specs.Plan.{f0_of, longest_of, shortest_of}
-use Rattle.rb_rules.specs.Slots.{count_of}
 use Rattle.rb_rules.proofs.Drift.{HasLengths, drift, has_lengths, stamp_near, times_rise_strictly}
+use Rattle.rb_rules.proofs.Slots.{place-within}
 use Rattle.rb_rules.proofs.Stamps.{Moves, stamp_of-is, stamp_le}
 use Rattle.rb_laws_agreement.proofs.Goodnesses.{good_counts}
 use Rattle.rb_laws_synchrony.proofs.PlanNumbers.{Fits, drift_of, fits}
@@ -45,11 +43,6 @@ steady-clock plan f clock fit lengths =
           subst (λ g. time_of clock (suc tick) < time + g) fit.longest (stamp_near clock (longest_of plan) (λ k. (lengths k).1) time tick is);
     }
 
--- there is a clock for each node
-pub place_within : (sizes : Sizes) (side : Side) (i n : ℕ) → n ≡ sizes.bius + sizes.rmus → i < count_of side sizes → clock_place sizes side i < n
-place_within sizes Biu i n e h = omega arith
-place_within sizes Rmu i n e h = omega arith
-
 -- a scenario's plan in numbers
 abbrev pub plan_fits : Scenario → Type 0
 plan_fits sc = Fits sc.plan (shortest_of sc.plan) (drift_of sc.plan) (f0_of sc.sizes sc.plan)
@@ -64,7 +57,7 @@ steady sc law me i frame slot good =
     steady-clock sc.plan (f0_of sc.sizes sc.plan) (clock_of sc me i) (lawful_fits sc law)
     (has_lengths (shortest_of sc.plan) (longest_of sc.plan) (clock_of sc me i)
     (law.clocks (clock_place sc.sizes me i) (record { start = 0; segments = [] })
-    (place_within sc.sizes me i (length sc.clocks) law.one_clock_each (good_counts sc me i frame slot good))))
+    (place-within sc.sizes me i (length sc.clocks) law.one_clock_each (good_counts sc me i frame slot good))))
 
 -- ---- ticks and stamps
 

@@ -10,6 +10,7 @@ use Rattle.rb_base.specs.Nodes.{other}
 use Rattle.rb_base.specs.declared.node.NodeName.{NodeName}
 use Rattle.rb_base.specs.declared.node.NodeName.TheVariants.{Biu, Rmu}
 use Rattle.rb_base.specs.declared.values.Place.{Place}
+use Rattle.rb_base.proofs.Plain.{same_bool}
 use Rattle.rb_rules.specs.declared.link.Rule.{Rule}
 use Rattle.rb_rules.specs.Lawful.{kind_of}
 use Rattle.rb_rules.specs.Links.{DelayRules, covers, is_in_range, name_of}
@@ -19,12 +20,6 @@ use Rattle.rb_link.specs.declared.rows.Ranges.{Ranges}
 use Rattle.rb_link.proofs.Latest.{every_place, latest_delay_is, latest_places_are}
 
 -- ---- tests
-
--- what is true alike is alike
-same_tests : (a b : Bool) → (a ≡ true → b ≡ true) → (b ≡ true → a ≡ true) → a ≡ b
-same_tests true b there back = sym (there refl)
-same_tests false true there back = back refl
-same_tests false false there back = refl
 
 below-more : (n : ℕ) (passes : ℕ → Bool) → all_below (n + 1) passes ≡ (all_below n passes && passes n)
 unfolding all_below
@@ -54,7 +49,7 @@ below_none passes = refl
 
 pub in_both : (low low2 high high2 least most n : ℕ) → least ≡ max low low2 → most ≡ min high high2
     → is_in_range (least, most) n ≡ (is_in_range (low, high) n && is_in_range (low2, high2) n)
-in_both low low2 high high2 least most n least_is most_is = same_tests _ _ there back
+in_both low low2 high high2 least most n least_is most_is = same_bool _ _ there back
   where
     inside : (a b : ℕ) → a ≤ n → n ≤ b → is_in_range (a, b) n ≡ true
     inside a b from to = and_from (nat_le a n) (nat_le n b) (le-leb a n from) (le-leb n b to)

@@ -29,12 +29,6 @@ over n h = grind (arith, nat_tests)
 not-over : (n : ℕ) → n < 2 ^ 31 → is_over n ≡ false
 not-over n h = grind (arith, nat_tests)
 
-lt-true : (a b : ℕ) → a < b → nat_lt a b ≡ true
-lt-true a b h = grind (arith, nat_tests)
-
-lt-false : (a b : ℕ) → b ≤ a → nat_lt a b ≡ false
-lt-false a b h = grind (arith, nat_tests)
-
 -- Arrivals.
 
 pub hears-searching : (sizes : Sizes) (plan : Plan) (from : ℕ) (bytes : List ℕ) (s t : Search) (l : Listening) → t ≡ searching sizes plan from bytes s

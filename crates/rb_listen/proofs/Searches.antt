@@ -1,7 +1,9 @@
 -- What holds of a search between two calls, and what a tick makes of it.
 use Rattle.std.proofs.Common.{◌≡◌, ℕ, ◌+◌, ◌%◌, ◌<◌, ◌≤◌, ◌^◌, ◌==◌, ◌&&◌, nat_lt, Bool, true, false, refl, ap, sym, ◌∙◌, subst, arith, Option, Some, None, is_some, option_map, List, mod-lt, if◌then◌else◌}
+use Rattle.std.proofs.lemmas.Bool.{le-ltb, lt-ltb}
 use Rattle.std.proofs.lemmas.Bool.Decides.{nat_tests}
 use Rattle.rb_base.specs.Sizes.{Sizes}
+use Rattle.rb_base.proofs.Plain.{and-false}
 use Rattle.rb_rules.specs.declared.message.Message.{Message}
 use Rattle.rb_rules.specs.declared.plan.Plan.{Plan}
 use Rattle.rb_rules.specs.Core.{is_tick}
@@ -64,7 +66,7 @@ may-pass-stays : (k : ℕ) (plan : Plan) (frame : Option ℕ) (s : Search) → S
 may-pass-stays k plan None s h = h
 may-pass-stays k plan (Some frame) s h = pass-stays k plan frame s h
 
-noted-decides : (sizes : Sizes) (j at : ℕ) (m : Message) (lesson : Lesson) → (noted sizes j at m lesson).decides ≡ lesson.decides
+pub noted-decides : (sizes : Sizes) (j at : ℕ) (m : Message) (lesson : Lesson) → (noted sizes j at m lesson).decides ≡ lesson.decides
 noted-decides sizes j at m lesson = by (has_place sizes lesson.frame m)
   where
     by : (b : Bool) → (if b then record lesson { records = with_record sizes j at m lesson.records } else lesson).decides ≡ lesson.decides
@@ -114,35 +116,25 @@ arrive-stays k sizes plan from bytes s h = by (nat_lt from sizes.rmus && nat_lt 
 
 -- Arrivals, by what is tested.
 
-lt-true : (a b : ℕ) → a < b → nat_lt a b ≡ true
-lt-true a b h = grind (arith, nat_tests)
-
-lt-false : (a b : ℕ) → b ≤ a → nat_lt a b ≡ false
-lt-false a b h = grind (arith, nat_tests)
-
-and-false : (a : Bool) → (a && false) ≡ false
-and-false true = refl
-and-false false = refl
-
 arrived : Sizes → Plan → ℕ → List ℕ → Search → Bool → Search
 arrived sizes plan from bytes s b = elim b [ true ↦ if_message sizes plan from (message_in plan.version bytes) s | false ↦ s ]
 
 pub arrive-nobody : (sizes : Sizes) (plan : Plan) (from : ℕ) (bytes : List ℕ) (s : Search) → sizes.rmus ≤ from → s ≡ searching sizes plan from bytes s
 unfolding searching arrived
-arrive-nobody sizes plan from bytes s h = sym (ap (λ b. arrived sizes plan from bytes s (b && nat_lt s.had (2 ^ 31))) (lt-false from sizes.rmus h))
+arrive-nobody sizes plan from bytes s h = sym (ap (λ b. arrived sizes plan from bytes s (b && nat_lt s.had (2 ^ 31))) (le-ltb from sizes.rmus h))
 
 pub arrive-spent : (sizes : Sizes) (plan : Plan) (from : ℕ) (bytes : List ℕ) (s : Search) → 2 ^ 31 ≤ s.had → s ≡ searching sizes plan from bytes s
 unfolding searching arrived
 arrive-spent sizes plan from bytes s h =
-    sym (ap (λ b. arrived sizes plan from bytes s (nat_lt from sizes.rmus && b)) (lt-false s.had (2 ^ 31) h)
+    sym (ap (λ b. arrived sizes plan from bytes s (nat_lt from sizes.rmus && b)) (le-ltb s.had (2 ^ 31) h)
     ∙ ap (arrived sizes plan from bytes s) (and-false (nat_lt from sizes.rmus)))
 
 pub arrive-some : (sizes : Sizes) (plan : Plan) (from : ℕ) (bytes : List ℕ) (s : Search) → from < sizes.rmus → s.had < 2 ^ 31
     → searching sizes plan from bytes s ≡ if_message sizes plan from (message_in plan.version bytes) s
 unfolding searching arrived
 arrive-some sizes plan from bytes s there below =
-    ap (λ b. arrived sizes plan from bytes s (b && nat_lt s.had (2 ^ 31))) (lt-true from sizes.rmus there)
-    ∙ ap (arrived sizes plan from bytes s) (lt-true s.had (2 ^ 31) below)
+    ap (λ b. arrived sizes plan from bytes s (b && nat_lt s.had (2 ^ 31))) (lt-ltb from sizes.rmus there)
+    ∙ ap (arrived sizes plan from bytes s) (lt-ltb s.had (2 ^ 31) below)
 
 -- Ticks.
 
@@ -174,7 +166,7 @@ pub waits : (s t : Search) (first : First) → AreSoon s.lesson.records → firs
     → ComesTo s (if_after s first (nat_lt s.had first.epoch)) (Waiting first) t
 waits s t first soon few after is =
     subst (ComesTo s (if_after s first (nat_lt s.had first.epoch)) (Waiting first)) (sym is) (record {
-      stands = λ n. ap (if_after s first) (lt-true s.had first.epoch after);
+      stands = λ n. ap (if_after s first) (lt-ltb s.had first.epoch after);
       had = refl;
       soon = soon;
       inside = λ sizes plan n. record { frame = few; ahead = omega arith };
@@ -183,7 +175,7 @@ waits s t first soon few after is =
 pub not-after : (s t : Search) (first : First) → first.epoch ≤ s.had → t ≡ learning (frame_after s.lesson.frame) (later s)
     → ComesTo s (if_after s first (nat_lt s.had first.epoch)) Searching t
 not-after s t first before is =
-    learns-next s t (if_after s first (nat_lt s.had first.epoch)) is (ap (if_after s first) (lt-false s.had first.epoch before))
+    learns-next s t (if_after s first (nat_lt s.had first.epoch)) is (ap (if_after s first) (le-ltb s.had first.epoch before))
 
 -- a decision
 pub comes-by : (s t : Search) (stage : Stage) (found expected : Option First) (l : Listening) → found ≡ expected → ComesTo s l stage t → l ≡ decided s found

@@ -1,53 +1,31 @@
 -- Which tick of a follower is the next one that isn't quiet, and what quiet ticks do.
 use Rattle.std.proofs.Common.{◌≡◌, ℕ, zero, suc, ◌+◌, ◌-◌, ◌<◌, ◌≤◌, ◌^◌, ◌⊎◌, ◌==◌, ◌||◌, Bool, true, false, refl, ap, sym, ◌∙◌, subst, arith, inl, inr, Option, Some, None, [], unwrap_or}
-use Rattle.std.proofs.lemmas.Bool.{cases_lt}
-use Rattle.std.proofs.lemmas.Bool.Decides.{nat_tests}
+use Rattle.std.proofs.lemmas.Bool.{cases_lt, or_from, or_left, or_parts, or_right}
 use Rattle.rb_base.specs.Nodes.Side.{Biu}
 use Rattle.rb_base.specs.Sizes.{Sizes}
+use Rattle.rb_base.proofs.Plain.{eq-turned, eq_self}
 use Rattle.rb_rules.specs.declared.plan.Plan.{Plan}
 use Rattle.rb_rules.specs.declared.plan.Window.{Window}
 use Rattle.rb_rules.specs.declared.record.Epoch.{Epoch}
-use Rattle.rb_rules.specs.Core.{Act, Core, act_on, epoch_at, is_last, is_spent, is_tick, of_source, state_at, window_here}
+use Rattle.rb_rules.specs.Core.{Act, Core, act_on, epoch_at, is_last, is_tick, of_source, state_at, window_here}
 use Rattle.rb_rules.specs.ExactStage.{Outcome}
 use Rattle.rb_rules.specs.Hearing.{close_window, epoch_of}
 use Rattle.rb_rules.specs.NodeState.{NodeState}
 use Rattle.rb_rules.specs.SyncStage.{new_epoch_of}
-use Rattle.rb_rules.proofs.QuietTicks.{nothing}
+use Rattle.rb_rules.proofs.QuietTicks.{not-spent, nothing}
 use Rattle.rb_rules.proofs.RoundStates.{HasTicks}
 use Rattle.rb_slot.specs.Engines.{Seated}
 use Rattle.rb_eligible.specs.Inboxes.{KeptArrivals}
 use Rattle.rb_node.specs.Aheads.{IsSooner, IsWindowOf, window_of_tick}
 use Rattle.rb_node.specs.Cores.{Running}
-use Rattle.rb_node.proofs.Busy.{no-turn, turned-epoch}
+use Rattle.rb_node.proofs.Busy.{no-turn, not-over, turned-epoch}
+use Rattle.rb_node.proofs.Cores.{spent-is}
 use Rattle.rb_node.proofs.Windows.{goes-on}
 use Rattle.rb_listen.specs.Following.{follow, follows, next_wake, passing_end, wake_among, wakes}
 use Rattle.rb_listen.specs.Waking.{IfKnown, IsFollowing, IsNextWake, LooksAhead, wakes_at}
 use Rattle.rb_listen.specs.declared.ahead.Ahead.{Ahead}
 
 -- What makes a tick busy.
-
-or-first : (a b : Bool) → a ≡ true → (a || b) ≡ true
-or-first true b h = refl
-or-first false b h = cc
-
-or-second : (a b : Bool) → b ≡ true → (a || b) ≡ true
-or-second true b h = refl
-or-second false true h = refl
-or-second false false h = cc
-
-or-none : (a b : Bool) → a ≡ false → b ≡ false → (a || b) ≡ false
-or-none a b h i = rw (h, i) refl
-
-or-false : (a b : Bool) → (a || b) ≡ false → (a ≡ false) × (b ≡ false)
-or-false true b h = cc
-or-false false b h = (refl, h)
-
-eq-self : (k : ℕ) → (k == k) ≡ true
-eq-self k = grind (arith, nat_tests)
-
-flip : (a b : ℕ) (c : Bool) → (a == b) ≡ c → (b == a) ≡ c
-flip a b true h = grind (arith, nat_tests)
-flip a b false h = grind (arith, nat_tests)
 
 abbrev as-it-is : Seated → ℕ → Bool
 as-it-is v k = (v.state.epoch == k) || is_last v.sizes v.plan Biu v.state k
@@ -58,7 +36,7 @@ by-state v k h = ap (λ (st : NodeState). (st.epoch == k) || is_last v.sizes v.p
 
 wakes-turn : (v : Seated) (k : ℕ) → is_tick (new_epoch_of v.plan Biu v.state) k ≡ true → wakes_at v k ≡ true
 unfolding wakes
-wakes-turn v k h = or-first ((state_at v.sizes v.plan Biu v.state k).epoch == k) _ (ap (λ e. e == k) (turned-epoch v Biu k h) ∙ eq-self k)
+wakes-turn v k h = or_left ((state_at v.sizes v.plan Biu v.state k).epoch == k) _ (ap (λ e. e == k) (turned-epoch v Biu k h) ∙ eq_self k)
 
 wakes-if : (v : Seated) (k : ℕ) → as-it-is v k ≡ true → wakes_at v k ≡ true
 wakes-if v k h = by (is_tick (new_epoch_of v.plan Biu v.state) k) refl
@@ -69,7 +47,7 @@ wakes-if v k h = by (is_tick (new_epoch_of v.plan Biu v.state) k) refl
 
 last-by : (v : Seated) (w : Window) (k : ℕ) (b : Bool) → window_of_tick Biu v k ≡ w → (v.state.epoch + w.last == k) ≡ b
     → is_last v.sizes v.plan Biu v.state k ≡ b
-last-by v w k b here h = ap (λ (x : Window). k == v.state.epoch + x.last) here ∙ flip (v.state.epoch + w.last) k b h
+last-by v w k b here h = ap (λ (x : Window). k == v.state.epoch + x.last) here ∙ eq-turned (v.state.epoch + w.last) k b h
 
 -- The soonest of the ticks that may be so in a window.
 
@@ -80,21 +58,10 @@ data OneIs (v : Seated) (w : Window) (k : ℕ) : Type 0 where
   Turned : is_tick (new_epoch_of v.plan Biu v.state) k ≡ true → OneIs v w k
 
 wakes-one : (v : Seated) (w : Window) (k : ℕ) → window_of_tick Biu v k ≡ w → OneIs v w k → wakes_at v k ≡ true
-wakes-one v w k here (Begun h) = wakes-if v k (or-first (v.state.epoch == k) (is_last v.sizes v.plan Biu v.state k) h)
+wakes-one v w k here (Begun h) = wakes-if v k (or_left (v.state.epoch == k) (is_last v.sizes v.plan Biu v.state k) h)
 wakes-one v w k here (Closed h) =
-    wakes-if v k (or-second (v.state.epoch == k) (is_last v.sizes v.plan Biu v.state k) (last-by v w k true here h))
+    wakes-if v k (or_right (v.state.epoch == k) (is_last v.sizes v.plan Biu v.state k) (last-by v w k true here h))
 wakes-one v w k here (Turned h) = wakes-turn v k h
-
--- the window's last tick is not passed over
-not-over : (had last before after k : ℕ) → IsSooner had (Some last) before after → k ≤ after → had ≤ last → k ≤ last
-not-over had last before after k s le from =
-    elim (cases_lt last k) [
-      | inl lt ↦ absurd (true-false (sym (eq-self last) ∙ s.not_before last from (omega arith)))
-      | inr ge ↦ ge
-    ]
-  where
-    true-false : true ≡ false → ⊥
-    true-false e = cc
 
 carry : (v : Seated) (w : Window) (a b : ℕ) → (b ≡ a) → (a ≡ 2 ^ 31) ⊎ OneIs v w a → (b ≡ 2 ^ 31) ⊎ OneIs v w b
 carry v w a b e h = subst (λ x. (x ≡ 2 ^ 31) ⊎ OneIs v w x) (sym e) h
@@ -119,7 +86,7 @@ soonest-is v w had b1 b2 b3 ticks epoch is s1 s2 s3 =
       most = omega arith;
       quiet = λ k lo hi.
           by-state v k (s3.not_before k lo (omega arith))
-          ∙ or-none (v.state.epoch == k) (is_last v.sizes v.plan Biu v.state k) (s1.not_before k lo (omega arith))
+          ∙ or_from (v.state.epoch == k) (is_last v.sizes v.plan Biu v.state k) (s1.not_before k lo (omega arith))
           (last-by v w k false (here k lo (omega arith)) (s2.not_before k lo (omega arith)));
       busy = λ below. elim c3 [
         | inl end ↦ absurd (omega arith)
@@ -223,12 +190,6 @@ runs-on v had m inbox a r lo hi =
 
 -- A quiet tick is counted.
 
-pub spent-is : (c : Core) → 2 ^ 31 ≤ c.had → is_spent c ≡ true
-spent-is c h = grind (arith, nat_tests)
-
-not-spent : (c : Core) → c.had < 2 ^ 31 → is_spent c ≡ false
-not-spent c h = grind (arith, nat_tests)
-
 abbrev spent-act : Core → Act
 spent-act c = record { core = c; epoch = None; message = None; closed = None }
 
@@ -252,7 +213,7 @@ turning-same v k h = by (is_tick (new_epoch_of v.plan Biu v.state) k) refl
   where
     by : (b : Bool) → is_tick (new_epoch_of v.plan Biu v.state) k ≡ b → state_at v.sizes v.plan Biu v.state k ≡ v.state
     by true e =
-        let now : ((state_at v.sizes v.plan Biu v.state k).epoch == k) ≡ true = ap (λ x. x == k) (turned-epoch v Biu k e) ∙ eq-self k in
+        let now : ((state_at v.sizes v.plan Biu v.state k).epoch == k) ≡ true = ap (λ x. x == k) (turned-epoch v Biu k e) ∙ eq_self k in
         cc
     by false e = no-turn v Biu k e
 
@@ -274,7 +235,7 @@ quiet-act : (sizes : Sizes) (plan : Plan) (c : Core) → wakes sizes plan c.stat
 unfolding wakes
 quiet-act sizes plan c quiet =
     let now : NodeState = state_at sizes plan Biu c.state c.had in
-    let parts = or-false (now.epoch == c.had) (is_last sizes plan Biu now c.had) quiet in
+    let parts = or_parts (now.epoch == c.had) (is_last sizes plan Biu now c.had) quiet in
     let same : now ≡ c.state = turning-same (record { sizes = sizes; plan = plan; index = 16; state = c.state }) c.had parts.0 in
     ap (λ st. act_on sizes plan Biu 16 c st None st) same
     ∙ no-act sizes plan c (ap (λ (s : NodeState). s.epoch == c.had) (sym same) ∙ parts.0) (ap (λ s. is_last sizes plan Biu s c.had) (sym same) ∙ parts.1)

@@ -1,8 +1,9 @@
 -- On which side of a stamp the middle is.
-use Rattle.std.proofs.Common.{◌≡◌, ℕ, ◌+◌, ◌*◌, ◌<◌, ◌≤◌, List, length, nat_le, nat_lt, arith, inl, inr}
-use Rattle.std.proofs.lemmas.Bool.{cases_lt, le-leb, leb-true, lt-ltb, ltb-true}
+use Rattle.std.proofs.Common.{◌≡◌, ℕ, ◌+◌, ◌*◌, ◌<◌, ◌≤◌, List, length, nat_le, arith, inl, inr}
+use Rattle.std.proofs.lemmas.Bool.{cases_lt, le-leb, leb-true}
 use Rattle.rb_base.proofs.Counts.{count_if-le}
 use Rattle.rb_rules.specs.Middle.{below, up_to}
+use Rattle.rb_rules.proofs.Ranks.{below-le}
 use Rattle.rb_mid.specs.declared.Range.{Range}
 use Rattle.rb_mid.specs.Ranges.{IsWithin}
 
@@ -10,11 +11,6 @@ use Rattle.rb_mid.specs.Ranges.{IsWithin}
 up_to-most : (m n : ℕ) (stamps : List ℕ) → m ≤ n → up_to m stamps ≤ up_to n stamps
 up_to-most m n stamps le =
     count_if-le (λ x. nat_le x m) (λ x. nat_le x n) (λ x is. let low : x ≤ m = leb-true x m is in le-leb x n (omega arith)) stamps
-
--- fewer are below a lower number
-below-most : (m n : ℕ) (stamps : List ℕ) → m ≤ n → below m stamps ≤ below n stamps
-below-most m n stamps le =
-    count_if-le (λ x. nat_lt x m) (λ x. nat_lt x n) (λ x is. let less : x < m = ltb-true x m is in lt-ltb x n (omega arith)) stamps
 
 -- fewer than half of the stamps are at most one below the middle
 pub above_low : (stamps : List ℕ) (stamp count next : ℕ) (range : Range) → count ≡ up_to stamp stamps → 2 * count < length stamps
@@ -34,7 +30,7 @@ under_high stamps stamp count next range is many least within = record {
   least = within.least;
   most = λ m fits middle. elim (cases_lt m stamp) [
     | inl less ↦ omega (arith, less, least)
-    | inr ge ↦ absurd (omega (arith, is, many, middle.few_below, below-most stamp m stamps ge))
+    | inr ge ↦ absurd (omega (arith, is, many, middle.few_below, below-le stamp m stamps ge))
   ];
 }
 

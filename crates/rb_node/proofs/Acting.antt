@@ -7,6 +7,7 @@ use Rattle.rb_base.specs.Nodes.Side.{Biu, Rmu}
 use Rattle.rb_base.specs.Sizes.{IsShape, Sizes, sync_slot_of}
 use Rattle.rb_base.specs.declared.values.Heard.{Heard}
 use Rattle.rb_base.specs.declared.values.Heard.TheVariants as heard
+use Rattle.rb_base.proofs.Plain.{eq_self, none-from}
 use Rattle.rb_base.proofs.Sets.{has-set_of, same_set_of}
 use Rattle.rb_rules.specs.declared.message.Message.{Message}
 use Rattle.rb_rules.specs.declared.plan.Window.{Window}
@@ -47,10 +48,6 @@ or-first (Some m) b h = refl
 
 or-later : (a b : Option Message) → a ≡ None → option_or a b ≡ b
 or-later a b h = ap (λ x. option_or x b) h
-
-none-from : (o : Option Message) → is_some o ≡ false → o ≡ None
-none-from None h = refl
-none-from (Some m) h = cc
 
 -- at another tick than its own the message of a stage is not said, whatever the word
 not-due : (me : Side) (v : Seated) (slot stage word k : ℕ) → is_tick (tick_said me v slot stage) k ≡ false → stage_at me v slot stage word k ≡ None
@@ -145,9 +142,6 @@ convicted-is count trusted first is =
     same_set_of (λ i. has first i && not (has trusted i)) (λ i. nat_lt i count && not (has trusted i))
     (λ i below. ap (λ b. b && not (has trusted i)) (ap (λ s. has s i) is ∙ has-set_of i (λ i. nat_lt i count) below))
 
-eq-self : (k : ℕ) → (k == k) ≡ true
-eq-self k = grind (arith, nat_tests)
-
 pub begun-is : (sizes : Sizes) (me : Side) (st : NodeState) (k frame biu rmu : ℕ) → st.epoch ≡ k → frame ≡ st.frame
     → biu ≡ convicted_of sizes Biu me st → rmu ≡ convicted_of sizes Rmu me st
     → Some (let e : Epoch = record { frame = frame; tick = k; biu = biu; rmu = rmu } in e) ≡ epoch_at sizes me st k
@@ -156,7 +150,7 @@ begun-is sizes me st k frame biu rmu e f b r =
     ∙ ap (λ x. Some (let e : Epoch = record { frame = st.frame; tick = k; biu = x; rmu = rmu } in e)) b
     ∙ ap (λ x. Some (let e : Epoch = record { frame = st.frame; tick = k; biu = convicted_of sizes Biu me st; rmu = x } in e)) r
     ∙ ap (λ x. Some (let e : Epoch = record { frame = st.frame; tick = x; biu = convicted_of sizes Biu me st; rmu = convicted_of sizes Rmu me st } in e)) (sym e)
-    ∙ sym (ap (λ b. elim b as (λ _. Option Epoch) [ true ↦ Some (epoch_of sizes me st) | false ↦ None ]) (ap (λ x. x == k) e ∙ eq-self k))
+    ∙ sym (ap (λ b. elim b as (λ _. Option Epoch) [ true ↦ Some (epoch_of sizes me st) | false ↦ None ]) (ap (λ x. x == k) e ∙ eq_self k))
 
 -- A close changes neither frame nor epoch.
 

@@ -1,7 +1,8 @@
 -- A tick at which nothing happens but the end of a window of a slot before the sync slot.
 use Rattle.std.proofs.Common.{◌≡◌, ℕ, ◌+◌, ◌-◌, ◌<◌, ◌≤◌, ◌^◌, ◌==◌, ◌&&◌, max, nat_lt, not, Bool, true, false, refl, ap, sym, ◌∙◌, subst, arith, inl, inr, Option, Some, None, is_some, List, []}
-use Rattle.std.proofs.lemmas.Bool.{cases_lt}
+use Rattle.std.proofs.lemmas.Bool.{cases_lt, eq-eqb, eqb-true, lt-ltb, ltb-true, not-true}
 use Rattle.std.proofs.lemmas.Bool.Decides.{nat_tests}
+use Rattle.std.proofs.lemmas.Option.{none-some}
 use Rattle.rb_base.specs.Nodes.{Side}
 use Rattle.rb_base.specs.Sizes.{IsShape, sync_slot_of}
 use Rattle.rb_rules.specs.declared.closing.Closed.{Closed}
@@ -27,7 +28,7 @@ use Rattle.rb_node.specs.declared.ahead.Busy.{Busy}
 use Rattle.rb_node.proofs.Acting.{says-none}
 use Rattle.rb_node.proofs.Busy.{no-turn, said, said-form, some-first, some-second, some-third, stage_at}
 use Rattle.rb_node.proofs.Cores.{at-message, next-none, tick-now}
-use Rattle.rb_node.proofs.Ending.{ShowsEnd, ends-kept, eq-true, kept-ends, kept-next, kept-stays, not-true, stays-kept, true-eq, window-kept}
+use Rattle.rb_node.proofs.Ending.{ShowsEnd, ends-kept, kept-ends, kept-next, kept-stays, stays-kept, window-kept}
 use Rattle.rb_node.proofs.Going.{ended-follows, ended-soon, ended-stage}
 use Rattle.rb_node.proofs.Numbering.{IsNumbered, numbered-here}
 use Rattle.rb_node.proofs.Steps.{Gives, Parts, gives}
@@ -60,22 +61,16 @@ all-true false b c d e h = cc
 pub true-all : (a b c d e : Bool) → a ≡ true → b ≡ true → c ≡ true → d ≡ true → e ≡ true → (a && b && c && d && e) ≡ true
 true-all a b c d e h i j k l = rw (h, i, j, k, l) refl
 
-pub is-below : (a b : ℕ) → nat_lt a b ≡ true → a < b
-is-below a b h = grind (arith, nat_tests)
-
-pub below-is : (a b : ℕ) → a < b → nat_lt a b ≡ true
-below-is a b h = grind (arith, nat_tests)
-
 pub alone-is : (me : Side) (v : Seated) (w : Window) (b : Busy) → is_alone me v w b ≡ true → IsAlone me v w b
 alone-is me v w b h =
     let all : AllTrue (b.stage == 0) (nat_lt w.slot (sync_slot_of v.sizes)) (v.state.epoch + w.last == b.tick) (nat_lt b.tick (2 ^ 31))
     (not (is_tick (new_epoch_of v.plan me v.state) b.tick)) =
     all-true _ _ _ _ _ h in
     record {
-      stage = true-eq b.stage 0 all.first;
-      slot = is-below w.slot (sync_slot_of v.sizes) all.second;
-      last = true-eq (v.state.epoch + w.last) b.tick all.third;
-      below = is-below b.tick (2 ^ 31) all.fourth;
+      stage = eqb-true b.stage 0 all.first;
+      slot = ltb-true w.slot (sync_slot_of v.sizes) all.second;
+      last = eqb-true (v.state.epoch + w.last) b.tick all.third;
+      below = ltb-true b.tick (2 ^ 31) all.fourth;
       stays = not-true (is_tick (new_epoch_of v.plan me v.state) b.tick) all.fifth;
     }
 
@@ -83,8 +78,8 @@ pub is-alone : (me : Side) (v : Seated) (w : Window) (b : Busy) → IsAlone me v
 is-alone me v w b a =
     true-all (b.stage == 0) (nat_lt w.slot (sync_slot_of v.sizes)) (v.state.epoch + w.last == b.tick) (nat_lt b.tick (2 ^ 31))
     (not (is_tick (new_epoch_of v.plan me v.state) b.tick))
-    (eq-true b.stage 0 a.stage) (below-is w.slot (sync_slot_of v.sizes) a.slot) (eq-true (v.state.epoch + w.last) b.tick a.last)
-    (below-is b.tick (2 ^ 31) a.below) (ap not a.stays)
+    (eq-eqb b.stage 0 a.stage) (lt-ltb w.slot (sync_slot_of v.sizes) a.slot) (eq-eqb (v.state.epoch + w.last) b.tick a.last)
+    (lt-ltb b.tick (2 ^ 31) a.below) (ap not a.stays)
 
 pub kept-alone : (me : Side) (v : Seated) (had : ℕ) (a : Ahead) → LooksAhead me v had a → a.alone ≡ true → IsAlone me v a.window a.busy
 kept-alone me v had a l is = alone-is me v a.window a.busy (sym l.alone ∙ is)
@@ -171,7 +166,7 @@ alone-gives me v v3 had word a before after inbox rest plan feasible l is closes
       window = window-kept me v had a l;
       said = says-none me v a.window.slot a.busy.stage word a.busy.tick l.stage alone.stage;
       kept = refl;
-      closes = sym (eq-true a.busy.tick (v.state.epoch + a.window.last) (sym alone.last));
+      closes = sym (eq-eqb a.busy.tick (v.state.epoch + a.window.last) (sym alone.last));
       state = closes;
       shown = shows;
       holds = λ received held. empty;
@@ -191,9 +186,6 @@ silent-stage me v slot k stage (Second z a b) none =
     absurd (some-none _ none (some-second (stage_at me v slot 1 0 k) (stage_at me v slot 2 0 k) (stage_at me v slot 3 0 k) (said me v slot 2 k b)))
 silent-stage me v slot k stage (Third z a b c) none =
     absurd (some-none _ none (some-third (stage_at me v slot 1 0 k) (stage_at me v slot 2 0 k) (stage_at me v slot 3 0 k) (said me v slot 3 k c)))
-
-none-some : (k : ℕ) → None ≡ Some k → ⊥
-none-some k e = cc
 
 -- a tick that is a core's next is one that a node can have
 kept-below : (me : Side) (v : Seated) (had : ℕ) (a : Ahead) (c : Core) (k : ℕ) → LooksAhead me v had a → c.state ≡ v.state → c.had ≡ had

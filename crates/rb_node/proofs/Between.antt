@@ -1,12 +1,13 @@
 -- What a node keeps at hand between two busy ticks.
 use Rattle.std.proofs.Common.{◌≡◌, ℕ, ◌<◌, ◌≤◌, ◌^◌, ◌&&◌, ◌++◌, ◌∷◌, [], max, nat_lt, not, Bool, true, false, refl, ap, sym, ◌∙◌, subst, arith, inl, inr, List, unwrap_or, if◌then◌else◌}
-use Rattle.std.proofs.lemmas.Bool.{cases_lt}
-use Rattle.std.proofs.lemmas.Bool.Decides.{nat_tests}
+use Rattle.std.proofs.lemmas.Bool.{cases_lt, le-ltb, lt-ltb}
 use Rattle.rb_base.specs.Nodes.{Side, other}
 use Rattle.rb_base.specs.Sizes.{Sizes}
+use Rattle.rb_base.proofs.Plain.{and-not_true}
 use Rattle.rb_rules.specs.Core.{Core, arrive, is_spent, pass_to, wants}
 use Rattle.rb_rules.specs.Slots.{count_of}
 use Rattle.rb_rules.specs.Sense.{Arrival}
+use Rattle.rb_rules.proofs.QuietTicks.{not-spent}
 use Rattle.rb_eligible.specs.Inboxes.{HoldsArrivals, KeptArrivals}
 use Rattle.rb_slot.specs.Engines.{Seated}
 use Rattle.rb_node.specs.Aheads.{IsNextBusy, IsRunning, IsWindowOf, LooksAhead, want_ahead, want_at}
@@ -14,7 +15,7 @@ use Rattle.rb_node.specs.Cores.{Running, bare_core, next_of, passing_end, receiv
 use Rattle.rb_node.specs.Wants.{want_for, want_then}
 use Rattle.rb_node.specs.declared.act.Want.TheVariants as want
 use Rattle.rb_node.specs.declared.ahead.Ahead.{Ahead}
-use Rattle.rb_node.proofs.Cores.{next-is, next-none, received-append, want-is, want-quiet, want-spent}
+use Rattle.rb_node.proofs.Cores.{next-is, next-none, received-append, spent-is, want-is, want-quiet, want-spent}
 
 -- up to the tick that is kept it stays what it is
 
@@ -59,17 +60,11 @@ passing-is me n k next =
 
 -- What is wanted.
 
-lt-true : (a b : ℕ) → a < b → nat_lt a b ≡ true
-lt-true a b h = grind (arith, nat_tests)
-
-lt-false : (a b : ℕ) → b ≤ a → nat_lt a b ≡ false
-lt-false a b h = grind (arith, nat_tests)
-
 ahead-now : (me : Side) (v : Seated) (k : ℕ) → k < 2 ^ 31 → want_ahead me v k ≡ want_at me v k
-ahead-now me v k h = ap (λ b. if b then want_at me v k else want.Nothing) (lt-true k (2 ^ 31) h)
+ahead-now me v k h = ap (λ b. if b then want_at me v k else want.Nothing) (lt-ltb k (2 ^ 31) h)
 
 ahead-end : (me : Side) (v : Seated) (k : ℕ) → 2 ^ 31 ≤ k → want_ahead me v k ≡ want.Nothing
-ahead-end me v k h = ap (λ b. if b then want_at me v k else want.Nothing) (lt-false k (2 ^ 31) h)
+ahead-end me v k h = ap (λ b. if b then want_at me v k else want.Nothing) (le-ltb k (2 ^ 31) h)
 
 -- at the busy tick itself
 pub wants-now : (me : Side) (v : Seated) (had : ℕ) (a : Ahead) (c : Core) → LooksAhead me v had a → had ≡ a.busy.tick → c.state ≡ v.state → c.had ≡ had
@@ -111,33 +106,23 @@ wants-then me n a c l state had_is =
 abbrev arrived : Core → ℕ → List ℕ → Bool → Core
 arrived c from bytes b = elim b [ true ↦ record c { inbox = c.inbox ++ (from, record { stamp = c.had; bytes = bytes }) ∷ [] } | false ↦ c ]
 
-spent-is : (c : Core) → 2 ^ 31 ≤ c.had → is_spent c ≡ true
-spent-is c h = grind (arith, nat_tests)
-
-not-spent : (c : Core) → c.had < 2 ^ 31 → is_spent c ≡ false
-not-spent c h = grind (arith, nat_tests)
-
-and-not : (b : Bool) → (b && not true) ≡ false
-and-not true = refl
-and-not false = refl
-
 pub arrive-spent : (sizes : Sizes) (me : Side) (c : Core) (from : ℕ) (bytes : List ℕ) → 2 ^ 31 ≤ c.had → arrive sizes me c from bytes ≡ c
 unfolding arrive
 arrive-spent sizes me c from bytes h =
     ap (λ b. arrived c from bytes (nat_lt from (count_of (other me) sizes) && not b)) (spent-is c h)
-    ∙ ap (arrived c from bytes) (and-not (nat_lt from (count_of (other me) sizes)))
+    ∙ ap (arrived c from bytes) (and-not_true (nat_lt from (count_of (other me) sizes)))
 
 pub arrive-nobody : (sizes : Sizes) (me : Side) (c : Core) (from : ℕ) (bytes : List ℕ) → count_of (other me) sizes ≤ from
     → arrive sizes me c from bytes ≡ c
 unfolding arrive
 arrive-nobody sizes me c from bytes h =
-    ap (λ b. arrived c from bytes (b && not (is_spent c))) (lt-false from (count_of (other me) sizes) h)
+    ap (λ b. arrived c from bytes (b && not (is_spent c))) (le-ltb from (count_of (other me) sizes) h)
 
 pub arrive-takes : (sizes : Sizes) (me : Side) (c : Core) (from : ℕ) (bytes : List ℕ) → from < count_of (other me) sizes → c.had < 2 ^ 31
     → arrive sizes me c from bytes ≡ record c { inbox = c.inbox ++ (from, record { stamp = c.had; bytes = bytes }) ∷ [] }
 unfolding arrive
 arrive-takes sizes me c from bytes h below =
-    ap (λ b. arrived c from bytes (b && not (is_spent c))) (lt-true from (count_of (other me) sizes) h)
+    ap (λ b. arrived c from bytes (b && not (is_spent c))) (lt-ltb from (count_of (other me) sizes) h)
     ∙ ap (λ b. arrived c from bytes (not b)) (not-spent c below)
 
 -- what holds all that came, and this, holds the list with this at its end

@@ -1,9 +1,10 @@
 -- Which tick is the next one that isn't quiet.
 use Rattle.std.proofs.Common.{◌≡◌, ℕ, ◌+◌, ◌<◌, ◌≤◌, ◌^◌, ◌⊎◌, ◌==◌, ◌||◌, Bool, true, false, refl, ap, sym, ◌∙◌, subst, arith, inl, inr, Option, Some, None, is_some}
 use Rattle.std.specs.Option.{option_or}
-use Rattle.std.proofs.lemmas.Bool.{cases_lt}
+use Rattle.std.proofs.lemmas.Bool.{cases_lt, eqb-true}
 use Rattle.std.proofs.lemmas.Bool.Decides.{nat_tests}
 use Rattle.rb_base.specs.Nodes.{Side}
+use Rattle.rb_base.proofs.Plain.{eq-turned, eq_self, more-differs, or_middle}
 use Rattle.rb_rules.specs.declared.message.Message.{Message}
 use Rattle.rb_rules.specs.declared.plan.Window.{Window}
 use Rattle.rb_rules.specs.Conviction.{turn}
@@ -26,17 +27,11 @@ pub no-turn : (v : Seated) (me : Side) (k : ℕ) → is_tick (new_epoch_of v.pla
 unfolding state_at
 no-turn v me k h = rw (h, state_at) refl
 
-same-number : (a b : ℕ) → (a == b) ≡ true → a ≡ b
-same-number a b h = grind (arith, nat_tests)
-
-eq-self : (k : ℕ) → (k == k) ≡ true
-eq-self k = grind (arith, nat_tests)
-
 turns-at : (v : Seated) (me : Side) (k : ℕ) (next : Option ℕ) → is_tick next k ≡ true
     → (elim next as (λ _. NodeState) [ None ↦ v.state | Some epoch ↦ turn v.sizes v.plan.probation me epoch v.state ]).epoch ≡ k
 unfolding turn
 turns-at v me k None h = cc
-turns-at v me k (Some epoch) h = same-number epoch k h
+turns-at v me k (Some epoch) h = eqb-true epoch k h
 
 pub turned-epoch : (v : Seated) (me : Side) (k : ℕ) → is_tick (new_epoch_of v.plan me v.state) k ≡ true
     → (state_at v.sizes v.plan me v.state k).epoch ≡ k
@@ -48,11 +43,6 @@ turned-epoch v me k h = rw (h, state_at) (turns-at v me k (new_epoch_of v.plan m
 or-first : (a b c : Bool) → a ≡ true → (a || b || c) ≡ true
 or-first true b c h = refl
 or-first false b c h = cc
-
-or-second : (a b c : Bool) → b ≡ true → (a || b || c) ≡ true
-or-second true b c h = refl
-or-second false true c h = refl
-or-second false false c h = cc
 
 or-third : (a b c : Bool) → c ≡ true → (a || b || c) ≡ true
 or-third true b c h = refl
@@ -67,7 +57,7 @@ or-none a b c h i j = rw (h, i, j) refl
 pub busy-turn : (me : Side) (v : Seated) (k : ℕ) → is_tick (new_epoch_of v.plan me v.state) k ≡ true → busy_at me v k ≡ true
 unfolding is_busy
 busy-turn me v k h =
-    or-first ((state_at v.sizes v.plan me v.state k).epoch == k) _ _ (ap (λ e. e == k) (turned-epoch v me k h) ∙ eq-self k)
+    or-first ((state_at v.sizes v.plan me v.state k).epoch == k) _ _ (ap (λ e. e == k) (turned-epoch v me k h) ∙ eq_self k)
 
 abbrev as-it-is : Side → Seated → ℕ → Bool
 as-it-is me v k = (v.state.epoch == k) || is_last v.sizes v.plan me v.state k || is_some (said_at v.sizes v.plan me v.index v.state 0 k)
@@ -161,13 +151,9 @@ pub data OneIs (me : Side) (v : Seated) (w : Window) (k : ℕ) : Type 0 where
   Said2 : is_tick (tick_said me v w.slot 2) k ≡ true → OneIs me v w k
   Said3 : is_tick (tick_said me v w.slot 3) k ≡ true → OneIs me v w k
 
-flip : (a b : ℕ) (c : Bool) → (a == b) ≡ c → (b == a) ≡ c
-flip a b true h = grind (arith, nat_tests)
-flip a b false h = grind (arith, nat_tests)
-
 last-by : (me : Side) (v : Seated) (w : Window) (k : ℕ) (b : Bool) → window_of_tick me v k ≡ w → (v.state.epoch + w.last == k) ≡ b
     → is_last v.sizes v.plan me v.state k ≡ b
-last-by me v w k b here h = ap (λ (x : Window). k == v.state.epoch + x.last) here ∙ flip (v.state.epoch + w.last) k b h
+last-by me v w k b here h = ap (λ (x : Window). k == v.state.epoch + x.last) here ∙ eq-turned (v.state.epoch + w.last) k b h
 
 quiet-if : (me : Side) (v : Seated) (w : Window) (k : ℕ) → window_of_tick me v k ≡ w → NoneIs me v w k → busy_at me v k ≡ false
 quiet-if me v w k here n =
@@ -187,7 +173,7 @@ busy-one : (me : Side) (v : Seated) (w : Window) (k : ℕ) → window_of_tick me
 busy-one me v w k here (Begun h) =
     busy-if me v k (or-first (v.state.epoch == k) (is_last v.sizes v.plan me v.state k) (is_some (said_at v.sizes v.plan me v.index v.state 0 k)) h)
 busy-one me v w k here (Closed h) =
-    busy-if me v k (or-second (v.state.epoch == k) (is_last v.sizes v.plan me v.state k) (is_some (said_at v.sizes v.plan me v.index v.state 0 k))
+    busy-if me v k (or_middle (v.state.epoch == k) (is_last v.sizes v.plan me v.state k) (is_some (said_at v.sizes v.plan me v.index v.state 0 k))
     (last-by me v w k true here h))
 busy-one me v w k here (Turned h) = busy-turn me v k h
 busy-one me v w k here (Said1 h) =
@@ -203,7 +189,7 @@ busy-one me v w k here (Said3 h) =
 pub not-over : (had last before after k : ℕ) → IsSooner had (Some last) before after → k ≤ after → had ≤ last → k ≤ last
 not-over had last before after k s le from =
     elim (cases_lt last k) [
-      | inl lt ↦ absurd (true-false (sym (eq-self last) ∙ s.not_before last from (omega arith)))
+      | inl lt ↦ absurd (true-false (sym (eq_self last) ∙ s.not_before last from (omega arith)))
       | inr ge ↦ ge
     ]
   where
@@ -271,9 +257,6 @@ soonest-is me v w had b1 b2 b3 b4 b5 b6 ticks epoch is s =
 over : (epoch had k : ℕ) → epoch < had → had ≤ k → (epoch == k) ≡ false
 over epoch had k lt le = grind (arith, nat_tests)
 
-not-at : (last k : ℕ) → k < last → (last == k) ≡ false
-not-at last k lt = grind (arith, nat_tests)
-
 pub never : (next : Option ℕ) (k : ℕ) → is_some next ≡ false → is_tick next k ≡ false
 never None k h = refl
 never (Some tick) k h = cc
@@ -293,8 +276,8 @@ soonest-on me v w had last b4 b5 b6 ticks begun from below ends is stays s4 s5 s
       s2 = subst (λ e. IsSooner had (Some e) (2 ^ 31) last) ends (record {
         later = from;
         most = omega arith;
-        not_before = λ k lo hi. not-at last k hi;
-        either = inr (eq-self last);
+        not_before = λ k lo hi. more-differs last k hi;
+        either = inr (eq_self last);
       });
       s3 = record {
         later = from;

@@ -5,6 +5,7 @@ use Rattle.std.proofs.lemmas.Bool.{cases_lt}
 use Rattle.std.proofs.lemmas.Bool.Decides.{nat_tests}
 use Rattle.rb_base.specs.Nodes.{Side}
 use Rattle.rb_base.specs.Sizes.{Sizes}
+use Rattle.rb_base.proofs.Plain.{none-from}
 use Rattle.rb_rules.specs.declared.message.Message.{Message}
 use Rattle.rb_rules.specs.declared.plan.Plan.{Plan}
 use Rattle.rb_rules.specs.Core.{Core, Act, act_at, act_on, busy_among, is_busy, is_last, is_spent, if_at, next_tick, of_source, said_at, slot_wanted, state_at, state_kept, tick, ticks, wants}
@@ -12,7 +13,7 @@ use Rattle.rb_rules.specs.NodeState.{NodeState}
 use Rattle.rb_rules.specs.NodeSteps.{message_said}
 use Rattle.rb_rules.specs.Sense.{Arrival}
 use Rattle.rb_rules.specs.SyncStage.{send_tick_of}
-use Rattle.rb_rules.proofs.QuietTicks.{IsQuiet, nothing, quiet-from, quiet-tick, quiet-ticks}
+use Rattle.rb_rules.proofs.QuietTicks.{IsQuiet, not-spent, nothing, quiet-from, quiet-tick, quiet-ticks}
 use Rattle.rb_eligible.specs.Inboxes.{Received, HoldsArrivals, arrivals_of}
 use Rattle.rb_slot.specs.Engines.{Seated}
 use Rattle.rb_node.specs.Aheads.{IsNextBusy, busy_at, want_at}
@@ -23,9 +24,6 @@ use Rattle.rb_node.proofs.Busy.{said-form, stage_at}
 use Rattle.rb_node.proofs.Saying.{message-some, sending-is, sent_at}
 
 -- The next busy tick is found.
-
-true-false : true ≡ false → ⊥
-true-false e = cc
 
 finds : (me : Side) (v : Seated) (others had k : ℕ) → had ≤ k → k < had + others → ((m : ℕ) → had ≤ m → m < k → busy_at me v m ≡ false)
     → busy_at me v k ≡ true → busy_among v.sizes v.plan me v.index v.state others had ≡ Some k
@@ -70,11 +68,8 @@ next-none me v c had k s h next end =
 
 -- A tick, by whether the core is spent.
 
-spent-is : (c : Core) → 2 ^ 31 ≤ c.had → is_spent c ≡ true
+pub spent-is : (c : Core) → 2 ^ 31 ≤ c.had → is_spent c ≡ true
 spent-is c h = grind (arith, nat_tests)
-
-not-spent : (c : Core) → c.had < 2 ^ 31 → is_spent c ≡ false
-not-spent c h = grind (arith, nat_tests)
 
 pub tick-spent : (sizes : Sizes) (plan : Plan) (me : Side) (index : ℕ) (c : Core) (word : ℕ) → 2 ^ 31 ≤ c.had
     → tick sizes plan me index c word ≡ record { core = c; epoch = None; message = None; closed = None }
@@ -126,10 +121,6 @@ said-some me v a b k =
     ap is_some (said-form me v a k)
     ∙ three-some _ _ _ _ _ _ (stage-some me v _ 1 a b k) (stage-some me v _ 2 a b k) (stage-some me v _ 3 a b k)
     ∙ sym (ap is_some (said-form me v b k))
-
-none-from : (o : Option Message) → is_some o ≡ false → o ≡ None
-none-from None h = refl
-none-from (Some x) h = cc
 
 said-none : (me : Side) (v : Seated) (word k : ℕ) → said_at v.sizes v.plan me v.index v.state 0 k ≡ None
     → said_at v.sizes v.plan me v.index v.state word k ≡ None

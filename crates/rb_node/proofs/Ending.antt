@@ -1,7 +1,8 @@
 -- Whether the next busy tick ends a window of a slot before the sync slot.
-use Rattle.std.proofs.Common.{◌≡◌, ℕ, ◌+◌, ◌<◌, ◌≤◌, ◌^◌, ◌==◌, nat_lt, not, Bool, true, false, refl, ap, sym, ◌∙◌, subst, arith, inl, inr, Some, None}
-use Rattle.std.proofs.lemmas.Bool.{cases_lt}
+use Rattle.std.proofs.Common.{◌≡◌, ℕ, ◌+◌, ◌<◌, ◌≤◌, ◌^◌, ◌==◌, nat_lt, true, false, ap, sym, ◌∙◌, subst, arith, inl, inr, Some}
+use Rattle.std.proofs.lemmas.Bool.{cases_lt, eq-eqb, eqb-true}
 use Rattle.std.proofs.lemmas.Bool.Decides.{nat_tests}
+use Rattle.std.proofs.lemmas.Option.{none-some, same_Some}
 use Rattle.rb_base.specs.Nodes.{Side}
 use Rattle.rb_base.specs.Sizes.{sync_slot_of}
 use Rattle.rb_rules.specs.declared.plan.Window.{Window}
@@ -17,33 +18,17 @@ use Rattle.rb_node.proofs.Cores.{next-is, next-none}
 
 -- Tests on numbers.
 
-pub eq-true : (a b : ℕ) → a ≡ b → (a == b) ≡ true
-eq-true a b e = grind (arith, nat_tests)
-
-pub true-eq : (a b : ℕ) → (a == b) ≡ true → a ≡ b
-true-eq a b e = grind (arith, nat_tests)
-
 pub not-below : (a b : ℕ) → b ≤ a → nat_lt a b ≡ true → ⊥
 not-below a b le lt = let below : a < b = grind (arith, nat_tests) in omega (arith, le, below)
 
-pub not-true : (b : Bool) → not b ≡ true → b ≡ false
-not-true false e = refl
-not-true true e = cc
-
 -- What is kept.
-
-same-some : (a b : ℕ) → Some a ≡ Some b → a ≡ b
-same-some a b e = cc
-
-none-some : (k : ℕ) → None ≡ Some k → ⊥
-none-some k e = cc
 
 -- the tick that is kept is the core's next
 pub kept-next : (me : Side) (v : Seated) (had : ℕ) (a : Ahead) (c : Core) (k : ℕ) → LooksAhead me v had a → c.state ≡ v.state → c.had ≡ had
     → next_tick v.sizes v.plan me v.index c ≡ Some k → a.busy.tick ≡ k
 kept-next me v had a c k l state had_is next =
     elim (cases_lt a.busy.tick (2 ^ 31)) [
-      | inl below ↦ same-some a.busy.tick k (sym (next-is me v c had a.busy.tick state had_is l.next below) ∙ next)
+      | inl below ↦ same_Some a.busy.tick k (sym (next-is me v c had a.busy.tick state had_is l.next below) ∙ next)
       | inr end ↦ absurd (none-some k (sym (next-none me v c had a.busy.tick state had_is l.next end) ∙ next))
     ]
 
@@ -75,7 +60,7 @@ ends-kept me v had a c k l state had_is next slot last stays =
     (record {
       last = ap (λ (st : NodeState). is_last v.sizes v.plan me st a.busy.tick) (no-turn v me a.busy.tick stays)
           ∙ ap (λ (w : Window). a.busy.tick == v.state.epoch + w.last) (sym (window-kept me v had a l))
-          ∙ eq-true a.busy.tick (v.state.epoch + a.window.last) (sym last);
+          ∙ eq-eqb a.busy.tick (v.state.epoch + a.window.last) (sym last);
       slot = subst (λ (st : NodeState). (window_here v.sizes v.plan me st a.busy.tick).slot < sync_slot_of v.sizes) (sym (no-turn v me a.busy.tick stays))
           (subst (λ (w : Window). w.slot < sync_slot_of v.sizes) (window-kept me v had a l) slot);
     }))
@@ -97,7 +82,7 @@ kept-ends me v had a c k l state had_is next stays ends =
     record {
       slot = subst (λ (w : Window). w.slot < sync_slot_of v.sizes) (sym (window-kept me v had a l))
           (subst (λ (st : NodeState). (window_here v.sizes v.plan me st a.busy.tick).slot < sync_slot_of v.sizes) no_turn here.slot);
-      last = sym (true-eq a.busy.tick (v.state.epoch + a.window.last)
+      last = sym (eqb-true a.busy.tick (v.state.epoch + a.window.last)
           (ap (λ (w : Window). a.busy.tick == v.state.epoch + w.last) (window-kept me v had a l)
           ∙ ap (λ (st : NodeState). is_last v.sizes v.plan me st a.busy.tick) (sym no_turn) ∙ here.last));
     }

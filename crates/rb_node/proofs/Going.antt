@@ -13,10 +13,10 @@ use Rattle.rb_rules.specs.ExactStage.{says}
 use Rattle.rb_rules.specs.Hearing.{tail_at}
 use Rattle.rb_rules.specs.Plan.{IsPlan}
 use Rattle.rb_rules.specs.Windows.{window_at}
+use Rattle.rb_rules.proofs.Slots.{few_slots}
 use Rattle.rb_slot.specs.Closable.{IsOfFrame}
 use Rattle.rb_slot.specs.Engines.{IsSameFrame, Seated}
 use Rattle.rb_slot.proofs.Fitting.{IsPlaced, placed}
-use Rattle.rb_slot.proofs.Votes.{few_slots}
 use Rattle.rb_node.specs.Aheads.{IsEnded, IsWindowOf, following}
 use Rattle.rb_node.proofs.Numbering.{IsNumbered, follows, numbered}
 use Rattle.rb_node.proofs.Windows.{ends-soon, goes-on, has-ticks}

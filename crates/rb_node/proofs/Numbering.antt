@@ -1,10 +1,10 @@
 -- The windows below the sync slot by their numbers: which one follows, and what is sent in one.
 use Rattle.std.proofs.Common.{◌≡◌, ℕ, zero, suc, ◌+◌, ◌-◌, ◌*◌, ◌/◌, ◌%◌, ◌<◌, ◌≤◌, ◌==◌, nat_lt, Bool, true, false, refl, ap, sym, ◌∙◌, subst, arith, inl, inr, Option, Some, None, unwrap_or, if◌then◌else◌}
-use Rattle.std.proofs.lemmas.Bool.{cases_lt}
-use Rattle.std.proofs.lemmas.Bool.Decides.{nat_tests}
+use Rattle.std.proofs.lemmas.Bool.{cases_lt, ltb-false, ltb-true}
 use Rattle.std.proofs.Math.Nat.{add-mul, div-mul-le_self, lt-div-mul-add, mul-le-mul_right}
 use Rattle.rb_base.specs.Nodes.{Side}
 use Rattle.rb_base.specs.Sizes.{Sizes, sync_slot_of}
+use Rattle.rb_base.proofs.Plain.{less-differs, more-differs}
 use Rattle.rb_rules.specs.declared.plan.Plan.{Plan}
 use Rattle.rb_rules.specs.declared.plan.Window.{Window}
 use Rattle.rb_rules.specs.Core.{is_tick}
@@ -110,12 +110,6 @@ window-is slot slot2 stage stage2 first first2 last last2 a b c d = rw (a, b, c,
 same-window : (a b : Window) → a.slot ≡ b.slot → a.stage ≡ b.stage → a.first ≡ b.first → a.last ≡ b.last → a ≡ b
 same-window a b slot stage first last = window-is a.slot b.slot a.stage b.stage a.first b.first a.last b.last slot stage first last
 
-lt-holds : (a b : ℕ) → nat_lt a b ≡ true → a < b
-lt-holds a b h = grind (arith, nat_tests)
-
-lt-fails : (a b : ℕ) → nat_lt a b ≡ false → b ≤ a
-lt-fails a b h = grind (arith, nat_tests)
-
 -- it has the next number
 follows-exact : (plan : Plan) (n : ℕ) → 1 ≤ plan.l → following plan (exact_window plan n) ≡ exact_window plan (n + 1)
 follows-exact plan n some = by (nat_lt (n % 3 + 1) 3) refl
@@ -130,12 +124,12 @@ follows-exact plan n some = by (nat_lt (n % 3 + 1) 3) refl
         ])
         ≡ exact_window plan (n + 1)
     by true e =
-        let lt : n % 3 + 1 < 3 = lt-holds (n % 3 + 1) 3 e in
+        let lt : n % 3 + 1 < 3 = ltb-true (n % 3 + 1) 3 e in
         same-window
         (record { slot = n / 3; stage = n % 3 + 1 + 1; first = n * plan.l + plan.l - 1 + 1; last = n * plan.l + plan.l - 1 + plan.l })
         (exact_window plan (n + 1)) (omega arith) (omega arith) (omega (arith, next, some)) (omega (arith, next, some))
     by false e =
-        let ge : 3 ≤ n % 3 + 1 = lt-fails (n % 3 + 1) 3 e in
+        let ge : 3 ≤ n % 3 + 1 = ltb-false (n % 3 + 1) 3 e in
         same-window
         (record { slot = n / 3 + 1; stage = 1; first = n * plan.l + plan.l - 1 + 1; last = n * plan.l + plan.l - 1 + plan.l })
         (exact_window plan (n + 1)) (omega arith) (omega arith) (omega (arith, next, some)) (omega (arith, next, some))
@@ -164,9 +158,6 @@ follows sizes plan offset w ticks h =
 
 -- What is sent in a window.
 
-not-sync : (slot sync : ℕ) → slot < sync → (slot == sync) ≡ false
-not-sync slot sync h = grind (arith, nat_tests)
-
 regroup : (a b c : ℕ) → a + (b + c) ≡ a + b + c
 regroup a b c = omega arith
 
@@ -175,19 +166,13 @@ pub sent-here : (v : Seated) (offset : ℕ) (w : Window) → IsNumbered v.sizes 
     → send_tick_of v.sizes v.plan v.state w.slot w.stage ≡ Some (v.state.epoch + w.first + v.plan.h)
 sent-here v offset w h below =
     ap (λ b. if b then call_tick_of v.sizes v.plan v.state w.stage else Some (v.state.epoch + send_offset_of v.plan w.slot w.stage))
-    (not-sync w.slot (sync_slot_of v.sizes) below)
+    (less-differs w.slot (sync_slot_of v.sizes) below)
     ∙ ap Some (subst (λ (x : Window). v.state.epoch + send_offset_of v.plan x.slot x.stage ≡ v.state.epoch + x.first + v.plan.h) (sym h.is) (exact h.number))
   where
     exact : (n : ℕ) → v.state.epoch + ((3 * (n / 3) + (n % 3 + 1) - 1) * v.plan.l + v.plan.h) ≡ v.state.epoch + n * v.plan.l + v.plan.h
     exact n =
         let e : 3 * (n / 3) + (n % 3 + 1) - 1 ≡ n = omega arith in
         ap (λ m. v.state.epoch + (m * v.plan.l + v.plan.h)) e ∙ regroup v.state.epoch (n * v.plan.l) v.plan.h
-
-less-differs : (a b : ℕ) → a < b → (a == b) ≡ false
-less-differs a b h = grind (arith, nat_tests)
-
-more-differs : (a b : ℕ) → b < a → (a == b) ≡ false
-more-differs a b h = grind (arith, nat_tests)
 
 -- that of another one is sent in another
 elsewhere : (epoch k n m l h : ℕ) → h < l → epoch + n * l ≤ k → k ≤ epoch + (n * l + l - 1) → (m ≡ n → ⊥) → (epoch + (m * l + h) == k) ≡ false
@@ -212,7 +197,7 @@ pub not-due : (me : Side) (v : Seated) (had k stage : ℕ) (w : Window) → v.pl
 not-due me v had k stage w short epoch h below lo hi some other =
     said-tick k (message_said v.sizes me v.index v.state w.slot stage 0) (send_tick_of v.sizes v.plan v.state w.slot stage)
     (ap (λ b. is_tick (if b then call_tick_of v.sizes v.plan v.state stage else Some (v.state.epoch + send_offset_of v.plan w.slot stage)) k)
-    (not-sync w.slot (sync_slot_of v.sizes) below)
+    (less-differs w.slot (sync_slot_of v.sizes) below)
     ∙ subst
     (λ (x : Window). k ≤ v.state.epoch + x.last → (stage ≡ x.stage → ⊥) → (v.state.epoch + send_offset_of v.plan x.slot stage == k) ≡ false)
     (sym h.is) (exact h.number h.from) hi other)

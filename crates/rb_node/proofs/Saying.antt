@@ -1,8 +1,8 @@
 -- What a node says at a tick, and whether it says something, whatever its word.
-use Rattle.std.proofs.Common.{◌≡◌, ℕ, ◌==◌, ◌&&◌, nat_lt, Bool, true, false, refl, ap, sym, ◌∙◌, subst, arith, Option, Some, None, is_some, option_and_then, option_map, unwrap_or, get_or, if◌then◌else◌}
-use Rattle.std.proofs.lemmas.Bool.Decides.{nat_tests}
+use Rattle.std.proofs.Common.{◌≡◌, ℕ, ◌==◌, Bool, true, false, refl, ap, sym, ◌∙◌, subst, Option, Some, None, is_some, option_and_then, option_map, unwrap_or, get_or, if◌then◌else◌}
+use Rattle.std.proofs.lemmas.Bool.{eqb-true}
+use Rattle.std.proofs.lemmas.Option.{same_Some}
 use Rattle.rb_base.specs.Nodes.{Side, other}
-use Rattle.rb_base.specs.Nodes.Side.{Biu, Rmu}
 use Rattle.rb_base.specs.Sizes.{Sizes, sync_slot_of}
 use Rattle.rb_base.specs.declared.values.Heard.{Heard}
 use Rattle.rb_base.specs.declared.values.Heard.TheVariants as heard
@@ -15,9 +15,10 @@ use Rattle.rb_rules.specs.ExactStage.{own_value, is_sender, value_said, says_of,
 use Rattle.rb_rules.specs.Hearing.{Sending, sending}
 use Rattle.rb_rules.specs.NodeState.{NodeState, sender_at}
 use Rattle.rb_rules.specs.NodeSteps.{message_said}
-use Rattle.rb_rules.specs.Slots.{Sender, first_diagnosis_of, role_of, listens}
+use Rattle.rb_rules.specs.Slots.{Sender, role_of, listens}
 use Rattle.rb_rules.specs.Slots.Sender.{Nobody, Node, EachTrusted}
 use Rattle.rb_rules.specs.SyncStage.{call_of, calls, send_tick_of}
+use Rattle.rb_rules.proofs.Slots.{nothing-kept, sync_role}
 
 -- Whether something is said doesn't depend on the word.
 
@@ -87,33 +88,12 @@ nothing-out k t = refl
 
 -- A sender keeps what it says in its own slot.
 
-role-sync : (sizes : Sizes) → role_of sizes (sync_slot_of sizes) ≡ Sync
-role-sync sizes =
-    let slot : ℕ = sync_slot_of sizes in
-    let a : nat_lt slot sizes.bius ≡ false = grind (arith, nat_tests) in
-    let b : nat_lt slot (first_diagnosis_of Biu sizes) ≡ false = grind (arith, nat_tests) in
-    let c : nat_lt slot (first_diagnosis_of Rmu sizes) ≡ false = grind (arith, nat_tests) in
-    let d : nat_lt slot (sync_slot_of sizes) ≡ false = grind (arith, nat_tests) in
-    rw (a, b, c, d) refl
-
 -- in the sync slot nothing is kept
 sync-says : (sizes : Sizes) (me : Side) (i : ℕ) (st : NodeState) (slot stage word : ℕ) → slot ≡ sync_slot_of sizes
     → says sizes me i st slot stage word ≡ None
 sync-says sizes me i st slot stage word e =
-    let role : role_of sizes slot ≡ Sync = ap (role_of sizes) e ∙ role-sync sizes in
+    let role : role_of sizes slot ≡ Sync = ap (role_of sizes) e ∙ sync_role sizes in
     rw role refl
-
-no-keep : (sizes : Sizes) (me : Side) (i : ℕ) (st : NodeState) (slot stage word : ℕ) → says sizes me i st slot stage word ≡ None
-    → keep_sent sizes me i st slot stage word ≡ st
-no-keep sizes me i st slot stage word e =
-    ap (λ (v : Option Heard). if (stage == 1) && is_some v then record st { sent = v } else st) e ∙ by (stage == 1)
-  where
-    by : (b : Bool) → (if b && false then record st { sent = None } else st) ≡ st
-    by true = refl
-    by false = refl
-
-same-number : (a b : ℕ) → (a == b) ≡ true → a ≡ b
-same-number a b h = grind (arith, nat_tests)
 
 -- what is kept, by the message that is said
 pub kept-is : (sizes : Sizes) (me : Side) (i : ℕ) (st : NodeState) (slot stage word : ℕ)
@@ -123,18 +103,18 @@ kept-is sizes me i st slot stage word = by (slot == sync_slot_of sizes) refl
     call : (b : Bool) → slot ≡ sync_slot_of sizes
         → state_kept sizes me i st word (if b then Some (call_of sizes st stage) else None) ≡ keep_sent sizes me i st slot stage word
     call true e = ap (λ s. keep_sent sizes me i st s stage word) (sym e)
-    call false e = sym (no-keep sizes me i st slot stage word (sync-says sizes me i st slot stage word e))
+    call false e = sym (nothing-kept sizes me i st slot stage word (sync-says sizes me i st slot stage word e))
 
     said : (o : Option Heard) → says sizes me i st slot stage word ≡ o
         → state_kept sizes me i st word (option_map (message_of st slot stage) o) ≡ keep_sent sizes me i st slot stage word
-    said None e = sym (no-keep sizes me i st slot stage word e)
+    said None e = sym (nothing-kept sizes me i st slot stage word e)
     said (Some (heard.Word w)) e = refl
     said (Some heard.Fault) e = refl
 
     by : (x : Bool) → (slot == sync_slot_of sizes) ≡ x
         → state_kept sizes me i st word (if x then calls sizes me st stage else option_map (message_of st slot stage) (says sizes me i st slot stage word))
         ≡ keep_sent sizes me i st slot stage word
-    by true e = call (listens (other me) Sync stage) (same-number slot (sync_slot_of sizes) e)
+    by true e = call (listens (other me) Sync stage) (eqb-true slot (sync_slot_of sizes) e)
     by false e = said (says sizes me i st slot stage word) refl
 
 -- A message has the header of its place.
@@ -143,25 +123,22 @@ pub record HasPlace (m : Message) (slot stage : ℕ) : Type 0 where
   pub slot_is : m.slot ≡ slot
   pub stage_is : m.stage ≡ stage
 
-some-same : {X : Type 0} (a b : X) → Some a ≡ Some b → a ≡ b
-some-same a b e = cc
-
 value-place : (st : NodeState) (slot stage : ℕ) (o : Option Heard) (m : Message) → option_map (message_of st slot stage) o ≡ Some m → HasPlace m slot stage
 value-place st slot stage None m e = cc
 value-place st slot stage (Some (heard.Word word)) m e =
-    subst (λ m. HasPlace m slot stage) (some-same (message_of st slot stage (heard.Word word)) m e) (record { slot_is = refl; stage_is = refl })
+    subst (λ m. HasPlace m slot stage) (same_Some (message_of st slot stage (heard.Word word)) m e) (record { slot_is = refl; stage_is = refl })
 value-place st slot stage (Some heard.Fault) m e =
-    subst (λ m. HasPlace m slot stage) (some-same (message_of st slot stage heard.Fault) m e) (record { slot_is = refl; stage_is = refl })
+    subst (λ m. HasPlace m slot stage) (same_Some (message_of st slot stage heard.Fault) m e) (record { slot_is = refl; stage_is = refl })
 
 pub message-place : (sizes : Sizes) (me : Side) (i : ℕ) (st : NodeState) (slot stage word : ℕ) (m : Message)
     → message_said sizes me i st slot stage word ≡ Some m → HasPlace m slot stage
 message-place sizes me i st slot stage word m = by (slot == sync_slot_of sizes) refl
   where
     call : (b : Bool) → slot ≡ sync_slot_of sizes → (if b then Some (call_of sizes st stage) else None) ≡ Some m → HasPlace m slot stage
-    call true s e = subst (λ m. HasPlace m slot stage) (some-same (call_of sizes st stage) m e) (record { slot_is = sym s; stage_is = refl })
+    call true s e = subst (λ m. HasPlace m slot stage) (same_Some (call_of sizes st stage) m e) (record { slot_is = sym s; stage_is = refl })
     call false s e = cc
 
     by : (x : Bool) → (slot == sync_slot_of sizes) ≡ x
         → (if x then calls sizes me st stage else option_map (message_of st slot stage) (says sizes me i st slot stage word)) ≡ Some m → HasPlace m slot stage
-    by true s e = call (listens (other me) Sync stage) (same-number slot (sync_slot_of sizes) s) e
+    by true s e = call (listens (other me) Sync stage) (eqb-true slot (sync_slot_of sizes) s) e
     by false s e = value-place st slot stage (says sizes me i st slot stage word) m e

@@ -1,10 +1,12 @@
 -- A tick within a window of a slot before the sync slot, at which a message is said and nothing else happens.
 use Rattle.std.proofs.Common.{◌≡◌, ℕ, ◌+◌, ◌-◌, ◌<◌, ◌≤◌, ◌^◌, ◌==◌, ◌&&◌, ◌||◌, max, nat_lt, not, Bool, true, false, refl, ap, sym, ◌∙◌, subst, arith, Option, Some, None, is_some, if◌then◌else◌}
+use Rattle.std.proofs.lemmas.Bool.{eqb-true, lt-ltb, ltb-true, not-true, true≢false}
 use Rattle.std.proofs.lemmas.Bool.Decides.{nat_tests}
 use Rattle.rb_base.specs.Nodes.{Side}
 use Rattle.rb_base.specs.Nodes.Side.{Biu, Rmu}
 use Rattle.rb_base.specs.Sizes.{IsShape, Sizes, sync_slot_of}
 use Rattle.rb_base.specs.declared.values.Heard.{Heard}
+use Rattle.rb_base.proofs.Plain.{less-differs, none-from}
 use Rattle.rb_rules.specs.declared.closing.Closed.{Closed}
 use Rattle.rb_rules.specs.declared.message.Message.{Message}
 use Rattle.rb_rules.specs.declared.plan.Plan.{Plan}
@@ -31,10 +33,10 @@ use Rattle.rb_node.specs.declared.ahead.Ahead.{Ahead}
 use Rattle.rb_node.specs.declared.ahead.Busy.{Busy}
 use Rattle.rb_node.specs.declared.act.Want.TheVariants as want
 use Rattle.rb_node.proofs.Acting.{due-parts, says-none}
-use Rattle.rb_node.proofs.Alone.{AllTrue, all-true, true-all, is-below, below-is, is-alone}
+use Rattle.rb_node.proofs.Alone.{AllTrue, all-true, true-all, is-alone}
 use Rattle.rb_node.proofs.Busy.{by-state, chosen-sooner, never, no-turn, said-form, said-tick, says-in, soonest-on}
 use Rattle.rb_node.proofs.Cores.{next-is, said-some}
-use Rattle.rb_node.proofs.Ending.{kept-next, not-true, window-kept}
+use Rattle.rb_node.proofs.Ending.{kept-next, window-kept}
 use Rattle.rb_node.proofs.Going.{going}
 use Rattle.rb_node.proofs.Numbering.{IsNumbered, idle, not-due, numbered-here, own-stage, sent-here}
 use Rattle.rb_node.proofs.Steps.{Gives, Parts, gives, kept-stays}
@@ -56,10 +58,10 @@ within-is me v w k h =
     (nat_lt w.slot (sync_slot_of v.sizes)) (not (is_some (new_epoch_of v.plan me v.state))) =
     all-true _ _ _ _ _ h in
     record {
-      begun = is-below v.state.epoch k all.first;
-      before_end = is-below k (v.state.epoch + w.last) all.second;
-      in_time = is-below (v.state.epoch + w.last) (2 ^ 31) all.third;
-      slot = is-below w.slot (sync_slot_of v.sizes) all.fourth;
+      begun = ltb-true v.state.epoch k all.first;
+      before_end = ltb-true k (v.state.epoch + w.last) all.second;
+      in_time = ltb-true (v.state.epoch + w.last) (2 ^ 31) all.third;
+      slot = ltb-true w.slot (sync_slot_of v.sizes) all.fourth;
       same_frame = not-true (is_some (new_epoch_of v.plan me v.state)) all.fifth;
     }
 
@@ -67,14 +69,10 @@ pub is-within : (me : Side) (v : Seated) (w : Window) (k : ℕ) → IsWithin me 
 is-within me v w k a =
     true-all (nat_lt v.state.epoch k) (nat_lt k (v.state.epoch + w.last)) (nat_lt (v.state.epoch + w.last) (2 ^ 31))
     (nat_lt w.slot (sync_slot_of v.sizes)) (not (is_some (new_epoch_of v.plan me v.state)))
-    (below-is v.state.epoch k a.begun) (below-is k (v.state.epoch + w.last) a.before_end) (below-is (v.state.epoch + w.last) (2 ^ 31) a.in_time)
-    (below-is w.slot (sync_slot_of v.sizes) a.slot) (ap not a.same_frame)
+    (lt-ltb v.state.epoch k a.begun) (lt-ltb k (v.state.epoch + w.last) a.before_end) (lt-ltb (v.state.epoch + w.last) (2 ^ 31) a.in_time)
+    (lt-ltb w.slot (sync_slot_of v.sizes) a.slot) (ap not a.same_frame)
 
 -- It is so by the definition.
-
-none-from : (o : Option ℕ) → is_some o ≡ false → o ≡ None
-none-from None h = refl
-none-from (Some x) h = cc
 
 by-window : (me : Side) (v : Seated) (k : ℕ) → IsWithin me v (window_of_tick me v k) k → IsWithinExactWindow v.sizes v.plan me v.state k
 by-window me v k h = record {
@@ -115,9 +113,6 @@ exact-within me v had a c k l state had_is next exact =
 third-of : (a b c : Bool) → a ≡ false → b ≡ false → (a || b || c) ≡ true → c ≡ true
 third-of a b c h i = rw (h, i) (λ e. e)
 
-less-differs : (a b : ℕ) → a < b → (a == b) ≡ false
-less-differs a b h = grind (arith, nat_tests)
-
 not-turned : (me : Side) (v : Seated) (w : Window) (k n : ℕ) → IsWithin me v w k → is_tick (new_epoch_of v.plan me v.state) n ≡ false
 not-turned me v w k n is = never (new_epoch_of v.plan me v.state) n is.same_frame
 
@@ -138,14 +133,8 @@ within-says me v had word a l is =
 
 -- It is that of the window's own stage.
 
-number-of : (a b : ℕ) → (a == b) ≡ true → a ≡ b
-number-of a b h = grind (arith, nat_tests)
-
 differs : (a b : ℕ) → (a == b) ≡ false → a ≡ b → ⊥
 differs a b h e = let same : (a == b) ≡ true = grind (arith, nat_tests) in cc
-
-true-false : true ≡ false → ⊥
-true-false e = cc
 
 -- only the message of the own stage is due at a tick of the window
 due-own : (me : Side) (v : Seated) (had k stage : ℕ) (w : Window) → v.plan.h < v.plan.l → v.state.epoch ≤ had
@@ -156,11 +145,11 @@ due-own me v had k stage w short epoch n slot lo hi some due = by (stage == w.st
     by : (b : Bool) → (stage == w.stage) ≡ b → k ≡ v.state.epoch + w.first + v.plan.h
     by true e =
         let own : is_tick (tick_said me v w.slot w.stage) k ≡ true =
-        subst (λ s. is_tick (tick_said me v w.slot s) k ≡ true) (number-of stage w.stage e) due in
+        subst (λ s. is_tick (tick_said me v w.slot s) k ≡ true) (eqb-true stage w.stage e) due in
         let sent : is_tick (send_tick_of v.sizes v.plan v.state w.slot w.stage) k ≡ true =
         due-parts k (message_said v.sizes me v.index v.state w.slot w.stage 0) (send_tick_of v.sizes v.plan v.state w.slot w.stage) own in
-        sym (number-of (v.state.epoch + w.first + v.plan.h) k (ap (λ o. is_tick o k) (sym (sent-here v (had - v.state.epoch) w n slot)) ∙ sent))
-    by false e = absurd (true-false (sym due ∙ not-due me v had k stage w short epoch n slot lo hi some (differs stage w.stage e)))
+        sym (eqb-true (v.state.epoch + w.first + v.plan.h) k (ap (λ o. is_tick o k) (sym (sent-here v (had - v.state.epoch) w n slot)) ∙ sent))
+    by false e = absurd (true≢false (sym due ∙ not-due me v had k stage w short epoch n slot lo hi some (differs stage w.stage e)))
 
 some-none : (o : Option Message) → None ≡ o → is_some o ≡ true → ⊥
 some-none None e h = cc
@@ -231,7 +220,7 @@ left-ahead me v k w shape plan feasible is here at =
       next = next;
       window = here;
       stage = stage;
-      wants = sym (ap (λ b. if b then want_at me v last else want.Nothing) (below-is last (2 ^ 31) is.in_time) ∙ wants);
+      wants = sym (ap (λ b. if b then want_at me v last else want.Nothing) (lt-ltb last (2 ^ 31) is.in_time) ∙ wants);
       alone = sym (is-alone me v w (end_of v w) (record {
         stage = refl;
         slot = is.slot;

@@ -1,22 +1,17 @@
 -- lists of lines that grow by a line at the end, and the bytes that they spell
-use Rattle.std.proofs.Common.{◌≡◌, ◌≢◌, ◌∙◌, ℕ, ◌+◌, ◌<◌, ◌≤◌, nat_lt, ◌&&◌, Bool, true, false, List, [], ◌∷◌, ◌++◌, length, take, drop, refl, sym, ap, subst, append-nil, take-append-drop, take-add, length-append, length-drop, arith}
-use Rattle.std.proofs.lemmas.Bool.{false≢true}
+use Rattle.std.proofs.Common.{◌≡◌, ◌≢◌, ◌∙◌, ℕ, ◌+◌, ◌<◌, ◌≤◌, nat_lt, true, List, [], ◌∷◌, ◌++◌, length, take, drop, refl, sym, ap, subst, append-nil, take-append-drop, take-add, length-append, length-drop, arith}
+use Rattle.std.proofs.lemmas.Bool.{and_parts, lt-ltb}
 use Rattle.std.proofs.lemmas.List.{drop_all, take_all}
 use Rattle.std.proofs.lemmas.List.Concat.{flat_map-append}
-use Rattle.rb_base.proofs.Sets.{lt_true}
 use Rattle.rb_picture.specs.declared.line.Line.{Line}
 use Rattle.rb_picture.specs.declared.reading.Fault.{Fault}
 use Rattle.rb_picture.specs.declared.reading.Fault.TheVariants as fault
 use Rattle.rb_picture.specs.Lines.{BeginsTooEarly, FailsAt, FailsBehind, IsNoReport, IsReport, SoFar, StandsFirst, ascend, end_of, last_place, line_place, line_text, text_of_lines}
 
-pub both : (a b : Bool) → (a && b) ≡ true → (a ≡ true) × (b ≡ true)
-both true b h = (refl, h)
-both false b h = absurd (false≢true h)
-
 pub ascend_more : (from : ℕ) (ls : List Line) (l : Line) → ascend from ls ≡ true → end_of from ls < line_place l → ascend from (ls ++ l ∷ []) ≡ true
-ascend_more from [] l sorted less = rw (lt_true from (line_place l) less) refl
+ascend_more from [] l sorted less = rw (lt-ltb from (line_place l) less) refl
 ascend_more from (x ∷ xs) l sorted less =
-    let two = both (nat_lt from (line_place x)) (ascend (line_place x) xs) sorted in
+    let two = and_parts (nat_lt from (line_place x)) (ascend (line_place x) xs) sorted in
     rw (two.0, ascend_more (line_place x) xs l two.1 less) refl
 
 pub end_more : (from : ℕ) (ls : List Line) (l : Line) → end_of from (ls ++ l ∷ []) ≡ line_place l

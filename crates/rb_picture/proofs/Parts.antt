@@ -15,7 +15,7 @@ use Rattle.rb_picture.specs.declared.line.Line.{Line}
 use Rattle.rb_picture.specs.declared.line.Line.TheVariants as line
 use Rattle.rb_picture.specs.Fields.{above, field_at}
 use Rattle.rb_picture.specs.Lines.{ConvictedFits, DeliveryFits, EpochFits, Fits, PlaceFits, PortFits, line_body, line_parts, line_text, line_word}
-use Rattle.rb_picture.proofs.Spaces.{all_above, all_under, cause_above, cause_under, decimal_above, decimal_ascii, field_is, fields_above, fields_under, heard_above, heard_under, node_above, node_under, under, under_ascii}
+use Rattle.rb_picture.proofs.Spaces.{all_above, all_under, cause_above, cause_under, decimal_above, decimal_ascii, field_is, fields_above, fields_under, heard_above, heard_under, node_above, node_under, under_ascii}
 
 small : (n : ℕ) → n < 2 ^ 64 → above 32 (decimal n) ≡ true
 small n fits = decimal_above 32 n (omega arith) fits
@@ -38,26 +38,23 @@ parts_above (line.End frames) fits = rw (small frames (omega (arith, fits))) ref
 parts_above (line.Breach place cause) fits =
     rw (small place.frame (omega (arith, fits.frame_fits)), small place.slot (omega (arith, fits.slot_fits)), small place.stage (omega (arith, fits.stage_fits)), cause_above cause) refl
 
-ascii : (n : ℕ) → n < 2 ^ 64 → under 128 (decimal n) ≡ true
-ascii n fits = decimal_ascii n fits
-
 pub parts_under : (l : Line) → Fits l → all_under (line_word l ∷ line_parts l) ≡ true
-parts_under (line.Epoch l) fits = rw (ascii l.frame (omega (arith, fits.frame_fits)), node_under l.node fits.node_fits, ascii l.tick fits.tick_fits, ascii l.time fits.time_fits) refl
+parts_under (line.Epoch l) fits = rw (decimal_ascii l.frame (omega (arith, fits.frame_fits)), node_under l.node fits.node_fits, decimal_ascii l.tick fits.tick_fits, decimal_ascii l.time fits.time_fits) refl
 parts_under (line.Convicted l) fits =
-    rw (ascii l.frame (omega (arith, fits.frame_fits)), node_under l.node fits.node_fits, ascii l.biu (omega (arith, fits.biu_fits)), ascii l.rmu (omega (arith, fits.rmu_fits))) refl
+    rw (decimal_ascii l.frame (omega (arith, fits.frame_fits)), node_under l.node fits.node_fits, decimal_ascii l.biu (omega (arith, fits.biu_fits)), decimal_ascii l.rmu (omega (arith, fits.rmu_fits))) refl
 parts_under (line.Port l) fits =
-    rw (ascii l.frame (omega (arith, fits.frame_fits)), node_under (Biu l.biu) fits.biu_fits, ascii l.state fits.state_fits, ascii l.losses (omega (arith, fits.losses_fit))) refl
+    rw (decimal_ascii l.frame (omega (arith, fits.frame_fits)), node_under (Biu l.biu) fits.biu_fits, decimal_ascii l.state fits.state_fits, decimal_ascii l.losses (omega (arith, fits.losses_fit))) refl
 parts_under (line.Delivery l) fits =
     rw (
-      ascii l.frame (omega (arith, fits.frame_fits)),
-      ascii l.slot (omega (arith, fits.slot_fits)),
+      decimal_ascii l.frame (omega (arith, fits.frame_fits)),
+      decimal_ascii l.slot (omega (arith, fits.slot_fits)),
       node_under (Biu l.receiver) fits.receiver_fits,
       node_under (Biu l.sender) fits.sender_fits,
       heard_under l.value fits.value_fits,
     ) refl
-parts_under (line.End frames) fits = rw (ascii frames (omega (arith, fits))) refl
+parts_under (line.End frames) fits = rw (decimal_ascii frames (omega (arith, fits))) refl
 parts_under (line.Breach place cause) fits =
-    rw (ascii place.frame (omega (arith, fits.frame_fits)), ascii place.slot (omega (arith, fits.slot_fits)), ascii place.stage (omega (arith, fits.stage_fits)), cause_under cause) refl
+    rw (decimal_ascii place.frame (omega (arith, fits.frame_fits)), decimal_ascii place.slot (omega (arith, fits.slot_fits)), decimal_ascii place.stage (omega (arith, fits.stage_fits)), cause_under cause) refl
 
 -- a line is its body and a line feed
 pub body_is : (l : Line) → line_text l ≡ line_body l ++ codes "\n"

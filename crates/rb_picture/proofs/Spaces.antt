@@ -1,13 +1,12 @@
 -- fields, and the text that they give
 use Rattle.std.proofs.Common.{◌≡◌, ◌≢◌, ◌∙◌, ℕ, zero, suc, ◌+◌, ◌<◌, ◌≤◌, ◌^◌, ◌%◌, ◌==◌, nat_lt, ◌&&◌, Bool, true, false, List, [], ◌∷◌, ◌++◌, length, get_or, codes, refl, sym, ap, append_assoc, length-append, arith}
 use Rattle.std.specs.Fmt.{decimal}
-use Rattle.std.proofs.lemmas.Bool.{false≢true, ltb-false, ltb-true, ne_eqb}
+use Rattle.std.proofs.lemmas.Bool.{and_parts, false≢true, lt-ltb, ltb-false, ltb-true, ne_eqb}
 use Rattle.std.specs.Str.{IsAscii}
 use Rattle.std.proofs.lemmas.Str.Ascii.{IsAscii-nil}
 use Rattle.std.proofs.Math.ListN.{get_or-append}
 use Rattle.std.proofs.Math.Seq.{get_or-append_seam}
 use Rattle.std.proofs.lemmas.Fmt.{decimal_by_steps}
-use Rattle.rb_base.proofs.Sets.{lt_true}
 use Rattle.rb_base.specs.declared.node.NodeName.{NodeName}
 use Rattle.rb_base.specs.declared.node.NodeName.TheVariants.{Biu, Rmu}
 use Rattle.rb_base.specs.declared.values.Heard.{Heard}
@@ -16,7 +15,6 @@ use Rattle.rb_rules.specs.declared.cause.Cause.{Cause}
 use Rattle.rb_rules.specs.declared.cause.Cause.TheVariants.{FewGoodBiu, FewGoodRmu, TwoSided}
 use Rattle.rb_report.specs.Report.{cause_text, heard_text, node_text, with_fields}
 use Rattle.rb_picture.specs.Fields.{HeardFits, NodeFits, above, field_at, first_field, later_fields}
-use Rattle.rb_picture.proofs.Orders.{both}
 
 -- a greater byte is another one
 pub is_other : (k c x : ℕ) → c ≤ k → nat_lt k x ≡ true → (x == c) ≡ false
@@ -25,34 +23,34 @@ is_other k c x low greater = ne_eqb x c (λ same. absurd (omega (arith, low, sam
 pub above_both : (k : ℕ) (xs ys : List ℕ) → above k xs ≡ true → above k ys ≡ true → above k (xs ++ ys) ≡ true
 above_both k [] ys first second = second
 above_both k (x ∷ xs) ys first second =
-    let two = both (nat_lt k x) (above k xs) first in
+    let two = and_parts (nat_lt k x) (above k xs) first in
     rw (two.0, above_both k xs ys two.1 second) refl
 
 above_less : (k x : ℕ) → nat_lt (suc k) x ≡ true → nat_lt k x ≡ true
-above_less k x greater = lt_true k x (omega (arith, ltb-true (suc k) x greater))
+above_less k x greater = lt-ltb k x (omega (arith, ltb-true (suc k) x greater))
 
 pub also_above : (k : ℕ) (xs : List ℕ) → above (suc k) xs ≡ true → above k xs ≡ true
 also_above k [] h = refl
 also_above k (x ∷ xs) h =
-    let two = both (nat_lt (suc k) x) (above (suc k) xs) h in
+    let two = and_parts (nat_lt (suc k) x) (above (suc k) xs) h in
     rw (above_less k x two.0, also_above k xs two.1) refl
 
 pub first_is : (xs rest : List ℕ) → above 32 xs ≡ true → first_field (xs ++ 32 ∷ rest) ≡ xs
 first_is [] rest h = refl
 first_is (x ∷ xs) rest h =
-    let two = both (nat_lt 32 x) (above 32 xs) h in
+    let two = and_parts (nat_lt 32 x) (above 32 xs) h in
     rw (is_other 32 32 x (omega arith) two.0) (ap (λ l. x ∷ l) (first_is xs rest two.1))
 
 pub later_is : (xs rest : List ℕ) → above 32 xs ≡ true → later_fields (xs ++ 32 ∷ rest) ≡ rest
 later_is [] rest h = refl
 later_is (x ∷ xs) rest h =
-    let two = both (nat_lt 32 x) (above 32 xs) h in
+    let two = and_parts (nat_lt 32 x) (above 32 xs) h in
     rw (is_other 32 32 x (omega arith) two.0) (later_is xs rest two.1)
 
 pub first_of_one : (xs : List ℕ) → above 32 xs ≡ true → first_field xs ≡ xs
 first_of_one [] h = refl
 first_of_one (x ∷ xs) h =
-    let two = both (nat_lt 32 x) (above 32 xs) h in
+    let two = and_parts (nat_lt 32 x) (above 32 xs) h in
     rw (is_other 32 32 x (omega arith) two.0) (ap (λ l. x ∷ l) (first_of_one xs two.1))
 
 -- the same by index, where no byte is a space
@@ -77,7 +75,7 @@ none_by_index (x ∷ xs) none =
     rw (ne_eqb x 32 (none 0 (omega arith))) (none_by_index xs (λ i less. none (suc i) (omega (arith, less))))
 
 digit_above : (k d : ℕ) → k < 48 → above k ((48 + d) ∷ []) ≡ true
-digit_above k d low = rw (lt_true k (48 + d) (omega (arith, low))) refl
+digit_above k d low = rw (lt-ltb k (48 + d) (omega (arith, low))) refl
 
 pub decimal_above : (k n : ℕ) → k < 48 → n < 2 ^ 64 → above k (decimal n) ≡ true
 decimal_above k n low small =
@@ -91,11 +89,11 @@ under k (x ∷ xs) = nat_lt x k && under k xs
 under_both : (k : ℕ) (xs ys : List ℕ) → under k xs ≡ true → under k ys ≡ true → under k (xs ++ ys) ≡ true
 under_both k [] ys first second = second
 under_both k (x ∷ xs) ys first second =
-    let two = both (nat_lt x k) (under k xs) first in
+    let two = and_parts (nat_lt x k) (under k xs) first in
     rw (two.0, under_both k xs ys two.1 second) refl
 
 digit_under : (d : ℕ) → d < 10 → under 58 ((48 + d) ∷ []) ≡ true
-digit_under d less = rw (lt_true (48 + d) 58 (omega (arith, less))) refl
+digit_under d less = rw (lt-ltb (48 + d) 58 (omega (arith, less))) refl
 
 decimal_under : (n : ℕ) → n < 2 ^ 64 → under 58 (decimal n) ≡ true
 decimal_under n small =
@@ -109,7 +107,7 @@ ascii_more x xs low more (suc i) = more i
 pub under_ascii : (xs : List ℕ) → under 128 xs ≡ true → IsAscii xs
 under_ascii [] h = IsAscii-nil
 under_ascii (x ∷ xs) h =
-    let two = both (nat_lt x 128) (under 128 xs) h in
+    let two = and_parts (nat_lt x 128) (under 128 xs) h in
     ascii_more x xs (ltb-true x 128 two.0) (under_ascii xs two.1)
 
 pub decimal_ascii : (n : ℕ) → n < 2 ^ 64 → under 128 (decimal n) ≡ true
@@ -117,8 +115,8 @@ decimal_ascii n small = less_under (decimal n) (decimal_under n small) where
   less_under : (xs : List ℕ) → under 58 xs ≡ true → under 128 xs ≡ true
   less_under [] h = refl
   less_under (x ∷ xs) h =
-      let two = both (nat_lt x 58) (under 58 xs) h in
-      rw (lt_true x 128 (omega (arith, ltb-true x 58 two.0)), less_under xs two.1) refl
+      let two = and_parts (nat_lt x 58) (under 58 xs) h in
+      rw (lt-ltb x 128 (omega (arith, ltb-true x 58 two.0)), less_under xs two.1) refl
 
 -- no number is spelled so
 pub no_number : (n : ℕ) → n < 2 ^ 64 → decimal n ≡ codes "none" → ⊥
@@ -126,8 +124,8 @@ no_number n small is = false≢true (sym (ap (λ t. under 58 t) is) ∙ decimal_
 
 above_get : (xs : List ℕ) (i : ℕ) → above 31 xs ≡ true → i < length xs → 31 < get_or xs i 0
 above_get [] i h less = absurd (omega (arith, less))
-above_get (x ∷ xs) zero h less = ltb-true 31 x (both (nat_lt 31 x) (above 31 xs) h).0
-above_get (x ∷ xs) (suc i) h less = above_get xs i (both (nat_lt 31 x) (above 31 xs) h).1 (omega (arith, less))
+above_get (x ∷ xs) zero h less = ltb-true 31 x (and_parts (nat_lt 31 x) (above 31 xs) h).0
+above_get (x ∷ xs) (suc i) h less = above_get xs i (and_parts (nat_lt 31 x) (above 31 xs) h).1 (omega (arith, less))
 
 -- where the first line feed stands
 pub is_first : (bytes xs tail : List ℕ) (i : ℕ) → above 31 xs ≡ true → bytes ≡ xs ++ 10 ∷ tail → i ≤ length xs → get_or bytes i 0 ≡ 10 → i ≡ length xs
@@ -195,23 +193,23 @@ all_under [] = true
 all_under (f ∷ fs) = under 128 f && all_under fs
 
 pub fields_under : (w : List ℕ) (fs : List (List ℕ)) → all_under (w ∷ fs) ≡ true → under 128 (with_fields w fs) ≡ true
-fields_under w [] h = (both (under 128 w) true h).0
+fields_under w [] h = (and_parts (under 128 w) true h).0
 fields_under w (f ∷ fs) h =
-    let two = both (under 128 w) (all_under (f ∷ fs)) h in
+    let two = and_parts (under 128 w) (all_under (f ∷ fs)) h in
     rw (fields_next w f fs) (under_both 128 w (32 ∷ with_fields f fs) two.0 (fields_under f fs two.1))
 
 -- fields without spaces are found again by their places
 pub field_is : (n : ℕ) (w : List ℕ) (fs : List (List ℕ)) → all_above 32 (w ∷ fs) ≡ true → n ≤ length fs → field_at n (with_fields w fs) ≡ get_or (w ∷ fs) n []
-field_is zero w [] h less = first_of_one w (both (above 32 w) true h).0
-field_is zero w (f ∷ fs) h less = ap first_field (fields_next w f fs) ∙ first_is w (with_fields f fs) (both (above 32 w) (all_above 32 (f ∷ fs)) h).0
+field_is zero w [] h less = first_of_one w (and_parts (above 32 w) true h).0
+field_is zero w (f ∷ fs) h less = ap first_field (fields_next w f fs) ∙ first_is w (with_fields f fs) (and_parts (above 32 w) (all_above 32 (f ∷ fs)) h).0
 field_is (suc n) w [] h less = absurd (omega (arith, less))
 field_is (suc n) w (f ∷ fs) h less =
-    let two = both (above 32 w) (all_above 32 (f ∷ fs)) h in
+    let two = and_parts (above 32 w) (all_above 32 (f ∷ fs)) h in
     ap (λ t. field_at n (later_fields t)) (fields_next w f fs) ∙ ap (λ t. field_at n t) (later_is w (with_fields f fs) two.0) ∙ field_is n f fs two.1 (omega (arith, less))
 
 -- none of their bytes is a line feed
 pub fields_above : (w : List ℕ) (fs : List (List ℕ)) → all_above 32 (w ∷ fs) ≡ true → above 31 (with_fields w fs) ≡ true
-fields_above w [] h = also_above 31 w (both (above 32 w) true h).0
+fields_above w [] h = also_above 31 w (and_parts (above 32 w) true h).0
 fields_above w (f ∷ fs) h =
-    let two = both (above 32 w) (all_above 32 (f ∷ fs)) h in
+    let two = and_parts (above 32 w) (all_above 32 (f ∷ fs)) h in
     rw (fields_next w f fs) (above_both 31 w (32 ∷ with_fields f fs) (also_above 31 w two.0) (fields_above f fs two.1))

@@ -1,13 +1,12 @@
 -- what is left of a report behind the lines that were read
 use Rattle.std.proofs.Common.{◌≡◌, ◌≢◌, ◌∙◌, ℕ, ◌+◌, ◌<◌, ◌≤◌, nat_lt, Bool, true, false, List, [], ◌∷◌, ◌++◌, Option, Some, None, Result, Ok, Err, length, take, drop, codes, sym, ap, subst, append_assoc, length-append, length-drop, arith}
 use Rattle.std.proofs.Math.Seq.{drop-append_seam, take-append_seam}
-use Rattle.std.proofs.lemmas.Bool.{false≢true, ltb-true}
+use Rattle.std.proofs.lemmas.Bool.{and_parts, false≢true, ltb-true}
 use Rattle.std.proofs.lemmas.List.{drop-drop, drop_all}
 use Rattle.rb_picture.specs.declared.line.Line.{Line}
 use Rattle.rb_picture.specs.declared.reading.Fault.{Fault}
 use Rattle.rb_picture.specs.Fields.{above}
 use Rattle.rb_picture.specs.Lines.{AllFit, FindsEach, Fits, IsNoReport, IsReport, ascend, end_of, last_place, line_body, line_place, line_text, text_of_lines}
-use Rattle.rb_picture.proofs.Orders.{both}
 use Rattle.rb_picture.proofs.Parts.{body_above, body_is, text_some}
 
 -- the bytes behind a place are the text of these lines, each in its place, and the last one tells how the run ended
@@ -44,7 +43,7 @@ turn : (bytes : List ℕ) (at newest n : ℕ) (x : Line) (left : List Line) → 
     → GoesOn bytes at newest left → (more : List Line) × GoesOn bytes (at + n) (line_place x) more
 turn bytes at newest n x [] some finds goes = absurd (some goes.spelled)
 turn bytes at newest n x (l ∷ ls) some finds goes =
-    let two = both (nat_lt newest (line_place l)) (ascend (line_place l) ls) goes.in_order in
+    let two = and_parts (nat_lt newest (line_place l)) (ascend (line_place l) ls) goes.in_order in
     let less = ltb-true newest (line_place l) two.0 in
     let x_is : x ≡ l = ap (line_of x) (finds l (text_of_lines ls) goes.fits.0 goes.spelled less) in
     let n_is : n ≡ length (line_text l) = ap (bytes_of n) (finds l (text_of_lines ls) goes.fits.0 goes.spelled less) in (
@@ -72,7 +71,7 @@ goes_on bytes at newest place n x some finds before place_is lines fits is =
 stops : (bytes : List ℕ) (at newest : ℕ) (cause : Fault) (left : List Line) → drop at bytes ≢ [] → FindsEach (drop at bytes) newest (Err cause) → GoesOn bytes at newest left → ⊥
 stops bytes at newest cause [] some finds goes = some goes.spelled
 stops bytes at newest cause (l ∷ ls) some finds goes =
-    let two = both (nat_lt newest (line_place l)) (ascend (line_place l) ls) goes.in_order in
+    let two = and_parts (nat_lt newest (line_place l)) (ascend (line_place l) ls) goes.in_order in
     false≢true (ap was_found (finds l (text_of_lines ls) goes.fits.0 goes.spelled (ltb-true newest (line_place l) two.0)))
 
 pub no_report_here : (bytes : List ℕ) (at newest : ℕ) (cause : Fault) → drop at bytes ≢ [] → FindsEach (drop at bytes) newest (Err cause) → GoesOnAs bytes at newest → IsNoReport bytes

@@ -1,12 +1,12 @@
 -- What is pending at one node where something is kept beside its lane.
-use Rattle.std.proofs.Common.{◌≡◌, ℕ, zero, suc, ◌+◌, ◌-◌, ◌<◌, ◌==◌, ◌&&◌, min, nat_le, nat_lt, Bool, true, false, cond, Option, Some, None, slice_get, List, [], ◌∷◌, ◌++◌, length, filter, map, take, drop, get_or, refl, sym, ap, ◌∙◌, subst, arith, length-append, append_assoc, drop-cons, add-one}
+use Rattle.std.proofs.Common.{◌≡◌, ℕ, zero, suc, ◌+◌, ◌-◌, ◌<◌, ◌==◌, min, Bool, true, false, cond, Option, Some, None, slice_get, List, [], ◌∷◌, ◌++◌, length, filter, map, take, drop, get_or, refl, sym, ap, ◌∙◌, subst, arith, length-append, append_assoc, drop-cons, add-one}
 use Rattle.std.specs.List.{enumerate_from, flat_map, range_with_len}
 use Rattle.std.specs.Prelude.{option_map}
-use Rattle.std.proofs.lemmas.Bool.Decides.{nat_tests}
 use Rattle.std.proofs.lemmas.List.{length-map, map-append, take_more}
-use Rattle.std.proofs.lemmas.Option.{slice_get-get_or, slice_get-map}
+use Rattle.std.proofs.lemmas.Option.{slice_get-get_or, slice_get-map, slice_get_within}
 use Rattle.rb_base.specs.Counting.{count_if}
 use Rattle.rb_base.proofs.Counts.{count_if-take_more}
+use Rattle.rb_base.proofs.Plain.{slice_get-back, slice_get-front}
 use Rattle.rb_rules.specs.Hearing.{Coming}
 use Rattle.rb_rules.specs.WorldStep.{least}
 use Rattle.rb_queue.specs.declared.pending.Pending.{Pending}
@@ -18,7 +18,7 @@ use Rattle.rb_queue.specs.Scanning.{is_between}
 use Rattle.rb_queue.specs.Spots.{IsArrival, IsKept, IsSpot}
 use Rattle.rb_queue.specs.declared.beside.Spot.{Spot}
 use Rattle.rb_queue.specs.declared.beside.Spot.TheVariants as spot
-use Rattle.rb_queue.proofs.Sources.{from_on, from_on-suc, from_on-zero, get-left, get-right, is_within, length-coming_at, length-from_on}
+use Rattle.rb_queue.proofs.Sources.{from_on, from_on-suc, from_on-zero, length-coming_at, length-from_on, never_both, one_or_later}
 
 -- ---- the least time
 
@@ -57,13 +57,6 @@ pub count_more : (time first end : ℕ) (more : List Pending) (i : ℕ) (p : Pen
 count_more time first end more i p h is =
     count_if-take_more (is_sent_between time first end) more i p h
     ∙ ap (λ y. count_if (is_sent_between time first end) (take i more) + cond (is_sent_between time first end y) 1 0) (sym is)
-
-one_or_later : (s a e : ℕ) (b : Bool) → a < e
-    → cond ((s == a) && b) 1 0 + cond (nat_le (a + 1) s && nat_lt s e && b) 1 0 ≡ cond (nat_le a s && nat_lt s e && b) 1 0
-one_or_later s a e b h = grind (arith, nat_tests)
-
-never_both : (s a : ℕ) (b : Bool) → ◌≡◌ {A = ℕ} (cond (nat_le a s && nat_lt s a && b) 1 0) 0
-never_both s a b = grind (arith, nat_tests)
 
 count_between : (time a e : ℕ) → a < e → (ps : List Pending)
     → count_if (is_of time a) ps + count_if (is_sent_between time (a + 1) e) ps ≡ count_if (is_sent_between time a e) ps
@@ -201,7 +194,7 @@ kept_behind listed front more others left place many at =
     let e : others ≡ length front + left = omega (arith, many) in
     record {
       kept = at.kept;
-      found = ap (slice_get (front ++ map (λ c. Beside c.0 c.1) listed)) e ∙ get-right front (map (λ c. Beside c.0 c.1) listed) left
+      found = ap (slice_get (front ++ map (λ c. Beside c.0 c.1) listed)) e ∙ slice_get-back front (map (λ c. Beside c.0 c.1) listed) left
           ∙ slice_get-map (λ (c : ℕ × Pending). Beside c.0 c.1) listed left ∙ ap (option_map (λ (c : ℕ × Pending). Beside c.0 c.1)) at.found;
       stands = at.stands;
     }
@@ -238,7 +231,7 @@ left_next time lane more i source left others h is passed =
     let long : length (sent_on time lane more source (256 - source)) ≡ length (sent_at time lane more source) + length rest =
     ap length next ∙ length-append (sent_at time lane more source) rest in
     record {
-      same = sym (get-right (sent_at time lane more source) rest others) ∙ ap (slice_get (sent_at time lane more source ++ rest)) (sym at)
+      same = sym (slice_get-back (sent_at time lane more source) rest others) ∙ ap (slice_get (sent_at time lane more source ++ rest)) (sym at)
           ∙ ap (λ l. slice_get l left) (sym next) ∙ is.same;
       many = omega (arith, long, passed, is.many);
     }
@@ -255,7 +248,7 @@ here : (time : ℕ) (lane : Held) (more : List Pending) (i source left : ℕ) (t
     → slice_get (sent_at time lane more source) left ≡ Some t → slice_get (senders_at time lane more) i ≡ Some t
 here time lane more i source left t h is found =
     sym is.same ∙ ap (λ l. slice_get l left) (next_on time lane more source h)
-    ∙ get-left (sent_at time lane more source) (sent_on time lane more (source + 1) (256 - (source + 1))) left (is_within (sent_at time lane more source) left t found)
+    ∙ slice_get-front (sent_at time lane more source) (sent_on time lane more (source + 1) (256 - (source + 1))) left (slice_get_within (sent_at time lane more source) left t found)
     ∙ found
 
 pub arrival_left : (time : ℕ) (lane : Held) (more : List Pending) (i source left place : ℕ) → source < 256 → IsLeftOf time lane more i source left

@@ -3,13 +3,14 @@ use Rattle.std.proofs.Common.{◌≡◌, ℕ, zero, suc, ◌+◌, ◌-◌, ◌<�
 use Rattle.std.proofs.lemmas.Bool.{cases_lt}
 use Rattle.std.proofs.lemmas.Bool.Decides.{nat_tests}
 use Rattle.std.proofs.lemmas.List.{take_more}
-use Rattle.std.proofs.lemmas.Option.{slice_get-get_or}
+use Rattle.std.proofs.lemmas.Option.{slice_get-get_or, slice_get_within}
 use Rattle.rb_base.specs.Counting.{count_if}
+use Rattle.rb_base.proofs.Plain.{slice_get-back, slice_get-front}
 use Rattle.rb_rules.specs.WorldStep.{least}
 use Rattle.rb_rules.specs.Hearing.{Coming}
 use Rattle.rb_queue.specs.Waiting.{comes, coming_at, arrivals_at}
 use Rattle.rb_queue.specs.Scanning.{IsFirst, HasFirst, StandsAt, comes_before}
-use Rattle.rb_queue.proofs.Sources.{from_on, next_source, all_left, left_here, found_here, arrivals_are, passing_from, passing_next, get-left, get-right, is_within}
+use Rattle.rb_queue.proofs.Sources.{from_on, next_source, all_left, left_here, found_here, arrivals_are, passing_from, passing_next}
 
 -- ---- one event more
 
@@ -42,7 +43,7 @@ first_new arrivals place p f is same known before =
     omega (arith, so.1 at_once, source_at k q at there) in
     record {
       coming = p;
-      stands = ap (slice_get (arrivals ++ p ∷ [])) (let n : length arrivals ≡ length arrivals + 0 = omega arith in n) ∙ get-right arrivals (p ∷ []) 0;
+      stands = ap (slice_get (arrivals ++ p ∷ [])) (let n : length arrivals ≡ length arrivals + 0 = omega arith in n) ∙ slice_get-back arrivals (p ∷ []) 0;
       known = known;
       time = λ k q at. elim (is_last arrivals p q k at) [ inl old ↦ omega (arith, sooner, time_of k q old) | inr new ↦ subst (λ (r : Coming). p.time ≤ r.time) (sym new.1) (omega arith) ];
       source = λ k q at e. elim (is_last arrivals p q k at) [ inl old ↦ omega (arith, lower k q old e) | inr new ↦ subst (λ (r : Coming). p.from ≤ r.from) (sym new.1) (omega arith) ];
@@ -57,10 +58,10 @@ first_stays arrivals place p f is same after =
     let later : is.coming.time ≤ p.time = subst (λ (f : Coming). f.time ≤ p.time) (sym same) so.0 in
     let above : p.time ≡ is.coming.time → is.coming.from ≤ p.from =
     subst (λ (f : Coming). p.time ≡ f.time → f.from ≤ p.from) (sym same) so.1 in
-    let within : place < length arrivals = is_within arrivals place is.coming is.stands in
+    let within : place < length arrivals = slice_get_within arrivals place is.coming is.stands in
     record {
       coming = is.coming;
-      stands = get-left arrivals (p ∷ []) place within ∙ is.stands;
+      stands = slice_get-front arrivals (p ∷ []) place within ∙ is.stands;
       known = is.known;
       time = λ k q at. elim (is_last arrivals p q k at) [ inl old ↦ is.time k q old | inr new ↦ subst (λ (r : Coming). is.coming.time ≤ r.time) (sym new.1) later ];
       source = λ k q at. elim (is_last arrivals p q k at) [
@@ -145,7 +146,7 @@ first_coming arrivals place is =
     let f = is.coming in
     let time = f.time in
     let source = f.from in
-    let within : place < length arrivals = is_within arrivals place f is.stands in
+    let within : place < length arrivals = slice_get_within arrivals place f is.stands in
     let item : Some (get_or arrivals place f) ≡ Some f = sym (slice_get-get_or arrivals place f within) ∙ is.stands in
     let there : f ≡ get_or arrivals place f = cc in
     let none : (j : ℕ) → j < place → comes time source (get_or arrivals j f) ≡ false =
@@ -164,7 +165,7 @@ arrives_then arrivals place is =
     let source = is.coming.from in
     let known : source ≤ 255 = is.known in
     let stands = first_coming arrivals place is in
-    let here : 0 < length (coming_at time arrivals source) = is_within (coming_at time arrivals source) 0 (place, stands.coming) stands.found in
+    let here : 0 < length (coming_at time arrivals source) = slice_get_within (coming_at time arrivals source) 0 (place, stands.coming) stands.found in
     let parts = next_source time arrivals 0 source 256 (omega arith) (omega (arith, known)) (λ j low below. none_lower arrivals place is j below) in
     let all : 0 < length (from_on time arrivals 0 (256 - 0)) =
     subst (λ n. 0 < n) (sym (ap length parts ∙ length-append (coming_at time arrivals source) (from_on time arrivals (source + 1) (256 - (source + 1))))) (omega (arith, here)) in
@@ -218,7 +219,7 @@ first_is (x ∷ xs) place some first = first
 pub first_within : (arrivals : List Coming) (place : ℕ) → 0 < length arrivals → HasFirst arrivals place → place < length arrivals
 first_within arrivals place some first =
     let is = first_is arrivals place some first in
-    is_within arrivals place is.coming is.stands
+    slice_get_within arrivals place is.coming is.stands
 
 pub some_events : (arrivals : List Coming) (place : ℕ) → place < length arrivals → 0 < length arrivals
 some_events arrivals place within = omega (arith, within)
@@ -226,7 +227,7 @@ some_events arrivals place within = omega (arith, within)
 -- what stands at the place of the first
 pub same_first : (arrivals : List Coming) (place : ℕ) (f : Coming) → (is : IsFirst arrivals place) → f ≡ get_or arrivals place f → is.coming ≡ f
 same_first arrivals place f is at =
-    let within : place < length arrivals = is_within arrivals place is.coming is.stands in
+    let within : place < length arrivals = slice_get_within arrivals place is.coming is.stands in
     let same : Some is.coming ≡ Some (get_or arrivals place f) = sym is.stands ∙ slice_get-get_or arrivals place f within in
     let found : is.coming ≡ get_or arrivals place f = cc in
     found ∙ sym at

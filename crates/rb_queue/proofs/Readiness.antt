@@ -4,6 +4,7 @@ use Rattle.std.specs.Prelude.{option_to_list, unwrap_or}
 use Rattle.std.proofs.lemmas.Bool.Decides.{nat_tests}
 use Rattle.std.proofs.lemmas.List.{length-map}
 use Rattle.rb_base.specs.Counting.{count_if}
+use Rattle.rb_base.proofs.Plain.{eq_self}
 use Rattle.rb_rules.specs.Hearing.{Coming}
 use Rattle.rb_rules.specs.WorldStep.{least}
 use Rattle.rb_queue.specs.Waiting.{Held, IsFirstBefore, IsReadyBefore, IsTickReady, Ready, arrivals_at, head_of, ready_from, tick_at, unless_any}
@@ -62,11 +63,8 @@ none_at : (t : ℕ) (arrivals : List Coming) → ((k : ℕ) (c : Coming) → sli
 none_at t arrivals later =
     no_items (arrivals_at t arrivals) (count_arrivals t arrivals ∙ none_pass (is_between t 0 256) arrivals (λ k c at. not_at t c.time c.from (later k c at)))
 
-itself : (t : ℕ) → (t == t) ≡ true
-itself t = grind (arith, nat_tests)
-
 own_tick : (t : ℕ) → tick_at t (Some t) ≡ Ticks ∷ []
-own_tick t = ap (λ b. elim b [ true ↦ Ticks ∷ [] | false ↦ [] ]) (itself t)
+own_tick t = ap (λ b. elim b [ true ↦ Ticks ∷ [] | false ↦ [] ]) (eq_self t)
 
 -- the tick is ready where all comes later
 tick_then : (arrivals : List Coming) (room t time : ℕ) → ((k : ℕ) (c : Coming) → slice_get arrivals k ≡ Some c → t < c.time)

@@ -2,12 +2,12 @@
 use Rattle.std.proofs.Common.{◌≡◌, ℕ, zero, suc, ◌+◌, ◌-◌, ◌<◌, ◌≤◌, Bool, Option, Some, slice_get, List, [], ◌∷◌, ◌++◌, length, drop, get_or, refl, sym, ap, ◌∙◌, subst, arith, inl, inr}
 use Rattle.std.specs.Prelude.{max, remove}
 use Rattle.std.proofs.lemmas.List.{drop_more, length-drop}
+use Rattle.std.proofs.lemmas.Option.{slice_get_within}
 use Rattle.rb_rules.specs.Hearing.{Coming}
 use Rattle.rb_queue.specs.Waiting.{Held, without_place}
 use Rattle.rb_queue.specs.Scanning.{AreBy, AreSorted, HasFirst}
 use Rattle.rb_queue.specs.Keeping.{IsLane}
 use Rattle.rb_queue.proofs.First.{is_last}
-use Rattle.rb_queue.proofs.Sources.{is_within}
 
 -- the first of them stands in front
 pub sorted_first : (xs : List Coming) (f : Coming) → AreSorted xs → f ≡ get_or xs 0 f → f.from ≤ 255 → HasFirst xs 0
@@ -33,7 +33,7 @@ sorted_more xs x s above =
         | inr new ↦ subst (λ (r : Coming). (c.time ≤ r.time) × (c.time ≡ r.time → c.from ≤ r.from)) (sym new.1) (above j c old)
       ]
       | inr last ↦ elim (is_last xs x d k ak) [
-        | inl later ↦ absurd (omega (arith, le, last.0, is_within xs k d later))
+        | inl later ↦ absurd (omega (arith, le, last.0, slice_get_within xs k d later))
         | inr new ↦
             subst (λ (r : Coming). (c.time ≤ r.time) × (c.time ≡ r.time → c.from ≤ r.from)) (sym new.1)
             (subst (λ (q : Coming). (q.time ≤ x.time) × (q.time ≡ x.time → q.from ≤ x.from)) (sym last.1) (omega arith, λ e. omega arith))

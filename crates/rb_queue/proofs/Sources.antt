@@ -1,10 +1,11 @@
 -- The arrivals of a time by source: how many there are, and which is the i-th.
-use Rattle.std.proofs.Common.{◌≡◌, ℕ, zero, suc, ◌+◌, ◌-◌, ◌<◌, ◌≤◌, ◌==◌, ◌&&◌, nat_le, nat_lt, Bool, true, false, cond, Option, Some, None, slice_get, List, [], ◌∷◌, ◌++◌, length, filter, take, drop, get_or, refl, sym, ap, ◌∙◌, subst, arith, length-append, append_assoc, drop-cons, add-one}
+use Rattle.std.proofs.Common.{◌≡◌, ℕ, zero, suc, ◌+◌, ◌-◌, ◌<◌, ◌≤◌, ◌==◌, ◌&&◌, nat_le, nat_lt, Bool, true, false, cond, Some, slice_get, List, [], ◌∷◌, ◌++◌, length, filter, take, drop, get_or, refl, sym, ap, ◌∙◌, subst, arith, length-append, append_assoc, drop-cons, add-one}
 use Rattle.std.specs.List.{enumerate_from, flat_map, range_with_len}
 use Rattle.std.proofs.lemmas.Bool.Decides.{nat_tests}
-use Rattle.std.proofs.lemmas.Option.{slice_get-get_or}
+use Rattle.std.proofs.lemmas.Option.{slice_get-get_or, slice_get_within}
 use Rattle.rb_base.specs.Counting.{count_if}
 use Rattle.rb_base.proofs.Counts.{count_if-take_more}
+use Rattle.rb_base.proofs.Plain.{slice_get-back, slice_get-front}
 use Rattle.rb_rules.specs.Hearing.{Coming}
 use Rattle.rb_queue.specs.Waiting.{comes, coming_at, arrivals_at}
 use Rattle.rb_queue.specs.Scanning.{is_between, StandsAt}
@@ -14,21 +15,6 @@ unfoldable pub from_on : ℕ → List Coming → ℕ → ℕ → List (ℕ × Co
 from_on time arrivals a n = flat_map (coming_at time arrivals) (range_with_len a n)
 
 -- Lists.
-pub get-left : {X : Type 0} (xs ys : List X) (i : ℕ) → i < length xs → slice_get (xs ++ ys) i ≡ slice_get xs i
-get-left [] ys i h = absurd (omega arith)
-get-left (x ∷ xs) ys zero h = refl
-get-left (x ∷ xs) ys (suc i) h = get-left xs ys i (omega arith)
-
-pub get-right : {X : Type 0} (xs ys : List X) (i : ℕ) → slice_get (xs ++ ys) (length xs + i) ≡ slice_get ys i
-get-right [] ys i = ap (slice_get ys) (omega arith)
-get-right (x ∷ xs) ys i =
-    let e : length (x ∷ xs) + i ≡ suc (length xs + i) = omega arith in
-    ap (slice_get (x ∷ (xs ++ ys))) e ∙ get-right xs ys i
-
-pub is_within : {X : Type 0} (xs : List X) (i : ℕ) (x : X) → slice_get xs i ≡ Some x → i < length xs
-is_within {X} [] i x e = let no : ◌≡◌ {A = Option X} None (Some x) = e in cc
-is_within (y ∷ xs) zero x e = omega arith
-is_within (y ∷ xs) (suc i) x e = omega (arith, is_within xs i x e)
 
 pub no_items : {X : Type 0} (xs : List X) → length xs ≡ 0 → xs ≡ []
 no_items [] e = refl
@@ -47,11 +33,11 @@ length-coming q n (x ∷ xs) =
 pub length-coming_at : (time : ℕ) (arrivals : List Coming) (source : ℕ) → length (coming_at time arrivals source) ≡ count_if (comes time source) arrivals
 length-coming_at time arrivals source = length-coming (comes time source) 0 arrivals
 
-one_or_later : (s a e : ℕ) (b : Bool) → a < e
+pub one_or_later : (s a e : ℕ) (b : Bool) → a < e
     → cond ((s == a) && b) 1 0 + cond (nat_le (a + 1) s && nat_lt s e && b) 1 0 ≡ cond (nat_le a s && nat_lt s e && b) 1 0
 one_or_later s a e b h = grind (arith, nat_tests)
 
-never_both : (s a : ℕ) (b : Bool) → ◌≡◌ {A = ℕ} (cond (nat_le a s && nat_lt s a && b) 1 0) 0
+pub never_both : (s a : ℕ) (b : Bool) → ◌≡◌ {A = ℕ} (cond (nat_le a s && nat_lt s a && b) 1 0) 0
 never_both s a b = grind (arith, nat_tests)
 
 count_between : (time a e : ℕ) → a < e → (xs : List Coming) → count_if (comes time a) xs + count_if (is_between time (a + 1) e) xs ≡ count_if (is_between time a e) xs
@@ -146,7 +132,7 @@ all_left time arrivals i h =
     record {
       small = omega arith;
       some = subst (λ l. i < length l) (sym e) some;
-      same = ap (λ l. slice_get l i) e ∙ get-left (arrivals_at time arrivals) (from_on time arrivals 256 1) i h;
+      same = ap (λ l. slice_get l i) e ∙ slice_get-front (arrivals_at time arrivals) (from_on time arrivals 256 1) i h;
     }
 
 -- it is not of the next source
@@ -165,7 +151,7 @@ left_later time arrivals i first left s others is low high none many =
     record {
       small = omega arith;
       some = there;
-      same = sym (get-right (coming_at time arrivals s) later others) ∙ ap (slice_get (coming_at time arrivals s ++ later)) (sym at)
+      same = sym (slice_get-back (coming_at time arrivals s) later others) ∙ ap (slice_get (coming_at time arrivals s ++ later)) (sym at)
           ∙ ap (λ l. slice_get l left) (sym next) ∙ is.same;
     }
 
@@ -178,7 +164,7 @@ left_here time arrivals i first left s place is low high none at =
     record {
       coming = at.coming;
       found = sym is.same ∙ ap (λ l. slice_get l left) next
-          ∙ get-left (coming_at time arrivals s) (from_on time arrivals (s + 1) (257 - (s + 1))) left (is_within (coming_at time arrivals s) left (place, at.coming) at.found)
+          ∙ slice_get-front (coming_at time arrivals s) (from_on time arrivals (s + 1) (257 - (s + 1))) left (slice_get_within (coming_at time arrivals s) left (place, at.coming) at.found)
           ∙ at.found;
       stands = at.stands;
     }

@@ -1,75 +1,25 @@
 -- What is given without an event ends the run.
-use Rattle.std.proofs.Common.{◌≡◌, ℕ, suc, ◌+◌, ◌==◌, ◌&&◌, ◌||◌, not, nat_lt, Bool, true, false, List, [], ◌∷◌, ◌++◌, refl, ap, sym, ◌∙◌, arith, Option, Some, None, is_some, lit≤, if◌then◌else◌}
-use Rattle.std.proofs.lemmas.Bool.{le-ltb}
+use Rattle.std.proofs.Common.{◌≡◌, ℕ, suc, ◌+◌, ◌==◌, Bool, true, false, List, [], ◌∷◌, ◌++◌, refl, ap, ◌∙◌, Option, Some, None, if◌then◌else◌}
 use Rattle.std.proofs.lemmas.List.{append-nil}
-use Rattle.rb_base.specs.Nodes.{Side, has, size}
+use Rattle.rb_base.specs.Nodes.{Side}
 use Rattle.rb_base.specs.Nodes.Side.{Biu, Rmu}
 use Rattle.rb_base.specs.Sizes.{IsShape}
 use Rattle.rb_base.specs.declared.values.Place.{Place}
-use Rattle.rb_base.proofs.SetSizes.{size_none}
-use Rattle.rb_base.proofs.Sets.{has_none, is_set_of, same_set_of}
-use Rattle.rb_rules.specs.declared.cause.Cause.TheVariants.{FewGoodBiu, FewGoodRmu, TwoSided}
 use Rattle.rb_rules.specs.Book.{Begun, Book, Each, Milestone, Record, Row, after_verdict, frame_records, in_order, judged_of, map_from, with_stage}
 use Rattle.rb_rules.specs.Book.Milestone.{Begin, Stage, End}
 use Rattle.rb_rules.specs.ExactStage.{present}
 use Rattle.rb_rules.specs.Goodness.{Scenario, good_at, is_good}
-use Rattle.rb_rules.specs.Judging.{ClassSets, JudgedStage, are_few_good, cause_of, classes_of, some_asymmetric, trusted_now, verdict_of}
-use Rattle.rb_rules.specs.WorldStep.{Site, World, all_have_told, begun_for, comes_so, go_on, is_complete, needs_no_event, nobody_good, record_since, row_for, settle, settle_next, told_by_good}
+use Rattle.rb_rules.specs.Judging.{JudgedStage, verdict_of}
+use Rattle.rb_rules.specs.WorldStep.{Site, World, begun_for, go_on, needs_no_event, nobody_good, record_since, settle, settle_next, told_by_good}
 use Rattle.rb_rules.specs.WorldStep.Way.{ByItself}
 use Rattle.rb_laws_events.proofs.Alone.{nobody-each}
 use Rattle.rb_laws_events.proofs.Completing.{next_world}
+use Rattle.rb_laws_events.proofs.GivenAlone.{breach-alone, go-on-is, next-alone}
 use Rattle.rb_laws_events.proofs.SettledOnce.{FrameGiven, ended-still, frame-given, settle-still}
-use Rattle.rb_laws_events.proofs.Waiting.{no-good, told-all}
+use Rattle.rb_laws_events.proofs.Waiting.{no-good}
 use Rattle.rb_laws_events.proofs.WorldBooks.{none-past, settle_rest}
-use Rattle.rb_world.proofs.GoingOn.{going-settles}
-
--- Where nobody is good, all that is asked for has been told.
-
-none-asked : {X : Type 0} (sc : Scenario) (frame slot : ℕ) (tells : Site → Option X) (sites : Each Site) → IsShape sc.sizes → nobody_good sc frame slot ≡ true
-    → all_have_told sc frame slot tells sites ≡ true
-none-asked sc frame slot tells sites shape h =
-    told-all sc frame slot tells sites (λ me i s there. ap (λ b. not b || is_some (tells s)) (nobody-each sc frame slot shape h me i))
-
-complete-alone : (sc : Scenario) (sites : Each Site) (m : Milestone) → IsShape sc.sizes → needs_no_event sc m ≡ true → is_complete sc sites m ≡ true
-complete-alone sc sites (Begin frame) shape h = none-asked sc frame 0 (λ s. begun_for frame s.begun) sites shape h
-complete-alone sc sites (Stage place) shape h = none-asked sc place.frame place.slot (λ s. row_for place s.row) sites shape h
-complete-alone sc sites End shape h = refl
-
-next-alone : (sc : Scenario) (w : World) → IsShape sc.sizes → needs_no_event sc w.book.upcoming ≡ true → settle_next sc ByItself w ≡ next_world sc w w.book.upcoming
-next-alone sc w shape h =
-    ap (λ b. elim b as (λ _. World) [ true ↦ next_world sc w w.book.upcoming | false ↦ w ])
-    (ap (λ b. b && is_complete sc w.sites w.book.upcoming) (comes w.book.upcoming h) ∙ complete-alone sc w.sites w.book.upcoming shape h)
-  where
-    comes : (m : Milestone) → needs_no_event sc m ≡ true → comes_so sc ByItself m ≡ true
-    comes (Begin frame) h = h
-    comes (Stage place) h = h
-    comes End h = h
 
 -- A stage in which nobody is good is a breach.
-
-no-classes : (stages : List JudgedStage) (s : JudgedStage) → s.good Biu ≡ 0 → (classes_of Biu (s ∷ stages)).good ≡ 0
-unfolding classes_of
-no-classes stages s h =
-    same_set_of (λ j. has (trusted_now Biu (s ∷ stages)) j && has (s.good Biu) j) (λ j. false)
-    (λ j lt. ap (λ g. has (trusted_now Biu (s ∷ stages)) j && has g j) h ∙ ap (λ b. has (trusted_now Biu (s ∷ stages)) j && b) (has_none j) ∙ and-none (has (trusted_now Biu (s ∷ stages)) j))
-    ∙ sym (is_set_of 0 (λ j. false) (lit≤ tt) (λ j lt. has_none j))
-  where
-    and-none : (a : Bool) → (a && false) ≡ false
-    and-none true = refl
-    and-none false = refl
-
-few-cause : (a b : ClassSets) → are_few_good a ≡ true → cause_of a b ≡ Some FewGoodBiu
-few-cause a b few =
-    ap (λ t. if t then Some FewGoodBiu else (if are_few_good b then Some FewGoodRmu else (if some_asymmetric a && some_asymmetric b then Some TwoSided else None))) few
-
-breach-alone : (stages : List JudgedStage) (s : JudgedStage) → s.good Biu ≡ 0 → verdict_of (s ∷ stages) ≡ Some FewGoodBiu
-unfolding verdict_of
-breach-alone stages s h =
-    let c : ClassSets = classes_of Biu (s ∷ stages) in
-    let none : size c.good ≡ 0 = ap size (no-classes stages s h) ∙ size_none in
-    let few : are_few_good c ≡ true =
-    ap (λ n. not (nat_lt (size c.symmetric + size c.asymmetric) n)) none ∙ ap not (le-ltb (size c.symmetric + size c.asymmetric) 0 (omega arith)) in
-    few-cause c (classes_of Rmu (s ∷ stages)) few
 
 stage-over : (sc : Scenario) (place : Place) (rows : Each (Option Row)) (b : Book) → b.ended ≡ false → good_at sc Biu place.frame place.slot ≡ 0 → (with_stage sc place rows b).ended ≡ true
 unfolding with_stage
@@ -143,7 +93,7 @@ begin-settles sc n w frame shape going up nobody =
         (next ∙ ap (λ b. if b then End else Stage (record { frame = frame; slot = 0; stage = 1 })) e) nobody
 
 pub alone-ends : (sc : Scenario) (w : World) → IsShape sc.sizes → w.book.ended ≡ false → needs_no_event sc w.book.upcoming ≡ true → (go_on sc w).book.ended ≡ true
-alone-ends sc w shape going h = ap (λ (x : World). x.book.ended) (going-settles sc w going) ∙ by w.book.upcoming refl h
+alone-ends sc w shape going h = ap (λ (x : World). x.book.ended) (go-on-is sc w going) ∙ by w.book.upcoming refl h
   where
     by : (m : Milestone) → w.book.upcoming ≡ m → needs_no_event sc m ≡ true → (settle sc ByItself 2 w).book.ended ≡ true
     by (Begin frame) up h = begin-settles sc 0 w frame shape going up h

@@ -1,11 +1,12 @@
 -- In each world of a run what comes to a node has 1 to 32 bytes, and at a node that has stopped nothing is pending.
-use Rattle.std.proofs.Common.{◌≡◌, ℕ, zero, suc, ◌+◌, ◌<◌, ◌≤◌, ◌==◌, ◌&&◌, Bool, true, false, All, List, [], ◌∷◌, ◌++◌, length, remove, refl, sym, ◌∙◌, ap, subst, arith, cond, Option, Some, None, slice_get, option_map, map, filter}
+use Rattle.std.proofs.Common.{◌≡◌, ℕ, zero, suc, ◌+◌, ◌<◌, ◌≤◌, ◌==◌, ◌&&◌, Bool, true, false, All, List, [], ◌∷◌, ◌++◌, length, remove, refl, sym, ◌∙◌, ap, subst, arith, cond, Option, Some, None, slice_get, map, filter}
 use Rattle.std.specs.Prelude.{flat_map}
 use Rattle.std.specs.List.{range_with_len}
 use Rattle.std.proofs.lemmas.List.Elements.{All-head, All-tail}
-use Rattle.std.proofs.lemmas.Option.{slice_get_within}
+use Rattle.std.proofs.lemmas.Option.{same_Some, slice_get_within}
 use Rattle.rb_base.specs.Nodes.{Side, other}
 use Rattle.rb_base.specs.declared.values.Place.{Place}
+use Rattle.rb_base.proofs.Plain.{option_map-back, true-false}
 use Rattle.rb_rules.specs.declared.closing.Closed.{Closed}
 use Rattle.rb_rules.specs.declared.message.Message.{Message}
 use Rattle.rb_rules.specs.declared.message.Version.{Version}
@@ -36,9 +37,6 @@ use Rattle.rb_laws_events.proofs.WorldStands.{is_node, node-is}
 use Rattle.rb_world.specs.Worlds.{IsReached}
 use Rattle.rb_world.proofs.Ready.{due-reached}
 use Rattle.rb_record.proofs.Runs.{run-busy, run-idle, run-reached}
-
-true-false : {P : Type 0} → true ≡ false → P
-true-false e = absurd (cc)
 
 -- Bytes.
 
@@ -163,14 +161,10 @@ sent-sound sc me side j frame x i s is = by (same_side side (other me)) s.runs r
 abbrev pub AreSound : Each Site → Type 0
 AreSound sites = (me : Side) (i : ℕ) (s : Site) → slice_get (of_kind me sites) i ≡ Some s → IsSound s
 
-back-from : {X Y : Type 0} (f : X → Y) (o : Option X) (y : Y) → option_map f o ≡ Some y → (x : X) × ((o ≡ Some x) × (f x ≡ y))
-back-from f None y e = cc
-back-from f (Some x) y e = (x, (refl, let same : f x ≡ y = cc in same))
-
 each-sound : (f : Side → ℕ → Site → Site) (sites : Each Site) → ((me : Side) (i : ℕ) (s : Site) → slice_get (of_kind me sites) i ≡ Some s → IsSound s → IsSound (f me i s))
     → AreSound sites → AreSound (map_each f sites)
 each-sound f sites go h me i s e =
-    let was = back-from (f me i) (slice_get (of_kind me sites) i) s (sym (get-each f sites me i) ∙ e) in
+    let was = option_map-back (f me i) (slice_get (of_kind me sites) i) s (sym (get-each f sites me i) ∙ e) in
     subst IsSound was.1.1 (go me i was.0 was.1.0 (h me i was.0 was.1.0))
 
 at-sound : (me : Side) (i : ℕ) (change : Site → Site) (sites : Each Site) → ((s : Site) → slice_get (of_kind me sites) i ≡ Some s → IsSound s → IsSound (change s))
@@ -204,9 +198,6 @@ due-runs t s p ready is = by s.runs refl p ready
     by false e (Tick k) ready = let never : ◌≡◌ {A = Option _} None (Some ready.0) = sym (is.ahead e) ∙ ready.1.0 in absurd (cc)
     by false e (Arrival n c) ready = not-there n c s.coming (is.coming e) ready.0
 
-some-same : {X : Type 0} (a b : X) → Some a ≡ Some b → a ≡ b
-some-same a b e = cc
-
 pending-sound : (sc : Scenario) (w : World) (me : Side) (i : ℕ) (s : Site) (p : Pending) → IsLawful sc → slice_get (of_kind me w.sites) i ≡ Some s → s.runs ≡ true
     → AreSound w.sites → AreSound (with_pending sc w me i s p).sites
 unfolding with_act
@@ -214,10 +205,10 @@ pending-sound sc w me i s (Tick k) lawful there runs is =
     let x : Act = pass_and_tick sc w.ports me i k s.core in
     message-sound sc me i x.core.state.frame k x.message (at_node me i (after_act sc w.ports me i x) w.sites)
     (at-sound me i (after_act sc w.ports me i x) w.sites
-    (λ z at k. act-sound sc w.ports me i x z lawful (subst (λ (z : Site). z.runs ≡ true) (some-same s z (sym there ∙ at)) runs) k) is)
+    (λ z at k. act-sound sc w.ports me i x z lawful (subst (λ (z : Site). z.runs ≡ true) (same_Some s z (sym there ∙ at)) runs) k) is)
 pending-sound sc w me i s (Arrival place c) lawful there runs is =
     at-sound me i (after_arrival sc me i place c) w.sites
-    (λ z at k. arrival-sound sc me i place c z (subst (λ (z : Site). z.runs ≡ true) (some-same s z (sym there ∙ at)) runs) k) is
+    (λ z at k. arrival-sound sc me i place c z (subst (λ (z : Site). z.runs ≡ true) (same_Some s z (sym there ∙ at)) runs) k) is
 
 happens-sound : (sc : Scenario) (w : World) (d : Due) → IsLawful sc → IsDue w d → AreSound w.sites → AreSound (happens sc w d).sites
 unfolding happens
@@ -251,7 +242,7 @@ first-sound sc lawful me i s e =
     let within : i < length (of_kind me (each_of sc.sizes make)) = slice_get_within (of_kind me (each_of sc.sizes make)) i s e in
     let long : length (of_kind me (each_of sc.sizes make)) ≡ count_of me sc.sizes = first-counts sc.sizes make me in
     let made : slice_get (of_kind me (each_of sc.sizes make)) i ≡ Some (make me i) = get-made sc.sizes make me i (omega (arith, within, long)) in
-    subst IsSound (some-same (make me i) s (sym made ∙ e)) (proceed-sound sc me i (fresh_site sc.sizes me) lawful refl tt)
+    subst IsSound (same_Some (make me i) s (sym made ∙ e)) (proceed-sound sc me i (fresh_site sc.sizes me) lawful refl tt)
 
 pub run-sound : (sc : Scenario) (n : ℕ) → IsLawful sc → AreSound (first_run sc n).sites
 run-sound sc zero lawful = first-sound sc lawful

@@ -1,42 +1,34 @@
 -- How a run ends in which each step takes the first due event.
-use Rattle.std.proofs.Common.{◌≡◌, ◌⊎◌, ℕ, zero, suc, ◌+◌, ◌-◌, ◌^◌, ◌<◌, ◌≤◌, ◌||◌, Bool, true, false, Option, Some, None, List, [], ◌∷◌, ◌++◌, append_assoc, length, slice_get, refl, sym, ap, ◌∙◌, subst, arith, inl, inr}
-use Rattle.std.specs.Prelude.{flat_map, option_and_then, option_map}
+use Rattle.std.proofs.Common.{◌≡◌, ◌⊎◌, ℕ, zero, suc, ◌+◌, ◌-◌, ◌^◌, ◌<◌, ◌≤◌, Bool, true, false, Option, Some, None, List, [], ◌∷◌, ◌++◌, append_assoc, length, slice_get, refl, sym, ap, ◌∙◌, subst, arith, inl, inr}
+use Rattle.std.specs.Prelude.{option_and_then, option_map}
 use Rattle.std.specs.List.{last_or}
 use Rattle.std.proofs.lemmas.Bool.{cases_lt}
 use Rattle.std.proofs.lemmas.List.{append-nil}
 use Rattle.rb_base.specs.declared.event.Event.{Event}
 use Rattle.rb_base.specs.declared.node.NodeName.{NodeName}
-use Rattle.rb_base.specs.Nodes.{Side}
-use Rattle.rb_rules.specs.Book.{Record, in_order, of_kind}
+use Rattle.rb_base.proofs.Plain.{true-false}
+use Rattle.rb_rules.specs.Book.{Record, of_kind}
 use Rattle.rb_rules.specs.Goodness.{Scenario}
 use Rattle.rb_rules.specs.Lawful.{IsLawful}
 use Rattle.rb_rules.specs.Rounds.{records_of}
-use Rattle.rb_rules.specs.WorldStep.{Due, Pending, Site, World, due_at, due_of, event_at, event_of, first_world, go_on, happens, least, needs_no_event, settle, take, take_if_due, times_of, with_act, with_pending}
-use Rattle.rb_rules.specs.WorldStep.Pending.{Tick, Arrival}
-use Rattle.rb_rules.specs.WorldStep.Way.{ByAnEvent, ByItself}
+use Rattle.rb_rules.specs.WorldStep.{Due, World, due_of, event_at, event_of, first_world, go_on, needs_no_event, take}
 use Rattle.rb_laws_logs.specs.Given.{AreGiven, first_run, first_step, given_in, given_next, if_given}
+use Rattle.rb_laws_logs.proofs.Worlds.{go-on-hands, no-hands}
 use Rattle.rb_laws_events.proofs.EventsHold.{due-holds, events-hold, turns-hold}
-use Rattle.rb_laws_events.proofs.OneTake.{settle-hands}
 use Rattle.rb_laws_events.proofs.RoundNodes.{item-at}
 use Rattle.rb_laws_events.specs.Laws.{IsNextTurn}
-use Rattle.rb_world.specs.Nexts.{is_last}
 use Rattle.rb_world.specs.Worlds.{IsReached}
 use Rattle.rb_world.proofs.GoingOn.{ended-stays}
 use Rattle.rb_world.proofs.LastTurn.{reached-ends}
+use Rattle.rb_world.proofs.Numbered.{none-due}
+use Rattle.rb_world.proofs.Steps.{none-last}
 use Rattle.rb_record.proofs.Alone.{alone-ends}
 use Rattle.rb_record.proofs.Runs.{choices_of, few-steps, run-busy, run-idle, run-is, run-reached}
 
-true-false : {P : Type 0} → true ≡ false → P
-true-false e = absurd (cc)
-
 -- Nothing is due once the run has ended.
 
-pub ended-idle : (sc : Scenario) (w : World) → w.book.ended ≡ true → length (due_of sc w) ≡ 0
-unfolding due_of
-ended-idle sc w e = ap (λ b. length (elim (b || needs_no_event sc w.book.upcoming) as (λ _. List Due) [ true ↦ [] | false ↦ due_at sc w (least (flat_map times_of (in_order w.sites))) ])) e
-
 pub over-stays : (sc : Scenario) (n : ℕ) → (first_run sc n).book.ended ≡ true → first_run sc (suc n) ≡ first_run sc n
-over-stays sc n e = run-idle sc (first_run sc n) (ended-idle sc (first_run sc n) e) ∙ ended-stays sc (first_run sc n) e
+over-stays sc n e = run-idle sc (first_run sc n) (none-due sc (first_run sc n) e) ∙ ended-stays sc (first_run sc n) e
 
 pub still-over : (sc : Scenario) (n k : ℕ) → (first_run sc n).book.ended ≡ true → (first_run sc (n + k)).book.ended ≡ true
 still-over sc n zero e = let same : n + 0 ≡ n = omega arith in subst (λ m. (first_run sc m).book.ended ≡ true) (sym same) e
@@ -70,9 +62,6 @@ pub record EndsWith (w : World) : Type 0 where
   pub given : w.book.given ≡ before ++ last ∷ []
   pub turn : w.turn ≡ Some last
 
-none-last : {P : Type 0} (o : Option Record) → o ≡ None → is_last o ≡ true → P
-none-last o none last = absurd (cc)
-
 pub first-going : (sc : Scenario) → (first_world sc).book.ended ≡ false
 unfolding first_world
 first-going sc = refl
@@ -104,51 +93,6 @@ over-ends sc (suc n) lawful over = by (over-ends sc n lawful) (first_run sc n).b
     by before true e = subst EndsWith (sym (over-stays sc n e)) (before e)
     by before false e = one-ends sc (first_run sc n) (first_run sc (suc n)) (run-reached sc (suc n)) (next-turn sc (first_run sc n) lawful (run-reached sc n) e) over
 
--- nothing is handed in
-pending-hands : (sc : Scenario) (w : World) (me : Side) (i : ℕ) (s : Site) (p : Pending) → (with_pending sc w me i s p).hands ≡ w.hands
-unfolding with_act
-pending-hands sc w me i s (Tick k) = refl
-pending-hands sc w me i s (Arrival place c) = refl
-
-happens-hands : (sc : Scenario) (w : World) (d : Due) → (happens sc w d).hands ≡ w.hands
-unfolding happens
-happens-hands sc w d = by (slice_get (of_kind d.side w.sites) d.node)
-  where
-    by : (o : Option Site) → (elim o as (λ _. World) [ None ↦ w | Some s ↦ with_pending sc w d.side d.node s d.pending ]).hands ≡ w.hands
-    by None = refl
-    by (Some s) = pending-hands sc w d.side d.node s d.pending
-
-take-hands : (sc : Scenario) (w : World) → (take sc w 0).hands ≡ w.hands
-unfolding take
-take-hands sc w = by (slice_get (due_of sc w) 0)
-  where
-    by : (o : Option Due) → (take_if_due sc w o).hands ≡ w.hands
-    by None = refl
-    by (Some d) = settle-hands sc ByAnEvent 2 (happens sc w d) ∙ happens-hands sc w d
-
-go-hands : (sc : Scenario) (w : World) → (go_on sc w).hands ≡ w.hands
-unfolding go_on
-go-hands sc w = by w.book.ended
-  where
-    by : (b : Bool) → (elim b as (λ _. World) [ true ↦ w | false ↦ settle sc ByItself 2 w ]).hands ≡ w.hands
-    by true = refl
-    by false = settle-hands sc ByItself 2 w
-
-step-hands : (sc : Scenario) (w : World) → (first_step sc w).hands ≡ w.hands
-step-hands sc w = by (length (due_of sc w)) refl
-  where
-    by : (k : ℕ) → length (due_of sc w) ≡ k → (first_step sc w).hands ≡ w.hands
-    by zero e = ap (λ (x : World). x.hands) (run-idle sc w e) ∙ go-hands sc w
-    by (suc k) e = ap (λ (x : World). x.hands) (run-busy sc w (omega (arith, e))) ∙ take-hands sc w
-
-first-hands : (sc : Scenario) → (first_world sc).hands ≡ []
-unfolding first_world
-first-hands sc = refl
-
-pub run-hands : (sc : Scenario) (n : ℕ) → (first_run sc n).hands ≡ []
-run-hands sc zero = first-hands sc
-run-hands sc (suc n) = step-hands sc (first_run sc n) ∙ run-hands sc n
-
 last-of : (o : Option Record) (xs : List Record) (r : Record) → last_or o (xs ++ r ∷ []) ≡ Some r
 last-of o [] r = refl
 last-of o (x ∷ xs) r = last-of (Some x) xs r
@@ -160,7 +104,7 @@ ends-as-rounds sc n lawful over =
     let is = over-ends sc n lawful over in
     let whole : w.book.given ≡ records_of sc w.hands =
     subst (λ (x : World). x.book.ended ≡ true → x.book.given ≡ records_of sc x.hands) (sym (run-is sc n)) ((events-hold sc lawful).whole (choices_of sc n)) over in
-    is.turn ∙ sym (last-of None is.before is.last) ∙ ap (last_or None) (sym is.given ∙ whole ∙ ap (records_of sc) (run-hands sc n))
+    is.turn ∙ sym (last-of None is.before is.last) ∙ ap (last_or None) (sym is.given ∙ whole ∙ ap (records_of sc) (no-hands sc n))
 
 -- The run comes to its end.
 

@@ -1,6 +1,5 @@
 -- How a run ends is told by the turn that comes last.
-use Rattle.std.proofs.Common.{◌≡◌, ℕ, true, false, Option, Some, None, sym, ap, ◌∙◌, refl}
-use Rattle.rb_rules.specs.Book.{Record}
+use Rattle.std.proofs.Common.{◌≡◌, ℕ, true, false, Some, None, sym, ap, ◌∙◌}
 use Rattle.rb_rules.specs.Goodness.{Scenario}
 use Rattle.rb_rules.specs.Lawful.{IsLawful}
 use Rattle.rb_world_book.specs.Records.{record_of}
@@ -10,22 +9,9 @@ use Rattle.rb_world.specs.Nexts.{is_last}
 use Rattle.rb_world.proofs.LastTurn.{reached-ended}
 use Rattle.rb_run.specs.Runs.{EndsWith, end_at}
 use Rattle.rb_run.specs.declared.ending.Ending.{Ending}
+use Rattle.rb_run.proofs.UnderWay.{ends-last, goes-on}
 use Rattle.rb_record.proofs.Ends.{ends-as-rounds}
 use Rattle.rb_record.proofs.Runs.{run-reached}
-
-ends-last : (o : Option Record) (e : Ending) → end_at o ≡ Some e → is_last o ≡ true
-ends-last None e is = absurd (cc)
-ends-last (Some (Record.Frame frame nodes ports)) e is = absurd (cc)
-ends-last (Some (Record.Slot frame slot lines)) e is = absurd (cc)
-ends-last (Some Record.Ended) e is = refl
-ends-last (Some (Record.Breach place cause)) e is = refl
-
-goes-on : (o : Option Record) → end_at o ≡ None → is_last o ≡ false
-goes-on None is = refl
-goes-on (Some (Record.Frame frame nodes ports)) is = refl
-goes-on (Some (Record.Slot frame slot lines)) is = refl
-goes-on (Some Record.Ended) is = absurd (cc)
-goes-on (Some (Record.Breach place cause)) is = absurd (cc)
 
 -- the run goes on after a turn that does not end it
 pub turn-goes : (sc : Scenario) (n : ℕ) (t : Turn) → (first_run sc n).turn ≡ record_of t → end_at (record_of t) ≡ None → (first_run sc n).book.ended ≡ false

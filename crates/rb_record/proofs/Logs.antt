@@ -1,10 +1,11 @@
 -- What is recorded is a log.
-use Rattle.std.proofs.Common.{◌≡◌, ℕ, zero, suc, ◌+◌, ◌-◌, ◌^◌, ◌<◌, ◌≤◌, ◌&&◌, Bool, true, false, All, List, [], ◌∷◌, ◌++◌, get_or, length, refl, sym, ◌∙◌, ap, subst, arith, inl, inr, Option, Some, None, is_some, slice_get}
+use Rattle.std.proofs.Common.{◌≡◌, ℕ, zero, suc, ◌+◌, ◌^◌, ◌<◌, ◌≤◌, ◌&&◌, Bool, true, false, All, List, [], ◌∷◌, get_or, length, refl, sym, ◌∙◌, subst, arith, inl, inr, Option, Some, None, is_some, slice_get}
 use Rattle.std.specs.Prelude.{if◌then◌else◌}
 use Rattle.std.proofs.lemmas.Bool.{cases_lt}
-use Rattle.std.proofs.lemmas.List.{append-nil, get_or_past}
+use Rattle.std.proofs.lemmas.List.{get_or_past}
 use Rattle.std.proofs.lemmas.List.Elements.{All-append, All-cons, All-nil}
 use Rattle.std.proofs.lemmas.Nat.{mod_below}
+use Rattle.std.proofs.lemmas.Option.{same_Some}
 use Rattle.rb_base.specs.Nodes.{Side, other}
 use Rattle.rb_base.specs.Sizes.{Sizes}
 use Rattle.rb_base.specs.declared.event.Event.{Event}
@@ -23,6 +24,8 @@ use Rattle.rb_rules.specs.Slots.{count_of, role_of}
 use Rattle.rb_rules.specs.WorldStep.{Due, Pending, Site, World, event_at, event_of, wants_in, word_of}
 use Rattle.rb_rules.specs.WorldStep.Pending.{Tick, Arrival}
 use Rattle.rb_laws_logs.specs.Given.{first_run, given_in, given_next, is_before_end, site_of}
+use Rattle.rb_laws_logs.proofs.FirstRuns.{same-given}
+use Rattle.rb_laws_logs.proofs.Recorded.{ticks-append}
 use Rattle.rb_log.specs.Laws.{IsTellable, MayHappen, ticks_in}
 use Rattle.rb_log.specs.LogText.{senders_of}
 use Rattle.rb_log.specs.Writing.{given, ticks_given}
@@ -31,13 +34,13 @@ use Rattle.rb_laws_events.proofs.DueEvents.{IsDue, IsReady}
 use Rattle.rb_laws_events.proofs.PendingLists.{StandsAt}
 use Rattle.rb_laws_events.proofs.WorldNodes.{Known, worlds-known}
 use Rattle.rb_world.specs.Worlds.{IsReached}
+use Rattle.rb_world.proofs.Numbered.{none-due}
 use Rattle.rb_world.proofs.Ready.{due-reached}
 use Rattle.rb_record.specs.Laws.{OneLog, RecordedIsRead}
 use Rattle.rb_record.specs.Recording.{MayTell}
 use Rattle.rb_record.proofs.Comings.{AreSound, IsSound, run-sound}
-use Rattle.rb_record.proofs.Ends.{ended-idle, none-given, still-over}
 use Rattle.rb_record.proofs.Runs.{run-reached}
-use Rattle.rb_record.proofs.Ticks.{IsEvent, at-node, is-event, may-tell, next-is, sized-at, some-same, ticks-append}
+use Rattle.rb_record.proofs.Ticks.{IsEvent, at-node, is-event, may-tell, next-is, sized-at}
 
 -- Words.
 
@@ -77,7 +80,7 @@ event-happens : (sc : Scenario) (w : World) (e : Event) (name : NodeName) → Is
 event-happens sc w e name lawful reached sound is same =
     let d : Due = is.d in
     let due : IsDue w d = due-reached sc w 0 d reached is.found in
-    let one : due.s ≡ is.s = some-same due.s is.s (sym due.there ∙ is.there) in
+    let one : due.s ≡ is.s = same_Some due.s is.s (sym due.there ∙ is.there) in
     let known : Known sc.sizes d.side due.s.coming =
     subst (λ (x : World). (me : Side) (i : ℕ) (s : Site) → slice_get (of_kind me x.sites) i ≡ Some s → Known sc.sizes me s.coming) (sym reached.is) (worlds-known sc reached.choices).known d.side d.node due.s due.there in
     let at = at-node sc w e name is same in
@@ -142,19 +145,8 @@ recorded-read sc lawful name node events given =
 
 -- One list.
 
-given-still : (sc : Scenario) (name : NodeName) (n k : ℕ) → (first_run sc n).book.ended ≡ true → given_in sc name (n + k) ≡ given_in sc name n
-given-still sc name n zero over = let same : n + 0 ≡ n = omega arith in ap (given_in sc name) same
-given-still sc name n (suc k) over =
-    let same : n + suc k ≡ suc (n + k) = omega arith in
-    let none : given_next sc name (first_run sc (n + k)) ≡ [] = none-given sc name (first_run sc (n + k)) (ended-idle sc (first_run sc (n + k)) (still-over sc n k over)) in
-    ap (given_in sc name) same ∙ ap (λ (es : List Event). given_in sc name (n + k) ++ es) none ∙ append-nil (given_in sc name (n + k)) ∙ given-still sc name n k over
-
--- after more steps nothing is added
-still-given : (sc : Scenario) (name : NodeName) (m n : ℕ) → m ≤ n → (first_run sc m).book.ended ≡ true → given_in sc name n ≡ given_in sc name m
-still-given sc name m n le over = let same : m + (n - m) ≡ n = omega (arith, le) in ap (given_in sc name) (sym same) ∙ given-still sc name m (n - m) over
-
 pub one-list : OneLog
 one-list sc name events others given other = elim (cases_lt given.steps other.steps) [
-  | inl lt ↦ given.all ∙ sym (still-given sc name given.steps other.steps (omega (arith, lt)) given.over) ∙ sym other.all
-  | inr ge ↦ given.all ∙ still-given sc name other.steps given.steps ge other.over ∙ sym other.all
+  | inl lt ↦ given.all ∙ sym (same-given sc name given.steps other.steps (omega (arith, lt)) given.over) ∙ sym other.all
+  | inr ge ↦ given.all ∙ same-given sc name other.steps given.steps ge other.over ∙ sym other.all
 ]

@@ -6,9 +6,9 @@ use Rattle.rb_base.specs.declared.event.Event.{Event}
 use Rattle.rb_log.specs.Writing.{Tally, written}
 use Rattle.rb_outside.specs.Bytes.{AppendsPart}
 use Rattle.rb_outside.proofs.Known.{appends_join, appends_none, part_join, part_widens}
+use Rattle.rb_laws_logs.proofs.Recorded.{ticks-append}
 use Rattle.rb_record.specs.Buffering.{PassesOn}
 use Rattle.rb_record.specs.Recording.{IsTold, PassesNext, PassesPartOf}
-use Rattle.rb_record.proofs.Ticks.{ticks-append}
 
 -- Some events.
 

@@ -1,6 +1,5 @@
 -- A run in which each step takes the first due event.
-use Rattle.std.proofs.Common.{◌≡◌, ℕ, zero, suc, ◌+◌, ◌*◌, ◌^◌, ◌<◌, ◌≤◌, Some, None, List, [], ◌∷◌, ◌++◌, fold, length, slice_get, refl, sym, ap, ◌∙◌, subst, arith}
-use Rattle.std.proofs.lemmas.Nat.{mul-le}
+use Rattle.std.proofs.Common.{◌≡◌, ℕ, zero, suc, ◌+◌, ◌^◌, ◌<◌, ◌≤◌, Some, None, List, [], ◌∷◌, ◌++◌, fold, length, slice_get, refl, sym, ap, ◌∙◌, subst, arith}
 use Rattle.rb_rules.specs.Goodness.{Scenario}
 use Rattle.rb_rules.specs.Lawful.{IsLawful}
 use Rattle.rb_rules.specs.WorldStep.{Choice, Due, World, choose, due_of, first_world, go_on, take, world_after}
@@ -8,10 +7,11 @@ use Rattle.rb_rules.specs.WorldStep.Choice.{Take, GoOn}
 use Rattle.rb_laws_logs.specs.Given.{first_run, first_step, step_with}
 use Rattle.rb_laws_events.proofs.EventsHold.{ends-hold}
 use Rattle.rb_laws_events.proofs.EveryWorld.{after-more}
-use Rattle.rb_laws_events.specs.Laws.{most_at_once, most_takes, nodes_of, taken_by, takes_from}
+use Rattle.rb_laws_events.specs.Laws.{taken_by, takes_from}
 use Rattle.rb_world.specs.declared.ties.Ties.TheVariants.{First}
 use Rattle.rb_world.specs.Nexts.{Standing, after_steps, step, step_among}
 use Rattle.rb_world.specs.Worlds.{IsReached}
+use Rattle.rb_world.proofs.Steps.{few-takes}
 
 -- One step.
 
@@ -99,16 +99,6 @@ all-taken sc (suc n) some =
     let sum = takes-more sc (first_world sc) (choices_of sc n) c in
     let one : taken_by sc (world_after sc (choices_of sc n)) c ≡ 1 = subst (λ w. taken_by sc w c ≡ 1) (run-is sc n) (one-take sc (first_run sc n) (some n (omega arith))) in
     omega (arith, rest, sum, one)
-
-few-takes : (sc : Scenario) → IsLawful sc → most_takes sc < 2 ^ 63
-few-takes sc lawful =
-    let nodes : nodes_of sc.sizes ≤ 32 = let b = lawful.sizes.most_bius in let r = lawful.sizes.most_rmus in omega (arith, b, r) in
-    let says = lawful.few_says in
-    let up : nodes_of sc.sizes * length sc.says ≤ 32 * 1024 = mul-le (nodes_of sc.sizes) (length sc.says) 32 1024 nodes says in
-    let once : most_at_once sc ≤ 32800 = omega (arith, nodes, up) in
-    let all : 2 ^ 31 * (most_at_once sc + 1) + most_at_once sc ≤ 2 ^ 31 * 32801 + 32800 = omega (arith, once) in
-    let product = mul-le (nodes_of sc.sizes) (2 ^ 31 * (most_at_once sc + 1) + most_at_once sc) 32 (2 ^ 31 * 32801 + 32800) nodes all in
-    omega (arith, product)
 
 pub few-steps : (sc : Scenario) (n : ℕ) → IsLawful sc → ((m : ℕ) → m < n → 1 ≤ length (due_of sc (first_run sc m))) → n < 2 ^ 63
 few-steps sc n lawful some =

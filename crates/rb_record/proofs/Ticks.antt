@@ -2,40 +2,37 @@
 use Rattle.std.proofs.Common.{◌≡◌, ℕ, zero, suc, ◌+◌, ◌-◌, ◌^◌, ◌<◌, ◌≤◌, ◌==◌, ◌&&◌, max, Bool, true, false, List, [], ◌∷◌, ◌++◌, length, refl, sym, ◌∙◌, ap, subst, arith, Option, Some, None, slice_get}
 use Rattle.std.specs.Prelude.{option_and_then, option_map, if◌then◌else◌}
 use Rattle.std.proofs.lemmas.Bool.Decides.{nat_tests}
-use Rattle.std.proofs.lemmas.Option.{slice_get_within}
+use Rattle.std.proofs.lemmas.Option.{same_Some, slice_get_within}
 use Rattle.rb_base.specs.Nodes.{Side, other}
 use Rattle.rb_base.specs.Nodes.Side.{Biu, Rmu}
-use Rattle.rb_base.specs.Sizes.{Sizes}
 use Rattle.rb_base.specs.declared.event.Event.{Event}
 use Rattle.rb_base.specs.declared.node.NodeName.{NodeName}
 use Rattle.rb_base.specs.declared.node.NodeName.TheVariants as node
-use Rattle.rb_rules.specs.declared.closing.Closed.{Closed}
+use Rattle.rb_base.proofs.Plain.{eq-either_way, max-less, option_map-back}
 use Rattle.rb_rules.specs.declared.message.Message.{Message}
-use Rattle.rb_rules.specs.declared.record.Epoch.{Epoch}
 use Rattle.rb_rules.specs.Book.{Each, of_kind}
 use Rattle.rb_rules.specs.Clock.{stamp_of}
 use Rattle.rb_rules.specs.Core.{Act, Core, pass_to}
-use Rattle.rb_rules.specs.Goodness.{Scenario, clock_of, clock_place, is_good}
-use Rattle.rb_rules.specs.Hearing.{Coming, Sending, Span, coming_of}
+use Rattle.rb_rules.specs.Goodness.{Scenario, clock_of}
+use Rattle.rb_rules.specs.Hearing.{Coming, Sending, coming_of}
 use Rattle.rb_rules.specs.Lawful.{IsLawful, kind_of}
 use Rattle.rb_rules.specs.Links.{name_of, same_node}
-use Rattle.rb_rules.specs.NodeState.{NodeState}
 use Rattle.rb_rules.specs.Ports.{PortState}
 use Rattle.rb_rules.specs.Slots.{count_of, same_side}
-use Rattle.rb_rules.specs.Plan.{longest_of, shortest_of}
-use Rattle.rb_rules.specs.WorldStep.{Due, Pending, Site, Timed, World, after_act, after_arrival, at_node, await, due_of, enter, event_at, event_of, go_on, happens, pass_and_tick, proceed, says_in, sent_to, settle, span_from, stop, take, take_if_due, wants_in, with_act, with_close, with_epoch, with_message, with_pending, word_of}
+use Rattle.rb_rules.specs.WorldStep.{Due, Pending, Site, Timed, World, after_act, after_arrival, at_node, due_of, event_at, event_of, happens, pass_and_tick, sent_to, settle, take, take_if_due, wants_in, with_act, with_message, with_pending, word_of}
 use Rattle.rb_rules.specs.WorldStep.Pending.{Tick, Arrival}
-use Rattle.rb_rules.specs.WorldStep.Way.{ByAnEvent, ByItself}
-use Rattle.rb_rules.proofs.Drift.{clock_moves}
+use Rattle.rb_rules.specs.WorldStep.Way.{ByAnEvent}
 use Rattle.rb_rules.proofs.QuietTicks.{arrive-same}
-use Rattle.rb_rules.proofs.Stamps.{Moves, stamp_le, stamp_of-is}
+use Rattle.rb_rules.proofs.Stamps.{stamp_le, stamp_of-is}
 use Rattle.rb_rules.proofs.WindowNumbers.{get-each}
 use Rattle.rb_laws_logs.specs.Given.{first_run, given_in, given_next, if_given, index_of, is_before_end, site_of}
+use Rattle.rb_laws_logs.proofs.NodeRun.{go-on-sites}
+use Rattle.rb_laws_logs.proofs.NodeSites.{act-core}
+use Rattle.rb_laws_logs.proofs.Recorded.{ticks-append}
 use Rattle.rb_log.specs.Laws.{ticks_in}
 use Rattle.rb_log.specs.Writing.{HasBytes, ticks_given}
 use Rattle.rb_laws_events.proofs.DueEvents.{IsDue, IsReady}
 use Rattle.rb_laws_events.proofs.EventsHold.{any, ends-hold, nodes_at, ticks-left}
-use Rattle.rb_laws_events.proofs.CloseOrder.{shortest-some}
 use Rattle.rb_laws_events.proofs.EveryWorld.{AnyWorld, due-going}
 use Rattle.rb_laws_events.proofs.OneEvent.{all-pend}
 use Rattle.rb_laws_events.proofs.PendingLists.{StandsAt}
@@ -47,45 +44,13 @@ use Rattle.rb_laws_events.proofs.WorldStands.{AllPend, is_node, node-is}
 use Rattle.rb_world.specs.Worlds.{IsReached}
 use Rattle.rb_world.proofs.Ready.{due-reached}
 use Rattle.rb_world.proofs.InTime.{HasTick, reached-in-time}
+use Rattle.rb_laws_sweeps.proofs.SentLater.{node-moves}
 use Rattle.rb_record.specs.Recording.{MayTell}
 use Rattle.rb_record.proofs.Ends.{none-given}
 use Rattle.rb_record.proofs.Comings.{AreSized, AreSound, IsSized, IsSound, due-runs, run-sound}
 use Rattle.rb_record.proofs.Runs.{run-busy, run-idle, run-reached}
 
-pub some-same : {X : Type 0} (a b : X) → Some a ≡ Some b → a ≡ b
-some-same a b e = cc
-
-back-from : {X Y : Type 0} (f : X → Y) (o : Option X) (y : Y) → option_map f o ≡ Some y → (x : X) × ((o ≡ Some x) × (f x ≡ y))
-back-from f None y e = cc
-back-from f (Some x) y e = (x, (refl, let same : f x ≡ y = cc in same))
-
 -- How many ticks a node has had.
-
-proceed-core : (sc : Scenario) (me : Side) (i : ℕ) (s : Site) → (proceed sc me i s).core ≡ s.core
-unfolding proceed
-proceed-core sc me i s = by (span_from sc.sizes sc.plan me s.core.state s.core.had)
-  where
-    good : (span : Span) (b : Bool) → (elim b as (λ _. Site) [ true ↦ await sc me i (says_in sc me i span) s | false ↦ stop s ]).core ≡ s.core
-    good span true = refl
-    good span false = refl
-
-    by : (o : Option Span) → (enter sc me i o s).core ≡ s.core
-    by None = refl
-    by (Some span) = good span (is_good sc me i span.place.frame span.place.slot)
-
-close-core : (me : Side) (i : ℕ) (st : NodeState) (c : Option Closed) (s : Site) → (with_close me i st c s).core ≡ s.core
-close-core me i st None s = refl
-close-core me i st (Some c) s = refl
-
-epoch-core : (sc : Scenario) (ports : List PortState) (me : Side) (i : ℕ) (e : Option Epoch) (s : Site) → (with_epoch sc ports me i e s).core ≡ s.core
-epoch-core sc ports me i None s = refl
-epoch-core sc ports me i (Some e) s = refl
-
-act-core : (sc : Scenario) (ports : List PortState) (me : Side) (i : ℕ) (x : Act) (s : Site) → (after_act sc ports me i x s).core ≡ x.core
-unfolding after_act
-act-core sc ports me i x s =
-    let closed : Site = with_close me i x.core.state x.closed (record s { core = x.core }) in
-    proceed-core sc me i (with_epoch sc ports me i x.epoch closed) ∙ epoch-core sc ports me i x.epoch closed ∙ close-core me i x.core.state x.closed (record s { core = x.core })
 
 sent-core : (sc : Scenario) (me side : Side) (j frame : ℕ) (x : Sending) (i : ℕ) (s : Site) → (sent_to sc me j frame x side i s).core ≡ s.core
 sent-core sc me side j frame x i s = by (same_side side (other me) && s.runs)
@@ -105,7 +70,7 @@ message-before : (sc : Scenario) (me : Side) (j frame tick : ℕ) (m : Option Me
 message-before sc me j frame tick None sites side i z e = (z, (e, refl))
 message-before sc me j frame tick (Some m) sites side i z e =
     let f : Side → ℕ → Site → Site = sent_to sc me j frame (record { tick = tick; message = m }) in
-    let was = back-from (f side i) (slice_get (of_kind side sites) i) z (sym (get-each f sites side i) ∙ e) in
+    let was = option_map-back (f side i) (slice_get (of_kind side sites) i) z (sym (get-each f sites side i) ∙ e) in
     (was.0, (was.1.0, sym (ap (λ (s : Site). s.core) was.1.1) ∙ sent-core sc me side j frame (record { tick = tick; message = m }) i was.0))
 
 at-before : (me : Side) (j many : ℕ) (change : Site → Site) (sites : Each Site) (s : Site) (side : Side) (i : ℕ) (z : Site) → slice_get (of_kind me sites) j ≡ Some s
@@ -113,14 +78,14 @@ at-before : (me : Side) (j many : ℕ) (change : Site → Site) (sites : Each Si
     → WasBefore sites side i (elim (is_node me j side i) as (λ _. ℕ) [ true ↦ many | false ↦ 0 ]) z
 at-before me j many change sites s side i z there had e =
     let f : Side → ℕ → Site → Site = λ side n s. elim (same_side side me && (n == j)) as (λ _. Site) [ true ↦ change s | false ↦ s ] in
-    let was = back-from (f side i) (slice_get (of_kind side sites) i) z (sym (get-each f sites side i) ∙ e) in
+    let was = option_map-back (f side i) (slice_get (of_kind side sites) i) z (sym (get-each f sites side i) ∙ e) in
     by was.0 was.1.0 (is_node me j side i) refl was.1.1
   where
     by : (x : Site) → slice_get (of_kind side sites) i ≡ Some x → (b : Bool) → is_node me j side i ≡ b → (elim b as (λ _. Site) [ true ↦ change x | false ↦ x ]) ≡ z
         → WasBefore sites side i (elim b as (λ _. ℕ) [ true ↦ many | false ↦ 0 ]) z
     by x at true h same =
         let its = node-is me side j i h in
-        let one : x ≡ s = some-same x s (sym (ap (λ n. slice_get (of_kind me sites) n) (sym its.1) ∙ ap (λ k. slice_get (of_kind k sites) i) (sym its.0) ∙ at) ∙ there) in
+        let one : x ≡ s = same_Some x s (sym (ap (λ n. slice_get (of_kind me sites) n) (sym its.1) ∙ ap (λ k. slice_get (of_kind k sites) i) (sym its.0) ∙ at) ∙ there) in
         record { s = x; there = at; had = sym (ap (λ (y : Site). y.core.had) same) ∙ subst (λ y. (change y).core.had ≡ y.core.had + many) (sym one) had }
     by x at false h same = record { s = x; there = at; had = sym (ap (λ (y : Site). y.core.had) same) ∙ (let none : x.core.had ≡ x.core.had + 0 = omega arith in none) }
 
@@ -141,7 +106,7 @@ is-event sc w e = by (slice_get (due_of sc w) 0) refl
     at : (d : Due) → slice_get (due_of sc w) 0 ≡ Some d → (o : Option Site) → slice_get (of_kind d.side w.sites) d.node ≡ o
         → option_map (λ (s : Site). event_of sc w.ports d.side d.node s.core d.pending) o ≡ Some e → IsEvent sc w e
     at d found None there same = absurd (cc)
-    at d found (Some s) there same = record { d = d; found = found; s = s; there = there; is = sym (some-same (event_of sc w.ports d.side d.node s.core d.pending) e same) }
+    at d found (Some s) there same = record { d = d; found = found; s = s; there = there; is = sym (same_Some (event_of sc w.ports d.side d.node s.core d.pending) e same) }
 
     by : (o : Option Due) → slice_get (due_of sc w) 0 ≡ o
         → option_and_then (λ (d : Due). option_map (λ (s : Site). event_of sc w.ports d.side d.node s.core d.pending) (slice_get (of_kind d.side w.sites) d.node)) o ≡ Some e → IsEvent sc w e
@@ -195,15 +160,6 @@ tick-fits sc w d lawful reached found due a ahead time =
     let fits : HasTicksLeft sc w = ticks-left sc lawful w (subst (AnyWorld sc (nodes_at sc)) (sym reached.is) (any sc lawful reached.choices)) going.0 in
     fits.left d.side d.node due.s a due.there ahead (subst (λ t. AllPend t w.sites) (sym time) (all-pend w due.t due.first))
 
-place-within : (sizes : Sizes) (me : Side) (i n : ℕ) → n ≡ sizes.bius + sizes.rmus → i < count_of me sizes → clock_place sizes me i < n
-place-within sizes Biu i n e h = omega (arith, e, h)
-place-within sizes Rmu i n e h = omega (arith, e, h)
-
-moves-at : (sc : Scenario) → IsLawful sc → (me : Side) (i : ℕ) → i < count_of me sc.sizes → Moves (clock_of sc me i)
-moves-at sc lawful me i within =
-    clock_moves (shortest_of sc.plan) (longest_of sc.plan) (clock_of sc me i) (shortest-some sc lawful)
-    (lawful.clocks (clock_place sc.sizes me i) (record { start = 0; segments = [] }) (place-within sc.sizes me i (length sc.clocks) lawful.one_clock_each within))
-
 -- and an arrival that is due is stamped with one
 pub arrival-fits : (sc : Scenario) (w : World) (d : Due) → IsLawful sc → IsReached sc w → slice_get (due_of sc w) 0 ≡ Some d → (due : IsDue w d) → due.s.runs ≡ true → (time : ℕ) → time ≡ due.t
     → stamp_of (clock_of sc d.side d.node) time < 2 ^ 31
@@ -212,7 +168,7 @@ arrival-fits sc w d lawful reached found due runs time is =
     let counts : length (of_kind d.side w.sites) ≡ count_of d.side sc.sizes =
     subst (λ (x : World). length (of_kind d.side x.sites) ≡ count_of d.side sc.sizes) (sym reached.is) ((worlds-known sc reached.choices).counts d.side) in
     let lt : d.node < length (of_kind d.side w.sites) = slice_get_within (of_kind d.side w.sites) d.node due.s due.there in
-    let moves = moves-at sc lawful d.side d.node (omega (arith, counts, lt)) in
+    let moves = node-moves sc lawful d.side d.node (omega (arith, counts, lt)) in
     let later = h.later in
     let small = h.small in
     let le = stamp_le (clock_of sc d.side d.node) time (stamp_of (clock_of sc d.side d.node) time) h.k (stamp_of-is (clock_of sc d.side d.node) moves time) (omega (arith, later, is)) in
@@ -238,7 +194,7 @@ fits-by sc ports me i t s (Arrival place c) ready small tick arrival = let below
 pub event-fits : (sc : Scenario) (w : World) (e : Event) → IsLawful sc → IsReached sc w → AreSound w.sites → (is : IsEvent sc w e) → is.s.core.had + ticks_given e ≤ 2 ^ 31
 event-fits sc w e lawful reached sound is =
     let due : IsDue w is.d = due-reached sc w 0 is.d reached is.found in
-    let same : due.s ≡ is.s = some-same due.s is.s (sym due.there ∙ is.there) in
+    let same : due.s ≡ is.s = same_Some due.s is.s (sym due.there ∙ is.there) in
     let runs : due.s.runs ≡ true = due-runs due.t due.s is.d.pending due.ready (sound is.d.side is.d.node due.s due.there) in
     let small : due.s.core.had < 2 ^ 31 = room sc w lawful reached is.d.side is.d.node due.s due.there runs in
     let all : due.s.core.had + ticks_given (event_of sc w.ports is.d.side is.d.node due.s.core is.d.pending) ≤ 2 ^ 31 =
@@ -260,7 +216,7 @@ bytes-by sc ports me i t s (Arrival place c) ready is = (sized-at place c s.comi
 pub event-bytes : (sc : Scenario) (w : World) (e : Event) → IsReached sc w → AreSound w.sites → IsEvent sc w e → HasBytes e.kind
 event-bytes sc w e reached sound is =
     let due : IsDue w is.d = due-reached sc w 0 is.d reached is.found in
-    let same : due.s ≡ is.s = some-same due.s is.s (sym due.there ∙ is.there) in
+    let same : due.s ≡ is.s = same_Some due.s is.s (sym due.there ∙ is.there) in
     subst (λ (e : Event). HasBytes e.kind) (sym is.is)
     (subst (λ (s : Site). HasBytes (event_of sc w.ports is.d.side is.d.node s.core is.d.pending).kind) same
     (bytes-by sc w.ports is.d.side is.d.node due.t due.s is.d.pending due.ready (sound is.d.side is.d.node due.s due.there)))
@@ -273,14 +229,11 @@ tick-more had k le = omega (arith, le)
 arrival-more : (had stamp : ℕ) → max had stamp ≡ had + (stamp - had + 0)
 arrival-more had stamp = omega arith
 
-max-below : (had k n : ℕ) → had < n → k < n → max had k < n
-max-below had k n a b = omega (arith, a, b)
-
 tick-had-after : (sc : Scenario) (ports : List PortState) (me : Side) (i k : ℕ) (c : Core) → c.had < 2 ^ 31 → k < 2 ^ 31 → (pass_and_tick sc ports me i k c).core.had ≡ max c.had k + 1
 unfolding pass_and_tick
 tick-had-after sc ports me i k c small below =
     let ready : Core = pass_to k c in
-    tick-had sc.sizes sc.plan me i ready (word_of sc ports i (wants_in sc me i ready)) (max-below c.had k (2 ^ 31) small below)
+    tick-had sc.sizes sc.plan me i ready (word_of sc ports i (wants_in sc me i ready)) (max-less c.had k (2 ^ 31) small below)
 
 arrival-had-after : (sc : Scenario) (me : Side) (i place : ℕ) (c : Coming) (s : Site) → (after_arrival sc me i place c s).core.had ≡ max s.core.had (stamp_of (clock_of sc me i) c.time)
 unfolding after_arrival
@@ -310,14 +263,11 @@ pending-before sc w me j t s (Arrival place c) ready there small tick side i z e
 abbrev pub ticks_to : NodeName → Event → ℕ
 ticks_to name e = elim (same_node e.node name) [ true ↦ ticks_given e | false ↦ 0 ]
 
-swap : (i j : ℕ) → (i == j) ≡ (j == i)
-swap i j = grind (arith, nat_tests)
-
 same-is : (me : Side) (j : ℕ) (name : NodeName) → is_node me j (kind_of name) (index_of name) ≡ same_node (name_of me j) name
-same-is Biu j (node.Biu i) = swap i j
+same-is Biu j (node.Biu i) = eq-either_way i j
 same-is Biu j (node.Rmu i) = refl
 same-is Rmu j (node.Biu i) = refl
-same-is Rmu j (node.Rmu i) = swap i j
+same-is Rmu j (node.Rmu i) = eq-either_way i j
 
 -- a step with an event
 pub taken-before : (sc : Scenario) (w : World) (e : Event) (name : NodeName) (z : Site) → IsLawful sc → IsReached sc w → AreSound w.sites → IsEvent sc w e
@@ -335,7 +285,7 @@ taken-before sc w e name z lawful reached sound is at =
     let b = pending-before sc w d.side d.node due.t due.s d.pending due.ready due.there small
     (λ a ahead time. tick-fits sc w d lawful reached is.found due a ahead time) (kind_of name) (index_of name) z
     (ap (λ (ss : Each Site). slice_get (of_kind (kind_of name) ss) (index_of name)) (sym sites) ∙ at) in
-    let same : due.s ≡ is.s = some-same due.s is.s (sym due.there ∙ is.there) in
+    let same : due.s ≡ is.s = same_Some due.s is.s (sym due.there ∙ is.there) in
     let its : e ≡ event_of sc w.ports d.side d.node due.s.core d.pending = is.is ∙ ap (λ (s : Site). event_of sc w.ports d.side d.node s.core d.pending) (sym same) in
     let test : is_node d.side d.node (kind_of name) (index_of name) ≡ same_node e.node name =
     same-is d.side d.node name ∙ ap (λ n. same_node n name) (sym (ap (λ (e : Event). e.node) its ∙ event-node sc w.ports d.side d.node due.s.core d.pending)) in (
@@ -348,10 +298,6 @@ taken-before sc w e name z lawful reached sound is at =
     )
 
 -- What is recorded.
-
-pub ticks-append : (xs ys : List Event) → ticks_in (xs ++ ys) ≡ ticks_in xs + ticks_in ys
-ticks-append [] ys = omega arith
-ticks-append (x ∷ xs) ys = let rest = ticks-append xs ys in omega (arith, rest)
 
 -- at most the ticks that the node gets with it
 few-given : (sc : Scenario) (name : NodeName) (w : World) (e : Event) → ticks_in (if_given sc name w (Some e)) ≤ ticks_to name e
@@ -366,14 +312,6 @@ pub next-is : (sc : Scenario) (name : NodeName) (w : World) (o : Option Event) �
 unfolding given_next
 next-is sc name w o e = ap (if_given sc name w) e
 
-go-sites : (sc : Scenario) (w : World) → (go_on sc w).sites ≡ w.sites
-unfolding go_on
-go-sites sc w = by w.book.ended
-  where
-    by : (b : Bool) → (elim b as (λ _. World) [ true ↦ w | false ↦ settle sc ByItself 2 w ]).sites ≡ w.sites
-    by true = refl
-    by false = settle-sites sc ByItself 2 w
-
 -- the node has had all ticks that were recorded
 pub ticks-had : (sc : Scenario) (name : NodeName) (n : ℕ) (z : Site) → IsLawful sc → site_of name (first_run sc n) ≡ Some z → ticks_in (given_in sc name n) ≤ z.core.had
 ticks-had sc name zero z lawful at = omega arith
@@ -385,7 +323,7 @@ ticks-had sc name (suc n) z lawful at = by (ticks-had sc name n) (length (due_of
     -- where no event is due
     idle : ((x : Site) → IsLawful sc → site_of name w ≡ Some x → ticks_in (given_in sc name n) ≤ x.core.had) → length (due_of sc w) ≡ 0 → ticks_in (given_in sc name (suc n)) ≤ z.core.had
     idle had none =
-        let sites : (first_run sc (suc n)).sites ≡ w.sites = ap (λ (x : World). x.sites) (run-idle sc w none) ∙ go-sites sc w in
+        let sites : (first_run sc (suc n)).sites ≡ w.sites = ap (λ (x : World). x.sites) (run-idle sc w none) ∙ go-on-sites sc w in
         let before = had z lawful (ap (λ (ss : Each Site). slice_get (of_kind (kind_of name) ss) (index_of name)) (sym sites) ∙ at) in
         let sum = ticks-append (given_in sc name n) (given_next sc name w) in
         let nothing : ticks_in (given_next sc name w) ≡ 0 = ap ticks_in (none-given sc name w none) in

@@ -10,6 +10,7 @@ use Rattle.rb_rules.specs.Lawful.{IsLawful, kind_of}
 use Rattle.rb_rules.specs.Links.{same_node}
 use Rattle.rb_rules.specs.WorldStep.{Site, World, event_at}
 use Rattle.rb_laws_logs.specs.Given.{first_run, given_in, given_next, if_given, is_before_end, site_of}
+use Rattle.rb_laws_logs.proofs.Recorded.{ticks-append}
 use Rattle.rb_log.specs.Laws.{ticks_in}
 use Rattle.rb_log.specs.Writing.{ticks_given}
 use Rattle.rb_laws_sweeps.specs.Told.{Told, if_told, told_next}
@@ -20,7 +21,7 @@ use Rattle.rb_world.specs.Observing.{told_to}
 use Rattle.rb_record.specs.Observing.{all_of_log, of_log}
 use Rattle.rb_record.specs.Recording.{MayTell}
 use Rattle.rb_record.proofs.Runs.{after-first}
-use Rattle.rb_record.proofs.Ticks.{may-tell, ticks-append}
+use Rattle.rb_record.proofs.Ticks.{may-tell}
 
 -- One step.
 

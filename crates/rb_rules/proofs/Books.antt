@@ -1,7 +1,8 @@
 -- Records are only added to a book, and none after its last. So a run that stops there has all records.
-use Rattle.std.proofs.Common.{◌≡◌, ℕ, zero, suc, ◌+◌, ◌-◌, ◌≤◌, ◌==◌, Bool, true, false, List, [], ◌∷◌, ◌++◌, append_assoc, refl, sym, ◌∙◌, ap, arith, Option, Some, None, nat_lt, if◌then◌else◌}
+use Rattle.std.proofs.Common.{◌≡◌, ℕ, zero, suc, ◌+◌, ◌-◌, ◌≤◌, ◌==◌, Bool, true, false, List, [], ◌∷◌, ◌++◌, length, append_assoc, refl, sym, ◌∙◌, ap, arith, Option, Some, None, nat_lt, if◌then◌else◌}
 use Rattle.std.proofs.Math.Nat.{add-sub_of_le}
 use Rattle.std.proofs.lemmas.List.{append-nil}
+use Rattle.std.proofs.lemmas.Option.{slice_get_past}
 use Rattle.rb_base.specs.Sizes.{Sizes}
 use Rattle.rb_base.specs.declared.values.Place.{Place}
 use Rattle.rb_rules.specs.declared.cause.Cause.{Cause}
@@ -13,7 +14,7 @@ use Rattle.rb_rules.specs.Goodness.{Scenario}
 use Rattle.rb_rules.specs.Judging.{JudgedStage, verdict_of}
 use Rattle.rb_rules.specs.Ports.{HandIn}
 use Rattle.rb_rules.specs.Rounds.{Moment, Result, results_of, book_after, after_window, begin_frame, next_frame, first_moment, step, moment, until_end, steps_of, windows_in, records_of}
-use Rattle.rb_rules.specs.WorldStep.{IsPrefix}
+use Rattle.rb_rules.specs.WorldStep.{IsPrefix, World, record_since}
 
 pub prefix-refl : (xs : List Record) → IsPrefix xs xs
 prefix-refl xs = ([], sym (append-nil xs))
@@ -161,3 +162,10 @@ all-given sc hands n h le =
     let e : n + k ≡ steps_of sc = add-sub_of_le le in
     let same : (moment sc hands (n + k)).book ≡ (moment sc hands n).book = (moments-on sc hands n k).over h in
     ap (λ b. b.given) (sym same) ∙ ap (λ m. (moment sc hands m).book.given) e ∙ sym (records-are sc hands)
+
+pub begun-open : (sc : Scenario) (frame : ℕ) (begun : List Begun) (b : Book) → b.ended ≡ false → (with_frame sc frame begun b).ended ≡ false
+unfolding with_frame
+begun-open sc frame begun b h = rw (h, with_frame) refl
+
+pub record-same : (w : World) → record_since w w ≡ None
+record-same w = slice_get_past w.book.given (length w.book.given) (omega arith)

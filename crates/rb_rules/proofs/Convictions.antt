@@ -1,9 +1,10 @@
 -- For the laws of agreement: who is convicted, and who is not.
-use Rattle.std.proofs.Common.{◌≡◌, ℕ, ◌<◌, ◌≤◌, Bool, true, false, ◌&&◌, nat_lt, refl, ◌∙◌, ap, arith}
+use Rattle.std.proofs.Common.{◌≡◌, ℕ, ◌<◌, ◌≤◌, true, false, ◌&&◌, nat_lt, ◌∙◌, ap, arith}
 use Rattle.std.proofs.lemmas.Bool.Decides.{nat_tests}
 use Rattle.rb_base.specs.Nodes.{has}
 use Rattle.rb_base.proofs.Sets.{has-set_of}
 use Rattle.rb_base.specs.declared.values.Heard.{Heard}
+use Rattle.rb_base.proofs.Plain.{and-false}
 use Rattle.rb_rules.specs.Conviction.{naming, sparing, convicted_by}
 
 -- a node below 16 is convicted by the test that the definition names
@@ -20,13 +21,9 @@ named_is_convicted others senders trusted vector j below t more =
     let test : nat_lt (sparing others senders vector j) (naming others senders vector j) ≡ true = grind (arith, nat_tests) in
     convicted_is others senders trusted vector j below ∙ ap (λ b. has trusted j && b) test ∙ ap (λ b. b && true) t
 
-and_false : (b : Bool) → (b && false) ≡ false
-and_false true = refl
-and_false false = refl
-
 -- a node that no more vectors name than spare is not
 pub spared_is_not_convicted : (others senders trusted : ℕ) (vector : ℕ → Heard) (j : ℕ) → j < 16
     → naming others senders vector j ≤ sparing others senders vector j → has (convicted_by others senders trusted vector) j ≡ false
 spared_is_not_convicted others senders trusted vector j below few =
     let test : nat_lt (sparing others senders vector j) (naming others senders vector j) ≡ false = grind (arith, nat_tests) in
-    convicted_is others senders trusted vector j below ∙ ap (λ b. has trusted j && b) test ∙ and_false (has trusted j)
+    convicted_is others senders trusted vector j below ∙ ap (λ b. has trusted j && b) test ∙ and-false (has trusted j)

@@ -1,6 +1,6 @@
 -- A hand-in changes no moment before its frame, and no record of its frame's begin.
 use Rattle.std.proofs.Common.{◌≡◌, ℕ, zero, suc, ◌+◌, ◌<◌, ◌≤◌, ◌==◌, nat_lt, Bool, true, false, List, [], ◌∷◌, ◌++◌, refl, ◌∙◌, ap, arith, if◌then◌else◌}
-use Rattle.std.proofs.lemmas.Bool.Decides.{nat_tests}
+use Rattle.rb_base.proofs.Plain.{more-differs}
 use Rattle.rb_rules.specs.Book.{Each, Book, with_end}
 use Rattle.rb_rules.specs.Goodness.{Scenario}
 use Rattle.rb_rules.specs.NodeState.{NodeState}
@@ -18,9 +18,6 @@ begin-more : (sc : Scenario) (hands : List HandIn) (h : HandIn) (frame : ℕ) (n
 unfolding begin_frame
 begin-more sc hands h frame nodes ports b e =
     ap (λ ps. record (begin_frame sc hands frame nodes ports b) { ports = ps }) (handed-more frame hands h ports e)
-
-differs : (a b : ℕ) → b < a → (a == b) ≡ false
-differs a b h = grind (arith, nat_tests)
 
 stepped-rise : (sc : Scenario) (hands : List HandIn) (m : Moment) (over in_frame : Bool) → m.frame ≤ (stepped sc hands m over in_frame).frame
 unfolding after_window begin_frame
@@ -40,10 +37,10 @@ stepped-more sc hands h m false true lt = refl
 stepped-more sc hands h m true false lt =
     let below : m.frame + 1 < h.frame = lt in
     ap (λ (next : Moment). let x : Moment = record next { book = with_end m.book } in x)
-    (begin-more sc hands h (m.frame + 1) _ m.ports m.book (differs h.frame (m.frame + 1) below))
+    (begin-more sc hands h (m.frame + 1) _ m.ports m.book (more-differs h.frame (m.frame + 1) below))
 stepped-more sc hands h m false false lt =
     let below : m.frame + 1 < h.frame = lt in
-    begin-more sc hands h (m.frame + 1) _ m.ports m.book (differs h.frame (m.frame + 1) below)
+    begin-more sc hands h (m.frame + 1) _ m.ports m.book (more-differs h.frame (m.frame + 1) below)
 
 step-more : (sc : Scenario) (hands : List HandIn) (h : HandIn) (m : Moment) → (step sc hands m).frame < h.frame
     → step sc (hands ++ h ∷ []) m ≡ step sc hands m
@@ -54,7 +51,7 @@ step-more sc hands h m lt = stepped-more sc hands h m (m.frame == sc.frames) (na
 pub moments-more : (sc : Scenario) (hands : List HandIn) (h : HandIn) (n : ℕ) → (moment sc hands n).frame < h.frame
     → moment sc (hands ++ h ∷ []) n ≡ moment sc hands n
 unfolding begin_frame
-moments-more sc hands h zero lt = begin-more sc hands h 0 _ _ _ (differs h.frame 0 lt)
+moments-more sc hands h zero lt = begin-more sc hands h 0 _ _ _ (more-differs h.frame 0 lt)
 moments-more sc hands h (suc n) lt =
     let rise : (moment sc hands n).frame ≤ (step sc hands (moment sc hands n)).frame = step-rise sc hands (moment sc hands n) in
     let before : moment sc (hands ++ h ∷ []) n ≡ moment sc hands n = moments-more sc hands h n (omega arith) in

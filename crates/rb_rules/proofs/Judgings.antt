@@ -2,31 +2,13 @@
 -- another.
 use Rattle.std.proofs.Common.{◌≡◌, ℕ, Bool, true, false, ◌&&◌, ◌||◌, not, List, [], ◌∷◌, ◌⊎◌, inl, inr, sym, subst, refl}
 use Rattle.std.specs.List.{list_any}
+use Rattle.std.proofs.lemmas.Bool.{and_from, or_cases, or_right}
 use Rattle.rb_base.specs.Counting.{numbers}
 use Rattle.rb_base.specs.Nodes.{Side, other, has}
 use Rattle.rb_base.specs.declared.values.See.{See}
 use Rattle.rb_base.specs.declared.values.See.TheVariants.{Nothing, Value, Time}
+use Rattle.rb_base.proofs.Plain.{and_first, and_second}
 use Rattle.rb_rules.specs.Judging.{JudgedStage, are_alike, is_something, was_taken, was_unlike, is_asymmetric, is_benign}
-
-or_cases : (a b : Bool) → (a || b) ≡ true → (a ≡ true) ⊎ (b ≡ true)
-or_cases true b h = inl refl
-or_cases false b h = inr h
-
-or_second : (a b : Bool) → b ≡ true → (a || b) ≡ true
-or_second true b h = refl
-or_second false b h = h
-
-and_first : (a b : Bool) → (a && b) ≡ true → a ≡ true
-and_first true b h = refl
-and_first false b h = h
-
-and_second : (a b : Bool) → (a && b) ≡ true → b ≡ true
-and_second true b h = h
-and_second false b h = absurd (cc)
-
-and_both : (a b : Bool) → a ≡ true → b ≡ true → (a && b) ≡ true
-and_both true b ha hb = hb
-and_both false b ha hb = ha
 
 not_later : (a b : Bool) → not b ≡ false → not (a || b) ≡ false
 not_later true b h = refl
@@ -57,12 +39,12 @@ one_unlike eps good see a (y ∷ ys) h =
       | inl here ↦ elim (some_of_unlike eps a (see y) (and_second (good y) (not (are_alike eps a (see y))) here)) [
         | inl first ↦ inl first
         | inr second ↦
-            inr (let now : took good see y ≡ true = and_both (good y) (is_something (see y)) (and_first (good y) (not (are_alike eps a (see y))) here) second in
+            inr (let now : took good see y ≡ true = and_from (good y) (is_something (see y)) (and_first (good y) (not (are_alike eps a (see y))) here) second in
             let P : Bool → Type 0 = λ t. (t || list_any (took good see) ys) ≡ true in subst P (sym now) refl)
       ]
       | inr later ↦ elim (one_unlike eps good see a ys later) [
         | inl first ↦ inl first
-        | inr second ↦ inr (or_second (took good see y) (list_any (took good see) ys) second)
+        | inr second ↦ inr (or_right (took good see y) (list_any (took good see) ys) second)
       ]
     ]
 
@@ -76,11 +58,11 @@ some_unlike eps good see (x ∷ xs) ys h =
     let P : Bool → Type 0 = λ t. (t || list_any (took good see) xs) ≡ true in
     elim (or_cases (good x && inner) (list_any (λ a. good a && list_any (differs eps good see (see a)) ys) xs) h) [
       | inl here ↦ elim (one_unlike eps good see (see x) ys (and_second (good x) inner here)) [
-        | inl first ↦ inl (subst P (sym (and_both (good x) (is_something (see x)) (and_first (good x) inner here) first)) refl)
+        | inl first ↦ inl (subst P (sym (and_from (good x) (is_something (see x)) (and_first (good x) inner here) first)) refl)
         | inr second ↦ inr second
       ]
       | inr later ↦ elim (some_unlike eps good see xs ys later) [
-        | inl first ↦ inl (or_second (took good see x) (list_any (took good see) xs) first)
+        | inl first ↦ inl (or_right (took good see x) (list_any (took good see) xs) first)
         | inr second ↦ inr second
       ]
     ]

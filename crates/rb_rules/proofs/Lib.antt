@@ -1,3 +1,4 @@
+pub mod Slots
 pub mod Stamps
 pub mod Lawfulness
 pub mod Drift

@@ -1,5 +1,5 @@
 -- As many passes as there are data slots are enough: more of them give the same owners.
-use Rattle.std.proofs.Common.{◌≡◌, ℕ, zero, suc, ◌+◌, ◌≤◌, Bool, true, false, ◌&&◌, nat_lt, cond, List, [], ◌∷◌, ◌++◌, take, filter, get_or, refl, sym, ◌∙◌, ap, arith}
+use Rattle.std.proofs.Common.{◌≡◌, ℕ, zero, suc, ◌+◌, ◌≤◌, Bool, true, false, ◌&&◌, nat_lt, List, [], ◌∷◌, ◌++◌, take, get_or, refl, sym, ◌∙◌, ap, arith}
 use Rattle.std.specs.List.{flat_map, range_with_len}
 use Rattle.std.proofs.lemmas.Bool.Decides.{nat_tests}
 use Rattle.rb_base.specs.Counting.{numbers}
@@ -7,6 +7,7 @@ use Rattle.rb_base.specs.Nodes.{has}
 use Rattle.rb_base.specs.Sizes.{Sizes}
 use Rattle.rb_base.specs.declared.values.Heard.{Heard}
 use Rattle.rb_base.specs.declared.values.Heard.TheVariants.{Fault}
+use Rattle.rb_base.proofs.Plain.{filter-fewer}
 use Rattle.rb_rules.specs.Owners.{request_in, owners_in_pass, owners_in_passes, owners_of}
 
 -- lists that begin alike begin alike after a list
@@ -45,20 +46,6 @@ same_first pass stops (suc n) (suc m) p (suc d) le_n le_m =
     ] in
     go (pass p) refl
 
--- where none passes a test, none passes one that asks for more
-none_pass : (t u : ℕ → Bool) → ((i : ℕ) → u i ≡ true → t i ≡ true) → (is : List ℕ) → filter t is ≡ [] → filter u is ≡ []
-none_pass t u more [] none = refl
-none_pass t u more (i ∷ is) none =
-    let go : (b c : Bool) → (c ≡ true → b ≡ true) → cond b (i ∷ filter t is) (filter t is) ≡ [] → cond c (i ∷ filter u is) (filter u is) ≡ [] =
-    λ b c. elim b as (λ b. (c ≡ true → b ≡ true) → cond b (i ∷ filter t is) (filter t is) ≡ [] → cond c (i ∷ filter u is) (filter u is) ≡ []) [
-      | true ↦ λ gives some. cc
-      | false ↦ elim c as (λ c. (c ≡ true → false ≡ true) → filter t is ≡ [] → cond c (i ∷ filter u is) (filter u is) ≡ []) [
-        | true ↦ λ gives rest. let no : false ≡ true = gives refl in cc
-        | false ↦ λ gives rest. none_pass t u more is rest
-      ]
-    ] in
-    go (t i) (u i) (more i) none
-
 -- who asks for more than p + 1 slots asks for more than p
 asks_for_more : (a : Bool) (p asked : ℕ) → (a && nat_lt (p + 1) asked) ≡ true → (a && nat_lt p asked) ≡ true
 asks_for_more true p asked h = grind (arith, nat_tests)
@@ -68,6 +55,6 @@ pub enough_passes : (sizes : Sizes) (trusted : ℕ) (requests : List Heard) (n :
     → owners_in_passes sizes trusted requests n ≡ owners_of sizes trusted requests
 enough_passes sizes trusted requests n le =
     same_first (owners_in_pass sizes trusted requests)
-    (λ p. none_pass (λ i. has trusted i && nat_lt p (request_in (get_or requests i Fault))) (λ i. has trusted i && nat_lt (p + 1) (request_in (get_or requests i Fault)))
+    (λ p. filter-fewer (λ i. has trusted i && nat_lt p (request_in (get_or requests i Fault))) (λ i. has trusted i && nat_lt (p + 1) (request_in (get_or requests i Fault)))
     (λ i. asks_for_more (has trusted i) p (request_in (get_or requests i Fault))) (numbers sizes.bius))
     n sizes.data_slots 0 sizes.data_slots le (omega arith)

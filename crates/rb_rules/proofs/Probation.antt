@@ -3,6 +3,7 @@ use Rattle.std.proofs.Common.{◌≡◌, ℕ, suc, ◌+◌, ◌-◌, ◌<◌, �
 use Rattle.std.proofs.lemmas.Bool.Decides.{nat_tests}
 use Rattle.std.proofs.lemmas.List.FromFn.{get_or-map-range_with_len}
 use Rattle.rb_base.specs.Nodes.{has}
+use Rattle.rb_base.proofs.Plain.{or-false, or-true}
 use Rattle.rb_base.proofs.Sets.{has-set_of, has_none}
 use Rattle.rb_rules.specs.Probation.{has_lapsed, newest_with, StandsForNewest, HasNewest, LapsesByFrames}
 use Rattle.rb_rules.specs.Standing.{Standing, calm_after, first_standing, lapses, next_calm, standing_at_end, with_evidence}
@@ -10,14 +11,6 @@ use Rattle.rb_rules.specs.Standing.{Standing, calm_after, first_standing, lapses
 -- at first nobody is accused
 pub nobody_is_accused : (count : ℕ) (newest : ℕ → ℕ) → HasNewest (first_standing count) 0 newest
 nobody_is_accused count newest j below accused = let none : false ≡ true = sym (has_none j) ∙ accused in cc
-
-or_true : (b : Bool) → (b || true) ≡ true
-or_true true = refl
-or_true false = refl
-
-or_false : (b : Bool) → (b || false) ≡ b
-or_false true = refl
-or_false false = refl
 
 -- evidence is of the frame in which it comes
 pub evidence_is_newest : (evidence : ℕ → Bool) (s : Standing) (frame : ℕ) (newest : ℕ → ℕ) → HasNewest s frame newest
@@ -29,12 +22,12 @@ evidence_is_newest evidence s frame newest is j below accused =
         → StandsForNewest (with_evidence evidence s) frame j (if b then frame else newest j)
     go true e direct fresh = record {
       fresh = λ h. refl;
-      earlier = λ h. let no : true ≡ false = sym (or_true (has s.fresh j)) ∙ sym fresh ∙ h in cc;
-      calm = λ h. let no : true ≡ false = sym (or_true (has s.fresh j)) ∙ sym fresh ∙ h in cc;
+      earlier = λ h. let no : true ≡ false = sym (or-true (has s.fresh j)) ∙ sym fresh ∙ h in cc;
+      calm = λ h. let no : true ≡ false = sym (or-true (has s.fresh j)) ∙ sym fresh ∙ h in cc;
     }
     go false e direct fresh =
-        let was : StandsForNewest s frame j (newest j) = is j below (sym (or_false (has s.direct j)) ∙ direct) in
-        let same : has s.fresh j ≡ has (with_evidence evidence s).fresh j = sym (fresh ∙ or_false (has s.fresh j)) in
+        let was : StandsForNewest s frame j (newest j) = is j below (sym (or-false (has s.direct j)) ∙ direct) in
+        let same : has s.fresh j ≡ has (with_evidence evidence s).fresh j = sym (fresh ∙ or-false (has s.fresh j)) in
         record { fresh = λ h. was.fresh (same ∙ h); earlier = λ h. was.earlier (same ∙ h); calm = λ h. was.calm (same ∙ h) }
 
 -- the calm after a frame counts the frames since that of the newest evidence, and that is not a later one

@@ -1,8 +1,10 @@
 -- Quiet ticks are only counted, and arrivals don't change which ticks are quiet.
 use Rattle.std.proofs.Common.{◌≡◌, ℕ, zero, suc, ◌+◌, ◌-◌, ◌^◌, ◌<◌, ◌≤◌, ◌==◌, ◌||◌, ◌&&◌, not, nat_lt, Bool, true, false, List, [], ◌∷◌, ◌++◌, refl, sym, ◌∙◌, ap, subst, arith, Option, Some, None, is_some}
+use Rattle.std.proofs.lemmas.Bool.{or_parts}
 use Rattle.std.proofs.lemmas.Bool.Decides.{nat_tests}
 use Rattle.rb_base.specs.Nodes.{Side, other}
 use Rattle.rb_base.specs.Sizes.{Sizes}
+use Rattle.rb_base.proofs.Plain.{none-from}
 use Rattle.rb_rules.specs.declared.plan.Plan.{Plan}
 use Rattle.rb_rules.specs.Conviction.{turn}
 use Rattle.rb_rules.specs.Core.{Core, Act, is_spent, arrive, is_tick, state_at, said_at, is_last, epoch_at, state_kept, act_on, act_at, window_here, of_source, tick, is_busy, busy_among, next_tick, ticks}
@@ -19,14 +21,6 @@ pub record IsQuiet (sizes : Sizes) (plan : Plan) (me : Side) (index : ℕ) (st :
   pub no_begin : (st.epoch == k) ≡ false
   pub no_close : is_last sizes plan me st k ≡ false
   pub no_message : said_at sizes plan me index st 0 k ≡ None
-
-none-from : {X : Type 0} (o : Option X) → is_some o ≡ false → o ≡ None
-none-from None h = refl
-none-from (Some x) h = cc
-
-or-false : (a b : Bool) → (a || b) ≡ false → (a ≡ false) × (b ≡ false)
-or-false true b h = cc
-or-false false b h = (refl, h)
 
 -- the state at a tick, by the tick of the next epoch
 abbrev turning : Sizes → Plan → Side → NodeState → ℕ → Option ℕ → NodeState
@@ -47,7 +41,7 @@ turning-same sizes plan me st k (Some epoch) h = at-once (epoch == k) refl h
     at-once true e h = cc
     at-once false e h = refl
 
-state-same : (sizes : Sizes) (plan : Plan) (me : Side) (st : NodeState) (k : ℕ)
+pub state-same : (sizes : Sizes) (plan : Plan) (me : Side) (st : NodeState) (k : ℕ)
     → ((state_at sizes plan me st k).epoch == k) ≡ false → state_at sizes plan me st k ≡ st
 unfolding state_at
 state-same sizes plan me st k = turning-same sizes plan me st k (new_epoch_of plan me st)
@@ -57,8 +51,8 @@ pub quiet-from : (sizes : Sizes) (plan : Plan) (me : Side) (index : ℕ) (st : N
 unfolding is_busy
 quiet-from sizes plan me index st k h =
     let now : NodeState = state_at sizes plan me st k in
-    let last = or-false ((now.epoch == k) || is_last sizes plan me now k) (is_some (said_at sizes plan me index now 0 k)) h in
-    let parts = or-false (now.epoch == k) (is_last sizes plan me now k) last.0 in
+    let last = or_parts ((now.epoch == k) || is_last sizes plan me now k) (is_some (said_at sizes plan me index now 0 k)) h in
+    let parts = or_parts (now.epoch == k) (is_last sizes plan me now k) last.0 in
     let same : now ≡ st = state-same sizes plan me st k parts.0 in
     record {
       no_turn = same;
@@ -67,7 +61,7 @@ quiet-from sizes plan me index st k h =
       no_message = ap (λ s. said_at sizes plan me index s 0 k) (sym same) ∙ none-from (said_at sizes plan me index now 0 k) last.1;
     }
 
-not-spent : (c : Core) → c.had < 2 ^ 31 → is_spent c ≡ false
+pub not-spent : (c : Core) → c.had < 2 ^ 31 → is_spent c ≡ false
 not-spent c h = grind (arith, nat_tests)
 
 -- an act in which nothing happens

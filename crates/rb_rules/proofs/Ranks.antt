@@ -18,7 +18,7 @@ pub up_to-below : (m n : ℕ) (stamps : List ℕ) → m < n → up_to m stamps �
 up_to-below m n stamps less =
     count_if-le (λ x. nat_le x m) (λ x. nat_lt x n) (λ x le. let at_most : x ≤ m = leb-true x m le in lt-ltb x n (omega arith)) stamps
 
-below-le : (m n : ℕ) (stamps : List ℕ) → m ≤ n → below m stamps ≤ below n stamps
+pub below-le : (m n : ℕ) (stamps : List ℕ) → m ≤ n → below m stamps ≤ below n stamps
 below-le m n stamps le =
     count_if-le (λ x. nat_lt x m) (λ x. nat_lt x n) (λ x lt. let less : x < m = ltb-true x m lt in lt-ltb x n (omega arith)) stamps
 

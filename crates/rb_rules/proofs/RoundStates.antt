@@ -6,6 +6,7 @@ use Rattle.rb_base.specs.Nodes.{Side}
 use Rattle.rb_base.specs.Nodes.Side.{Biu, Rmu}
 use Rattle.rb_base.specs.Sizes.{Sizes, sync_slot_of}
 use Rattle.rb_base.specs.declared.values.Heard.{Heard}
+use Rattle.rb_base.proofs.Plain.{eq_self, less-differs}
 use Rattle.rb_rules.specs.declared.closing.Closing.{Closing}
 use Rattle.rb_rules.specs.declared.plan.Plan.{Plan}
 use Rattle.rb_rules.specs.declared.plan.Window.{Window}
@@ -26,10 +27,6 @@ use Rattle.rb_rules.specs.SyncStage.{close_sync, sync_outcome_of}
 use Rattle.rb_rules.specs.Plan.{tail_start_of}
 use Rattle.rb_rules.specs.Windows.{window_of, exact_window}
 use Rattle.rb_rules.proofs.WindowNumbers.{get-each, exact-numbered, exact-slot, sync-numbered}
-
-option-twice : {X Y Z : Type 0} (f : X → Y) (g : Y → Z) (o : Option X) → option_map g (option_map f o) ≡ option_map (λ x. g (f x)) o
-option-twice f g None = refl
-option-twice f g (Some x) = refl
 
 -- a node's state after a window
 pub state-after : (sc : Scenario) (m : Moment) (me : Side) (i : ℕ) (st : NodeState) → slice_get (of_kind me m.nodes) i ≡ Some st
@@ -246,12 +243,6 @@ closed : Sizes → Side → ℕ → NodeState → ℕ → ℕ → ℕ → (ℕ �
 closed sizes me i st slot stage first sense in_sync =
     elim in_sync [ true ↦ close_sync sizes me st stage (st.epoch + first) sense | false ↦ close_exact sizes me i st slot stage sense ]
 
-equal-true : (a : ℕ) → (a == a) ≡ true
-equal-true a = grind (arith, nat_tests)
-
-less-false : (a b : ℕ) → a < b → (a == b) ≡ false
-less-false a b h = grind (arith, nat_tests)
-
 on-knows : (sc : Scenario) (me : Side) (i n : ℕ) (st : NodeState) (w : Window) (heard : ℕ → List Coming) (in_sync : Bool) → (w.slot == sync_slot_of sc.sizes) ≡ in_sync
     → ((sense : ℕ → Sense) → Knows sc.sizes me n (closed sc.sizes me i st w.slot w.stage w.first sense in_sync).state) → Knows sc.sizes me n (close_on sc me i st w heard).state
 unfolding close_on closed
@@ -300,7 +291,7 @@ exact-case sc m sent me i n st ticks lt =
     let e : window_numbered sc.sizes sc.plan me st n ≡ exact_window sc.plan n = exact-numbered sc.sizes sc.plan me st n lt in
     let some : 1 ≤ sc.plan.l = ticks.l in
     subst (λ w. is_good sc me i m.frame w.slot ≡ true → Knows sc.sizes me n st → Knows sc.sizes me (n + 1) (go_through sc m sent me i st w).state) (sym e)
-    (λ good h. through-knows sc m sent me i n st (exact_window sc.plan n) false (less-false (n / 3) (sync_slot_of sc.sizes) (exact-slot sc.sizes n lt)) good h
+    (λ good h. through-knows sc m sent me i n st (exact_window sc.plan n) false (less-differs (n / 3) (sync_slot_of sc.sizes) (exact-slot sc.sizes n lt)) good h
     (λ kept sense before. exact-knows sc.sizes me i kept (n / 3) (n % 3 + 1) n sense lt before)
     (never (n * sc.plan.l) (n * sc.plan.l + sc.plan.l - 1) (omega arith)))
 
@@ -311,7 +302,7 @@ stage-knows : (sc : Scenario) (m : Moment) (sent : Each (Option Sending)) (me : 
     → Knows sc.sizes me (n + 1) (go_through sc m sent me i st (window_of (sync_slot_of sc.sizes) stage first ticks)).state
 unfolding closed
 stage-knows sc m sent me i n stage first ticks st some closing good h =
-    through-knows sc m sent me i n st (window_of (sync_slot_of sc.sizes) stage first ticks) true (equal-true (sync_slot_of sc.sizes)) good h
+    through-knows sc m sent me i n st (window_of (sync_slot_of sc.sizes) stage first ticks) true (eq_self (sync_slot_of sc.sizes)) good h
     (λ kept sense before. closing kept (kept.epoch + first) sense before) (never first (first + ticks - 1) (omega arith))
 
 -- in the tail nothing is added, empty or not
@@ -320,7 +311,7 @@ rest-knows : (sc : Scenario) (m : Moment) (sent : Each (Option Sending)) (me : S
     → Knows sc.sizes me (3 * sync_slot_of sc.sizes + 3 + 1) (go_through sc m sent me i st (tail_at sc.sizes sc.plan me st)).state
 unfolding closed
 rest-knows sc m sent me i st good h =
-    through-knows sc m sent me i (3 * sync_slot_of sc.sizes + 3) st (tail_at sc.sizes sc.plan me st) true (equal-true (sync_slot_of sc.sizes)) good h
+    through-knows sc m sent me i (3 * sync_slot_of sc.sizes + 3) st (tail_at sc.sizes sc.plan me st) true (eq_self (sync_slot_of sc.sizes)) good h
     (λ kept sense before. tail-knows sc.sizes me kept (kept.epoch + tail_start_of sc.sizes sc.plan) sense before)
     (λ t. same-knows sc.sizes me (3 * sync_slot_of sc.sizes + 3) st st refl refl refl
     (λ stage lo hi. late sc.sizes me stage (3 * sync_slot_of sc.sizes + 3) (omega arith)) h)

@@ -1,10 +1,10 @@
 -- For the laws of agreement: what a good node sends is taken for what it is.
 use Rattle.std.specs.Prelude.{⊤}
-use Rattle.std.proofs.Common.{◌≡◌, ℕ, ◌%◌, ◌^◌, ◌<◌, ◌≤◌, ◌==◌, ◌&&◌, Bool, true, false, List, [], ◌∷◌, Some, if◌then◌else◌, refl, ◌∙◌, ap, arith}
-use Rattle.std.proofs.lemmas.Bool.Decides.{nat_tests}
+use Rattle.std.proofs.Common.{◌≡◌, ℕ, ◌%◌, ◌^◌, ◌<◌, ◌≤◌, ◌==◌, true, false, List, [], ◌∷◌, Some, if◌then◌else◌, refl, ◌∙◌, ap, arith}
 use Rattle.rb_base.specs.Sizes.{Sizes, sync_slot_of}
 use Rattle.rb_base.specs.declared.values.Heard.{Heard}
 use Rattle.rb_base.specs.declared.values.Heard.TheVariants as heard
+use Rattle.rb_base.proofs.Plain.{all_four, eq_self}
 use Rattle.rb_rules.specs.declared.message.Message.{Message}
 use Rattle.rb_rules.specs.declared.message.Tag.TheVariants as tag
 use Rattle.rb_rules.specs.declared.message.Version.{Version}
@@ -25,23 +25,17 @@ spelled_is_one e stamp bytes m spells suits =
     let read : message_in e.version bytes ≡ Some m = spelled_is_read e.version bytes m spells in
     ap (λ found. sense_of_one e stamp found) read ∙ ap (λ b. if b then One stamp m else Bad) suits
 
-same_number : (n : ℕ) → (n == n) ≡ true
-same_number n = grind (arith, nat_tests)
-
-all_four : (a b c d : Bool) → a ≡ true → b ≡ true → c ≡ true → d ≡ true → (a && b && c && d) ≡ true
-all_four a b c d p q r s = rw (p, q, r, s) refl
-
 -- a node's value for a window below the sync slot is meant for that window at each node that is in the same frame
 pub value_suits : (sizes : Sizes) (version : Version) (sender receiver : NodeState) (slot stage : ℕ) (value : Heard)
     → sender.frame ≡ receiver.frame → (slot == sync_slot_of sizes) ≡ false
     → suits (expect_of sizes version receiver slot stage) (message_of sender slot stage value) ≡ true
 value_suits sizes version sender receiver slot stage (heard.Word word) same below =
     all_four (sender.frame % 65536 == receiver.frame % 65536) (slot == slot) (stage == stage) (tag_suits (slot == sync_slot_of sizes) tag.Word)
-    (ap (λ f. f % 65536 == receiver.frame % 65536) same ∙ same_number (receiver.frame % 65536)) (same_number slot) (same_number stage)
+    (ap (λ f. f % 65536 == receiver.frame % 65536) same ∙ eq_self (receiver.frame % 65536)) (eq_self slot) (eq_self stage)
     (ap (λ b. tag_suits b tag.Word) below)
 value_suits sizes version sender receiver slot stage heard.Fault same below =
     all_four (sender.frame % 65536 == receiver.frame % 65536) (slot == slot) (stage == stage) (tag_suits (slot == sync_slot_of sizes) tag.Fault)
-    (ap (λ f. f % 65536 == receiver.frame % 65536) same ∙ same_number (receiver.frame % 65536)) (same_number slot) (same_number stage)
+    (ap (λ f. f % 65536 == receiver.frame % 65536) same ∙ eq_self (receiver.frame % 65536)) (eq_self slot) (eq_self stage)
     (ap (λ b. tag_suits b tag.Fault) below)
 
 -- and the value is what is in it
@@ -81,7 +75,7 @@ call_is_heard sizes version sender receiver stage stamp same s some most =
     let is : IsMessage (call_of sizes sender stage) = record { frame = omega arith; slot = s; some_stage = some; most_stages = most; value = refl } in
     let suited : suits (expect_of sizes version receiver (sync_slot_of sizes) stage) (call_of sizes sender stage) ≡ true =
     all_four (sender.frame % 65536 == receiver.frame % 65536) (sync_slot_of sizes == sync_slot_of sizes) (stage == stage) (sync_slot_of sizes == sync_slot_of sizes)
-    (ap (λ f. f % 65536 == receiver.frame % 65536) same ∙ same_number (receiver.frame % 65536)) (same_number (sync_slot_of sizes)) (same_number stage)
-    (same_number (sync_slot_of sizes)) in
+    (ap (λ f. f % 65536 == receiver.frame % 65536) same ∙ eq_self (receiver.frame % 65536)) (eq_self (sync_slot_of sizes)) (eq_self stage)
+    (eq_self (sync_slot_of sizes)) in
     spelled_is_one (expect_of sizes version receiver (sync_slot_of sizes) stage) stamp (spelling_of version (call_of sizes sender stage)) (call_of sizes sender stage)
     (is, refl) suited

@@ -1,8 +1,10 @@
 -- Who is accused, and who is not.
 use Rattle.std.proofs.Common.{◌≡◌, ℕ, ◌<◌, ◌^◌, Bool, true, false, not, ◌&&◌, ◌||◌, nat_le, Option, Some, None, is_some, refl, sym, ◌∙◌, ap}
+use Rattle.std.proofs.lemmas.Bool.{and_right, or_right}
 use Rattle.rb_base.specs.Nodes.{has}
 use Rattle.rb_base.proofs.Sets.{has-set_of, is_set_of}
 use Rattle.rb_base.specs.declared.values.Heard.{Heard}
+use Rattle.rb_base.proofs.Plain.{or-false}
 use Rattle.rb_rules.specs.declared.sense.Sense.{Sense}
 use Rattle.rb_rules.proofs.Majorities.{same_heard_self}
 use Rattle.rb_rules.specs.Standing.{Standing, is_eligible, taken_of, does_wrong, has_evidence, with_evidence, is_unlike, with_mismatch, lapses, standing_at_end, calm_after}
@@ -31,40 +33,28 @@ pub wrong_is_evidence : (s : Standing) (expected : ℕ → Bool) (sense : ℕ �
     → has s.trusted j ≡ true → does_wrong (expected j) (sense j) ≡ true → has_evidence s expected sense j ≡ true
 wrong_is_evidence s expected sense j t w = rw (t, w) refl
 
-and_false : (b c : Bool) → c ≡ false → (b && c) ≡ false
-and_false true c h = h
-and_false false c h = refl
-
 -- and none against one that did right
 pub right_is_no_evidence : (s : Standing) (expected : ℕ → Bool) (sense : ℕ → Sense) (j : ℕ)
     → does_wrong (expected j) (sense j) ≡ false → has_evidence s expected sense j ≡ false
-right_is_no_evidence s expected sense j r = and_false (has s.trusted j) (does_wrong (expected j) (sense j)) r
-
-or_true : (b c : Bool) → c ≡ true → (b || c) ≡ true
-or_true true c h = refl
-or_true false c h = h
-
-or_false : (b : Bool) → (b || false) ≡ b
-or_false true = refl
-or_false false = refl
+right_is_no_evidence s expected sense j r = and_right (has s.trusted j) (does_wrong (expected j) (sense j)) r
 
 -- evidence accuses
 pub evidence_accuses : (evidence : ℕ → Bool) (s : Standing) (j : ℕ) → j < 16 → evidence j ≡ true → has (with_evidence evidence s).direct j ≡ true
-evidence_accuses evidence s j below h = has-set_of j (λ j. has s.direct j || evidence j) below ∙ or_true (has s.direct j) (evidence j) h
+evidence_accuses evidence s j below h = has-set_of j (λ j. has s.direct j || evidence j) below ∙ or_right (has s.direct j) (evidence j) h
 
 -- a node against which there is none stays as it was
 pub others_stay : (evidence : ℕ → Bool) (s : Standing) (j : ℕ) → j < 16 → evidence j ≡ false → has (with_evidence evidence s).direct j ≡ has s.direct j
 others_stay evidence s j below h =
-    has-set_of j (λ j. has s.direct j || evidence j) below ∙ ap (λ c. has s.direct j || c) h ∙ or_false (has s.direct j)
+    has-set_of j (λ j. has s.direct j || evidence j) below ∙ ap (λ c. has s.direct j || c) h ∙ or-false (has s.direct j)
 
 -- a value that differs accuses by mismatch
 pub mismatch_accuses : (differs : ℕ → Bool) (s : Standing) (j : ℕ) → j < 16 → differs j ≡ true → has (with_mismatch differs s).mismatch j ≡ true
-mismatch_accuses differs s j below h = has-set_of j (λ j. has s.mismatch j || differs j) below ∙ or_true (has s.mismatch j) (differs j) h
+mismatch_accuses differs s j below h = has-set_of j (λ j. has s.mismatch j || differs j) below ∙ or_right (has s.mismatch j) (differs j) h
 
 -- a node of which none differed stays as it was
 pub alike_stay : (differs : ℕ → Bool) (s : Standing) (j : ℕ) → j < 16 → differs j ≡ false → has (with_mismatch differs s).mismatch j ≡ has s.mismatch j
 alike_stay differs s j below h =
-    has-set_of j (λ j. has s.mismatch j || differs j) below ∙ ap (λ c. has s.mismatch j || c) h ∙ or_false (has s.mismatch j)
+    has-set_of j (λ j. has s.mismatch j || differs j) below ∙ ap (λ c. has s.mismatch j || c) h ∙ or-false (has s.mismatch j)
 
 -- with no probation no accusation lapses
 pub none_lapses : (s : Standing) (j : ℕ) → lapses 0 s j ≡ false

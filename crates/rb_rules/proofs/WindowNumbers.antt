@@ -1,5 +1,5 @@
 -- The windows of a frame by their numbers, and what is read of one node where something is made of all.
-use Rattle.std.proofs.Common.{◌≡◌, ℕ, zero, suc, ◌+◌, ◌*◌, ◌/◌, ◌<◌, List, [], ◌∷◌, ◌++◌, length, map, refl, sym, ◌∙◌, ap, arith, Some, slice_get, unwrap_or, option_map}
+use Rattle.std.proofs.Common.{◌≡◌, ℕ, zero, suc, ◌+◌, ◌*◌, ◌/◌, ◌<◌, List, [], ◌∷◌, length, map, refl, sym, ◌∙◌, ap, arith, Some, slice_get, unwrap_or, option_map}
 use Rattle.std.proofs.Math.Nat.{div-lt_iff_lt-mul}
 use Rattle.std.proofs.lemmas.List.FromFn.{get_or-range_with_len, length-range_with_len, length-map-range_with_len}
 use Rattle.std.proofs.lemmas.Option.{slice_get-get_or, slice_get-map}
@@ -7,6 +7,7 @@ use Rattle.rb_base.specs.Counting.{numbers}
 use Rattle.rb_base.specs.Nodes.{Side}
 use Rattle.rb_base.specs.Nodes.Side.{Biu, Rmu}
 use Rattle.rb_base.specs.Sizes.{Sizes, sync_slot_of}
+use Rattle.rb_base.proofs.Plain.{slice_get-back, slice_get-front}
 use Rattle.rb_rules.specs.declared.plan.Plan.{Plan}
 use Rattle.rb_rules.specs.declared.plan.Window.{Window}
 use Rattle.rb_rules.specs.Book.{Each, of_kind, each_of, map_from, map_each}
@@ -16,15 +17,6 @@ use Rattle.rb_rules.specs.Slots.{count_of}
 use Rattle.rb_rules.specs.Windows.{exact_window, sync_windows, windows_of_frame}
 
 -- Lists.
-
-pub get-front : {X : Type 0} (xs ys : List X) (n : ℕ) → n < length xs → slice_get (xs ++ ys) n ≡ slice_get xs n
-get-front [] ys n h = absurd (omega arith)
-get-front (x ∷ xs) ys zero h = refl
-get-front (x ∷ xs) ys (suc n) h = get-front xs ys n (omega arith)
-
-pub get-back : {X : Type 0} (xs ys : List X) (n : ℕ) → slice_get (xs ++ ys) (length xs + n) ≡ slice_get ys n
-get-back [] ys n = let e : 0 + n ≡ n = omega arith in rw e refl
-get-back (x ∷ xs) ys n = let e : suc (length xs) + n ≡ suc (length xs + n) = omega arith in rw e (get-back xs ys n)
 
 pub get-number : (n i : ℕ) → i < n → slice_get (numbers n) i ≡ Some i
 get-number n i h =
@@ -71,7 +63,7 @@ exact-numbered sizes plan me st n h =
     let long : length front ≡ 3 * sync_slot_of sizes = length-map-range_with_len (exact_window plan) 0 (3 * sync_slot_of sizes) in
     let within : n < length front = omega arith in
     ap (λ o. unwrap_or o (tail_at sizes plan me st))
-    (get-front front (sync_windows sizes plan) n within ∙ slice_get-map (exact_window plan) (numbers (3 * sync_slot_of sizes)) n
+    (slice_get-front front (sync_windows sizes plan) n within ∙ slice_get-map (exact_window plan) (numbers (3 * sync_slot_of sizes)) n
     ∙ ap (option_map (exact_window plan)) (get-number (3 * sync_slot_of sizes) n h))
 
 -- such a window is one of a slot below the sync slot
@@ -88,4 +80,4 @@ sync-numbered sizes plan me st r =
     let front : List Window = map (exact_window plan) (numbers (3 * sync_slot_of sizes)) in
     let long : length front ≡ 3 * sync_slot_of sizes = length-map-range_with_len (exact_window plan) 0 (3 * sync_slot_of sizes) in
     ap (λ o. unwrap_or o (tail_at sizes plan me st))
-    (ap (λ m. slice_get (windows_of_frame sizes plan) (m + r)) (sym long) ∙ get-back front (sync_windows sizes plan) r)
+    (ap (λ m. slice_get (windows_of_frame sizes plan) (m + r)) (sym long) ∙ slice_get-back front (sync_windows sizes plan) r)

@@ -5,6 +5,7 @@ use Rattle.std.proofs.lemmas.List.{append-nil}
 use Rattle.std.proofs.lemmas.List.Elements.{filter_map-append}
 use Rattle.std.specs.List.{flat_map, last_or}
 use Rattle.std.specs.Option.{option_to_list}
+use Rattle.rb_base.proofs.Plain.{last_or-append}
 use Rattle.rb_rules.specs.Book.{Record}
 use Rattle.rb_rules.specs.Book.Record.{Frame, Slot, Ended, Breach}
 use Rattle.rb_world_book.specs.Records.{record_of}
@@ -17,10 +18,6 @@ use Rattle.rb_run.proofs.Texts.{records-more}
 pub greatest-append : (xs ys : List ℕ) → greatest (xs ++ ys) ≡ max (greatest xs) (greatest ys)
 greatest-append [] ys = omega arith
 greatest-append (x ∷ xs) ys = let rest = greatest-append xs ys in omega (arith, rest)
-
-last-append : {X : Type 0} (o : Option X) (xs : List X) (x : X) → last_or o (xs ++ x ∷ []) ≡ Some x
-last-append o [] x = refl
-last-append o (y ∷ xs) x = last-append (Some y) xs x
 
 abbrev made_of : ℕ → ℕ → ℕ → ℕ → Totals
 made_of f d c s = record { frames = f; deliveries = d; convicted = c; spread = s }
@@ -40,7 +37,7 @@ blocks-more rs Ended = filter_map-append block_in rs (Ended ∷ [])
 blocks-more rs (Breach place cause) = filter_map-append block_in rs (Breach place cause ∷ [])
 
 last-block : (rs : List Record) (r : Record) (b : Block) → block_in r ≡ Some b → last_or None (blocks_of (rs ++ r ∷ [])) ≡ Some b
-last-block rs r b is = ap (last_or None) (blocks-more rs r ∙ ap (λ o. blocks_of rs ++ option_to_list o) is) ∙ last-append None (blocks_of rs) b
+last-block rs r b is = ap (last_or None) (blocks-more rs r ∙ ap (λ o. blocks_of rs ++ option_to_list o) is) ∙ last_or-append None (blocks_of rs) b
 
 same-blocks : (rs : List Record) (r : Record) → block_in r ≡ None → blocks_of (rs ++ r ∷ []) ≡ blocks_of rs
 same-blocks rs r none = blocks-more rs r ∙ ap (λ o. blocks_of rs ++ option_to_list o) none ∙ append-nil (blocks_of rs)

@@ -47,11 +47,6 @@ newest-with n (r ∷ rs) o = newest-with (newest_with n (Some r)) rs o
 pub newest-more : (turns : List Turn) (t : Turn) → newest_after 0 (records_in (turns ++ t ∷ [])) ≡ newest_with (newest_after 0 (records_in turns)) (record_of t)
 newest-more turns t = ap (newest_after 0) (records-more turns t) ∙ newest-with 0 (records_in turns) (record_of t)
 
--- what holds anyway holds of an error
-pub on-err : {T E P : Type 0} (r : Result T E) → P → OnErr r P
-on-err (Ok x) p = tt
-on-err (Err e) p = p
-
 -- the last of two parts was not written whole
 pub part-last : {T E : Type 0} (r : Result T E) (a b c : Option (List ℕ)) (xs ys : List ℕ) → Appends a b xs → OnErr r (AppendsPart b c ys) → OnErr r (AppendsPart a c (xs ++ ys))
 part-last (Ok x) a b c xs ys before now = tt

@@ -2,6 +2,7 @@
 use Rattle.std.proofs.Common.{◌≡◌, ℕ, ◌^◌, ◌<◌, Bool, true, false, Option, Some, None, List, [], ◌∷◌, ◌++◌, length, map, refl, sym, ap, ◌∙◌, subst, append_assoc, arith, slice_get, length-append}
 use Rattle.std.proofs.lemmas.List.{append-nil, length-map, map-append}
 use Rattle.std.specs.List.{last_or}
+use Rattle.rb_base.proofs.Plain.{last_or-append}
 use Rattle.rb_rules.specs.Book.{Record}
 use Rattle.rb_rules.specs.Goodness.{Scenario}
 use Rattle.rb_rules.specs.Lawful.{IsLawful}
@@ -37,20 +38,20 @@ pub record IsUnderWay (sc : Scenario) (is_plain : Bool) (told since : Option (Li
 
 -- Turns and records.
 
-turn-is : (t : Turn) (r : Record) → record_of t ≡ Some r → t ≡ turn_of r
+pub turn-is : (t : Turn) (r : Record) → record_of t ≡ Some r → t ≡ turn_of r
 turn-is shown.Quiet r e = absurd (cc)
 turn-is (shown.Frame f) r e = let same : Record.Frame f.frame f.nodes.items f.ports.items ≡ r = cc in ap turn_of same
 turn-is (shown.Slot s) r e = let same : Record.Slot s.frame s.slot s.lines.items ≡ r = cc in ap turn_of same
 turn-is shown.Ended r e = let same : Record.Ended ≡ r = cc in ap turn_of same
 turn-is (shown.Breach place cause) r e = let same : Record.Breach place cause ≡ r = cc in ap turn_of same
 
-record-is : (r : Record) → record_of (turn_of r) ≡ Some r
+pub record-is : (r : Record) → record_of (turn_of r) ≡ Some r
 record-is (Record.Frame frame nodes ports) = refl
 record-is (Record.Slot frame slot lines) = refl
 record-is Record.Ended = refl
 record-is (Record.Breach place cause) = refl
 
-bare-ends : (t : Turn) → end_at (record_of (bare t)) ≡ end_at (record_of t)
+pub bare-ends : (t : Turn) → end_at (record_of (bare t)) ≡ end_at (record_of t)
 bare-ends shown.Quiet = refl
 bare-ends (shown.Frame f) = refl
 bare-ends (shown.Slot s) = refl
@@ -58,11 +59,11 @@ bare-ends shown.Ended = refl
 bare-ends (shown.Breach place cause) = refl
 
 -- turns that are alike end a run alike
-alike-ends : (t u : Turn) → bare t ≡ bare u → end_at (record_of t) ≡ end_at (record_of u)
+pub alike-ends : (t u : Turn) → bare t ≡ bare u → end_at (record_of t) ≡ end_at (record_of u)
 alike-ends t u same = sym (bare-ends t) ∙ ap (λ x. end_at (record_of x)) same ∙ bare-ends u
 
 -- a run ends with the turns that are the last of one
-ends-last : (o : Option Record) (e : Ending) → end_at o ≡ Some e → is_last o ≡ true
+pub ends-last : (o : Option Record) (e : Ending) → end_at o ≡ Some e → is_last o ≡ true
 ends-last None e is = absurd (cc)
 ends-last (Some (Record.Frame frame nodes ports)) e is = absurd (cc)
 ends-last (Some (Record.Slot frame slot lines)) e is = absurd (cc)
@@ -78,11 +79,11 @@ goes-on (Some (Record.Breach place cause)) is = absurd (cc)
 
 -- Telling.
 
-tells-none : (told : Option (List Turn)) → TellsAll told told []
+pub tells-none : (told : Option (List Turn)) → TellsAll told told []
 tells-none None = refl
 tells-none (Some turns) = sym (append-nil turns)
 
-tells-more : (told mid since : Option (List Turn)) (turns : List Turn) (t : Turn) → TellsAll told mid turns → Tells mid since t → TellsAll told since (turns ++ t ∷ [])
+pub tells-more : (told mid since : Option (List Turn)) (turns : List Turn) (t : Turn) → TellsAll told mid turns → Tells mid since t → TellsAll told since (turns ++ t ∷ [])
 tells-more None None since turns t before now = now
 tells-more None (Some us) since turns t before now = absurd (cc)
 tells-more (Some ts) None None turns t before now = tt
@@ -92,16 +93,16 @@ tells-more (Some ts) (Some us) (Some vs) turns t before now = now ∙ ap (λ xs.
 
 -- The begin.
 
-no-record : (r : Record) (others : List Record) → [] ≡ others ++ r ∷ [] → ⊥
+pub no-record : (r : Record) (others : List Record) → [] ≡ others ++ r ∷ [] → ⊥
 no-record r [] e = absurd (cc)
 no-record r (x ∷ others) e = absurd (cc)
 
-last-some : (o : Option Record) → is_last o ≡ true → (r : Record) × (o ≡ Some r)
+pub last-some : (o : Option Record) → is_last o ≡ true → (r : Record) × (o ≡ Some r)
 last-some None e = absurd (cc)
 last-some (Some r) e = (r, refl)
 
 -- where nothing was given, the run has not ended
-not-over : (k : KeptWorld) → (begun : HasGivenNothing k) → begun.world.book.ended ≡ false
+pub not-over : (k : KeptWorld) → (begun : HasGivenNothing k) → begun.world.book.ended ≡ false
 not-over k begun = by begun.world.book.ended refl
   where
     by : (b : Bool) → begun.world.book.ended ≡ b → begun.world.book.ended ≡ false
@@ -125,7 +126,7 @@ begins k is_plain told begun = record {
 
 -- One turn more.
 
-same-record : (xs : List Record) (n : ℕ) (a b : Record) → slice_get xs n ≡ Some a → slice_get xs n ≡ Some b → a ≡ b
+pub same-record : (xs : List Record) (n : ℕ) (a b : Record) → slice_get xs n ≡ Some a → slice_get xs n ≡ Some b → a ≡ b
 same-record xs n a b x y = let both : Some a ≡ Some b = sym x ∙ y in cc
 
 -- what the next call gives
@@ -210,10 +211,6 @@ pub are-all : (sc : Scenario) (is_plain : Bool) (told since : Option (List Turn)
 are-all sc is_plain told since k turns is =
     many-given sc is_plain told since k turns true is ∙ ap length (whole-given sc is_plain told since k turns is)
 
-last-append : {X : Type 0} (o : Option X) (xs : List X) (x : X) → last_or o (xs ++ x ∷ []) ≡ Some x
-last-append o [] x = refl
-last-append o (y ∷ xs) x = last-append (Some y) xs x
-
 last-map : {X Y : Type 0} (f : X → Y) (xs : List X) (o : Option X) (p : Option Y) (y : Y) → (o ≡ None → p ≡ None)
     → ((x : X) → o ≡ Some x → p ≡ Some (f x)) → last_or p (map f xs) ≡ Some y → (x : X) × ((last_or o xs ≡ Some x) × (f x ≡ y))
 last-map f [] None p y none some e = absurd (let never : None ≡ Some y = sym (none refl) ∙ e in cc)
@@ -231,7 +228,7 @@ pub ends-so : (sc : Scenario) (is_plain : Bool) (told since : Option (List Turn)
 ends-so sc is_plain told since k turns t e going ends =
     let is : IsUnderWay sc is_plain told since k (turns ++ t ∷ []) true = finished sc is_plain told since k (turns ++ t ∷ []) t e going ends in
     let last : last_or None (map (λ r. bare (turn_of r)) is.world.book.given) ≡ Some (bare t) =
-    ap (last_or None) (sym is.alike ∙ map-append bare turns (t ∷ [])) ∙ last-append None (map bare turns) (bare t) in
+    ap (last_or None) (sym is.alike ∙ map-append bare turns (t ∷ [])) ∙ last_or-append None (map bare turns) (bare t) in
     let r = last-map (λ r. bare (turn_of r)) is.world.book.given None None (bare t) (λ e. refl) (λ x e. absurd (cc)) last in
     ap (λ rs. end_at (last_or None rs)) (sym (whole-given sc is_plain told since k (turns ++ t ∷ []) is))
     ∙ ap end_at r.1.0

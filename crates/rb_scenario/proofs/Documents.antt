@@ -8,7 +8,7 @@ use Rattle.rb_scenario_entries.specs.declared.refusal.Refusal.TheVariants.{NotTo
 use Rattle.rb_scenario.specs.declared.scenario.Scenario.{Scenario}
 
 -- bytes are the text of one document at most
-same_document : (bytes : List ℕ) (s t : Members) → IsDocument bytes s → IsDocument bytes t → s ≡ t
+pub same_document : (bytes : List ℕ) (s t : Members) → IsDocument bytes s → IsDocument bytes t → s ≡ t
 same_document bytes s t is_s is_t = ap (λ o. elim o as (λ _. Members) [ None ↦ s | Some x ↦ x ]) (sym is_s.1 ∙ is_t.1)
 
 -- an accepted input is TOML

@@ -1,6 +1,6 @@
 -- Names of nodes: what an index below 16 looks like in decimal, and that each name has one index.
 use Rattle.std.proofs.Common.{◌≡◌, ℕ, ◌+◌, ◌-◌, ◌/◌, ◌%◌, ◌<◌, ◌≤◌, ◌≢◌, ◌⊎◌, inl, inr, zero, suc, List, [], ◌∷◌, length, get_or, take, drop, decimal, IfSome, IfNone, refl, sym, ap, subst, ◌∙◌, arith, Option, Some, None, Bool, true, false, cond}
-use Rattle.std.proofs.lemmas.Bool.{cases_lt}
+use Rattle.std.proofs.lemmas.Bool.{cases_lt, false_from_ne_true}
 use Rattle.std.proofs.lemmas.Fmt.{decimal_digit, decimal_step, decimal_injective}
 use Rattle.std.proofs.lemmas.List.{take_rest}
 use Rattle.std.proofs.lemmas.Slice.Eq.{bytes_eq-Decides}
@@ -68,13 +68,9 @@ find_some p a (suc n) i before here low high = elim (cases_lt a i) [
   | inr above ↦ let is : i ≡ a = omega arith in rw (subst (λ k. p k ≡ true) is here) (ap (λ k. Some k) (sym is))
 ]
 
-not_true : (b : Bool) → (b ≡ true → ⊥) → b ≡ false
-not_true true h = absurd (h refl)
-not_true false h = refl
-
 -- the text is one name, and so no other
 differs : (letter i j : ℕ) (text : List ℕ) → text ≡ indexed letter i → i < 16 → j < i → bytes_eq text (indexed letter j) ≡ false
-differs letter i j text e small lt = not_true _ (λ t.
+differs letter i j text e small lt = false_from_ne_true _ (λ t.
     let same : letter ∷ decimal i ≡ letter ∷ decimal j = sym e ∙ (bytes_eq-Decides text (indexed letter j)).0 t in
     let index : i ≡ j = decimal_injective i j (omega arith) (omega arith) cc in
     omega arith)
@@ -88,7 +84,7 @@ named-name letter count i text small few e =
 pub named-none : (letter count : ℕ) (text : List ℕ) → ((i : ℕ) → i < count → text ≢ indexed letter i) → named letter count text ≡ None
 unfolding named
 named-none letter count text h =
-    find_none (λ k. bytes_eq text (indexed letter k)) 0 count (λ j lt. not_true _ (λ t. h j (omega arith) ((bytes_eq-Decides text (indexed letter j)).0 t)))
+    find_none (λ k. bytes_eq text (indexed letter k)) 0 count (λ j lt. false_from_ne_true _ (λ t. h j (omega arith) ((bytes_eq-Decides text (indexed letter j)).0 t)))
 
 -- the text is a letter and digits
 text_parts : (text : List ℕ) → 1 ≤ length text → text ≡ get_or text 0 0 ∷ take (length text - 1) (drop 1 text)

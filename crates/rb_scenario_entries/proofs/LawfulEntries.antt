@@ -13,6 +13,7 @@ use Rattle.rb_base.specs.Sizes.{Sizes, sync_slot_of}
 use Rattle.rb_base.specs.declared.node.NodeName.{NodeName}
 use Rattle.rb_base.specs.declared.node.NodeName.TheVariants as node
 use Rattle.rb_base.specs.declared.values.Place.{Place}
+use Rattle.rb_base.proofs.Plain.{either_by}
 use Rattle.rb_rules.specs.declared.link.Pattern.{Pattern}
 use Rattle.rb_rules.specs.declared.link.Pattern.TheVariants.{One, AllBiu, AllRmu}
 use Rattle.rb_rules.specs.declared.link.Rule.{Rule}
@@ -241,9 +242,6 @@ sync_alone_by : (sizes : Sizes) (slots : ℕ × ℕ) → is_sync_alone (sync_slo
 sync_alone_by sizes slots h =
     let parts = and_parts (slots.0 == sync_slot_of sizes) (slots.1 == sync_slot_of sizes) h in
     (eqb-true slots.0 (sync_slot_of sizes) parts.0, eqb-true slots.1 (sync_slot_of sizes) parts.1)
-
-either_by : (P Q : Type 0) (p q : Bool) → (p ≡ true → P) → (q ≡ true → Q) → p || q ≡ true → P ⊎ Q
-either_by P Q p q shows_p shows_q h = elim (or_cases p q h) [ inl e ↦ inl (shows_p e) | inr e ↦ inr (shows_q e) ]
 
 lies_by : (plan : Plan) (stages : ℕ × ℕ) (offset stage : ℕ) → lies_in_stage plan stages offset stage ≡ true
     → is_in_range stages stage ≡ true → offset < ticks_in_sync plan stage

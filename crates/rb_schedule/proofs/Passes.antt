@@ -1,16 +1,18 @@
 -- Owners pass by pass, and BIU by BIU in a pass.
-use Rattle.std.proofs.Common.{◌≡◌, ℕ, zero, suc, ◌+◌, ◌-◌, ◌<◌, ◌≤◌, ◌⊎◌, Bool, true, false, cond, ◌&&◌, nat_lt, List, [], ◌∷◌, ◌++◌, length, take, get_or, inl, inr, refl, sym, ◌∙◌, ap, add-one, arith}
+use Rattle.std.proofs.Common.{◌≡◌, ℕ, zero, suc, ◌+◌, ◌-◌, ◌<◌, ◌≤◌, ◌⊎◌, Bool, true, false, cond, ◌&&◌, nat_lt, List, [], ◌∷◌, ◌++◌, length, take, get_or, inl, inr, refl, sym, ◌∙◌, ap, arith}
 use Rattle.std.specs.Prelude.{filter}
-use Rattle.std.specs.List.{flat_map, range_with_len}
+use Rattle.std.specs.List.{flat_map}
 use Rattle.std.proofs.lemmas.Bool.{cases_lt}
 use Rattle.std.proofs.lemmas.Bool.Decides.{nat_tests}
 use Rattle.std.proofs.lemmas.List.{append-nil, append_assoc, length-append, length-take, take_all, take-append-le, nil_from_length}
 use Rattle.std.proofs.lemmas.List.Concat.{flat_map-append}
+use Rattle.std.proofs.lemmas.List.Elements.{filter-append}
 use Rattle.rb_base.specs.Counting.{numbers}
 use Rattle.rb_base.specs.Nodes.{has}
 use Rattle.rb_base.specs.Sizes.{Sizes}
 use Rattle.rb_base.specs.declared.values.Heard.{Heard}
 use Rattle.rb_base.specs.declared.values.Heard.TheVariants.{Fault}
+use Rattle.rb_base.proofs.Plain.{filter-fewer, numbers-more}
 use Rattle.rb_schedule.specs.Asking.{asks}
 use Rattle.rb_rules.specs.Owners.{owners_in_pass, owners_of, request_in}
 
@@ -22,25 +24,8 @@ take_after_take zero xs ys = refl
 take_after_take (suc n) [] ys = refl
 take_after_take (suc n) (x ∷ xs) ys = ap (λ l. x ∷ l) (take_after_take n xs ys)
 
-range_more : (a n : ℕ) → range_with_len a (suc n) ≡ range_with_len a n ++ (a + n) ∷ []
-range_more a zero = ap (λ k. k ∷ []) (let e : a ≡ a + 0 = omega arith in e)
-range_more a (suc n) =
-    let same : a + 1 + n ≡ a + suc n = omega arith in
-    ap (λ l. a ∷ l) (range_more (a + 1) n ∙ ap (λ k. range_with_len (a + 1) n ++ k ∷ []) same)
-
-numbers_more : (n : ℕ) → numbers (n + 1) ≡ numbers n ++ n ∷ []
-numbers_more n = ap numbers (add-one n) ∙ range_more 0 n ∙ ap (λ k. numbers n ++ k ∷ []) (let e : 0 + n ≡ n = omega arith in e)
-
-filter-append : {X : Type 0} (p : X → Bool) (xs ys : List X) → filter p (xs ++ ys) ≡ filter p xs ++ filter p ys
-filter-append p [] ys = refl
-filter-append p (x ∷ xs) ys =
-    elim (p x) as (λ b. cond b (x ∷ filter p (xs ++ ys)) (filter p (xs ++ ys)) ≡ cond b (x ∷ filter p xs) (filter p xs) ++ filter p ys) [
-      | true ↦ ap (λ l. x ∷ l) (filter-append p xs ys)
-      | false ↦ filter-append p xs ys
-    ]
-
 filter_numbers_more : (p : ℕ → Bool) (n : ℕ) → filter p (numbers (n + 1)) ≡ filter p (numbers n) ++ cond (p n) (n ∷ []) []
-filter_numbers_more p n = ap (filter p) (numbers_more n) ∙ filter-append p (numbers n) (n ∷ [])
+filter_numbers_more p n = ap (filter p) (numbers-more n) ∙ filter-append p (numbers n) (n ∷ [])
 
 -- what is full stays as it is
 full_stays : {X : Type 0} (n : ℕ) (xs ys : List X) → length xs ≡ n → take n (xs ++ ys) ≡ xs
@@ -103,7 +88,7 @@ granted_more slots pass k now so_far =
     ∙ take_after_take slots (flat_map pass (numbers k)) (pass k)
     ∙ ap (λ l. take slots (flat_map pass (numbers k) ++ l)) (sym (append-nil (pass k)))
     ∙ ap (take slots) (sym (flat_map-append pass (numbers k) (k ∷ [])))
-    ∙ ap (λ l. take slots (flat_map pass l)) (sym (numbers_more k))
+    ∙ ap (λ l. take slots (flat_map pass l)) (sym (numbers-more k))
 
 pub granted_fits : (slots : ℕ) (pass : ℕ → List ℕ) (k : ℕ) (now : List ℕ) → now ≡ granted slots pass k → length now ≤ slots
 granted_fits slots pass k now so_far = omega (arith, ap length so_far, length-take slots (flat_map pass (numbers k)))
@@ -140,19 +125,6 @@ quiet slots pass k now fits same =
 
 -- ---- who asks in a pass
 
-filter_fewer : (p q : ℕ → Bool) → ((i : ℕ) → q i ≡ true → p i ≡ true) → (xs : List ℕ) → filter p xs ≡ [] → filter q xs ≡ []
-filter_fewer p q gives [] none = refl
-filter_fewer p q gives (x ∷ xs) none =
-    let go : (a b : Bool) → (b ≡ true → a ≡ true) → cond a (x ∷ filter p xs) (filter p xs) ≡ [] → cond b (x ∷ filter q xs) (filter q xs) ≡ [] =
-    λ a b. elim a as (λ a. (b ≡ true → a ≡ true) → cond a (x ∷ filter p xs) (filter p xs) ≡ [] → cond b (x ∷ filter q xs) (filter q xs) ≡ []) [
-      | true ↦ λ h e. absurd (cc)
-      | false ↦ elim b as (λ b. (b ≡ true → false ≡ true) → filter p xs ≡ [] → cond b (x ∷ filter q xs) (filter q xs) ≡ []) [
-        | true ↦ λ h e. absurd (let no : false ≡ true = h refl in cc)
-        | false ↦ λ h e. filter_fewer p q gives xs e
-      ]
-    ] in
-    go (p x) (q x) (gives x) none
-
 asks_earlier : (t : Bool) (k j r : ℕ) → k ≤ j → (t && nat_lt j r) ≡ true → (t && nat_lt k r) ≡ true
 asks_earlier true k j r h e = grind (arith, nat_tests)
 asks_earlier false k j r h e = e
@@ -161,7 +133,7 @@ asks_earlier false k j r h e = e
 pub nobody_later : (sizes : Sizes) (trusted : ℕ) (requests : List Heard) (k j : ℕ) → k ≤ j → owners_in_pass sizes trusted requests k ≡ []
     → owners_in_pass sizes trusted requests j ≡ []
 nobody_later sizes trusted requests k j h none =
-    filter_fewer (asks trusted requests k) (asks trusted requests j)
+    filter-fewer (asks trusted requests k) (asks trusted requests j)
     (λ i. asks_earlier (has trusted i) k j (request_in (get_or requests i Fault)) h)
     (numbers sizes.bius)
     none

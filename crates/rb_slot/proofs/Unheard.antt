@@ -1,9 +1,10 @@
 -- The close of a stage in which a node doesn't listen: nobody is expected, so nothing is taken, voted, compared or delivered.
-use Rattle.std.proofs.Common.{◌≡◌, ℕ, Bool, true, false, ◌&&◌, ◌||◌, not, ◌==◌, if◌then◌else◌, Option, Some, None, List, [], ◌∷◌, get_or, map, zero, suc, refl, sym, ◌∙◌, ap, arith}
+use Rattle.std.proofs.Common.{◌≡◌, ℕ, Bool, true, false, ◌&&◌, ◌||◌, not, ◌==◌, if◌then◌else◌, Option, Some, None, List, [], ◌∷◌, get_or, map, zero, suc, refl, sym, ◌∙◌, ap}
 use Rattle.rb_base.specs.Counting.{numbers}
 use Rattle.rb_base.specs.Nodes.{Side, has, set_of}
 use Rattle.rb_base.specs.declared.values.Heard.{Heard}
-use Rattle.rb_base.proofs.Sets.{has_none, is_set_of}
+use Rattle.rb_base.proofs.Plain.{and-false}
+use Rattle.rb_base.proofs.Sets.{has_none}
 use Rattle.rb_rules.specs.declared.closing.Closing.{Closing}
 use Rattle.rb_rules.specs.declared.role.Role.{Role}
 use Rattle.rb_rules.specs.declared.role.Role.TheVariants.{Data}
@@ -11,16 +12,11 @@ use Rattle.rb_rules.specs.declared.sense.Sense.{Sense}
 use Rattle.rb_rules.specs.ExactStage.{closing_of, compare_with, delivery_of, is_sender, owners_after, reference_value, taken_of_sender, votes_after, votes_in}
 use Rattle.rb_rules.specs.NodeState.{NodeState, sender_at}
 use Rattle.rb_rules.specs.Sense.{value_in}
-use Rattle.rb_rules.specs.Slots.{Sender, expects, expects_of, has_third_stage, listens, role_of, same_side, sender_kind}
+use Rattle.rb_rules.specs.Slots.{Sender, expects, has_third_stage, listens, role_of, same_side, sender_kind}
 use Rattle.rb_rules.specs.Standing.{Standing, has_evidence, is_eligible, taken_of, with_evidence}
 use Rattle.rb_slot.specs.Engines.{Seated}
+use Rattle.rb_slot.proofs.Masks.{unheard_is}
 use Rattle.rb_slot.proofs.Stages.{Steps, closing_in, evidence_in}
-
--- nobody is expected
-nobody : (me : Side) (role : Role) (sender : Sender) (trusted stage : ℕ) → listens me role stage ≡ false → 0 ≡ set_of (expects me role sender trusted stage)
-nobody me role sender trusted stage unheard =
-    is_set_of 0 (expects me role sender trusted stage) (omega arith)
-    (λ j h. has_none j ∙ sym (ap (λ b. b && expects_of sender trusted stage j) unheard))
 
 -- no vote is kept
 pub same_votes : (me : Side) (st : NodeState) (slot : ℕ) (role : Role) (stage : ℕ) (c : Closing) → listens me role stage ≡ false → votes_after me st slot role stage c ≡ st.votes
@@ -33,18 +29,14 @@ sender_listens true false later unheard own = refl
 sender_listens false true later unheard own = refl
 sender_listens false false later unheard own = refl
 
-and_false : (b : Bool) → (b && false) ≡ false
-and_false true = refl
-and_false false = refl
-
 no_sender : (me : Side) (index : ℕ) (role : Role) (sender : Sender) (stage : ℕ) → listens me role stage ≡ false → ((stage == 2) && is_sender me index role sender) ≡ false
-no_sender me index role Sender.Nobody stage unheard = and_false (stage == 2)
+no_sender me index role Sender.Nobody stage unheard = and-false (stage == 2)
 no_sender me index role (Sender.Node i) stage unheard =
     sender_listens (same_side me (sender_kind role)) (stage == 2) ((stage == 1) || ((stage == 3) && has_third_stage role)) unheard (index == i)
-no_sender me index role Sender.EachTrusted stage unheard = and_false (stage == 2)
+no_sender me index role Sender.EachTrusted stage unheard = and-false (stage == 2)
 
 no_voter : (me : Side) (role : Role) (stage : ℕ) → listens me role stage ≡ false → ((stage == 3) && votes_in me role stage) ≡ false
-no_voter me role stage unheard = ap (λ b. (stage == 3) && (b && not (stage == 1))) unheard ∙ and_false (stage == 3)
+no_voter me role stage unheard = ap (λ b. (stage == 3) && (b && not (stage == 1))) unheard ∙ and-false (stage == 3)
 
 pub no_reference : (me : Side) (index : ℕ) (st : NodeState) (role : Role) (sender : Sender) (stage : ℕ) (c : Closing) → listens me role stage ≡ false
     → reference_value me index st role sender stage c ≡ None
@@ -83,7 +75,7 @@ unheard_steps me slot stage role c sense v0 v1 v2 v3 role_is unheard closing_is 
     let sender : Sender = sender_at v0.sizes me v0.state slot in
     let far : Standing = v0.state.far in
     let p : ℕ → Bool = expects me role sender far.trusted stage in
-    let none : 0 ≡ set_of p = nobody me role sender far.trusted stage unheard in
+    let none : 0 ≡ set_of p = unheard_is me role sender far.trusted stage unheard in
     record {
       role_is = role_is;
       sender_is = refl;

@@ -1,14 +1,15 @@
 -- A test that computes: a scenario that passes is lawful.
-use Rattle.std.proofs.Common.{◌≡◌, ◌⊎◌, ℕ, ◌+◌, ◌-◌, ◌^◌, ◌<◌, ◌≤◌, ◌&&◌, ◌||◌, ◌==◌, not, nat_le, nat_lt, Bool, true, false, List, [], ◌∷◌, All, get_or, length, Option, Some, None, refl, inl, inr, arith}
+use Rattle.std.proofs.Common.{◌≡◌, ℕ, ◌+◌, ◌-◌, ◌^◌, ◌<◌, ◌≤◌, ◌&&◌, ◌||◌, ◌==◌, not, nat_le, nat_lt, Bool, true, false, List, [], ◌∷◌, All, get_or, length, Option, Some, None, refl, inl, inr, arith}
 use Rattle.std.proofs.lemmas.Bool.{and_parts, both_ways, eqb-true, false≢true, leb-true, ltb-true, not-true, or_cases}
 use Rattle.std.proofs.lemmas.List.Sums.{AllPass-from_list_all}
 use Rattle.std.specs.Prelude.{is_none}
 use Rattle.std.specs.List.{list_all}
-use Rattle.rb_base.specs.Nodes.{Side, other}
+use Rattle.rb_base.specs.Nodes.{other}
 use Rattle.rb_base.specs.Nodes.Side.{Biu, Rmu}
 use Rattle.rb_base.specs.Sizes.{IsShape, Sizes, sync_slot_of}
 use Rattle.rb_base.specs.declared.node.NodeName.{NodeName}
 use Rattle.rb_base.specs.declared.node.NodeName.TheVariants as node
+use Rattle.rb_base.proofs.Plain.{either_by}
 use Rattle.rb_rules.specs.declared.link.Pattern.{Pattern}
 use Rattle.rb_rules.specs.declared.link.Pattern.TheVariants.{One, AllBiu, AllRmu}
 use Rattle.rb_rules.specs.declared.link.Rule.{Rule}
@@ -26,6 +27,7 @@ use Rattle.rb_rules.specs.Plan.{IsPlan, first_failing, longest_of, shortest_of}
 use Rattle.rb_rules.specs.Slots.{same_side}
 use Rattle.rb_rules.proofs.Feasibility.{feasible_exactly}
 use Rattle.rb_rules.proofs.Lawfulness.{at_each_stage, lies_in_each}
+use Rattle.rb_rules.proofs.Slots.{same_side-is}
 
 -- ---- lists of tests
 
@@ -159,12 +161,6 @@ pattern_by sizes (One n) h = node_by sizes n h
 pattern_by sizes AllBiu h = tt
 pattern_by sizes AllRmu h = tt
 
-same_side_by : (a b : Side) → same_side a b ≡ true → a ≡ b
-same_side_by Biu Biu h = refl
-same_side_by Biu Rmu h = absurd (false≢true h)
-same_side_by Rmu Biu h = absurd (false≢true h)
-same_side_by Rmu Rmu h = refl
-
 abbrev is_onset : Scenario → Option (ℕ × ℕ) → Bool
 is_onset sc None = true
 is_onset sc (Some onset) = nat_lt onset.0 sc.frames && nat_le onset.1 (sync_slot_of sc.sizes)
@@ -194,7 +190,7 @@ rule_by sc r h =
     record {
       from = pattern_by sc.sizes r.from (is 0 (omega arith));
       to = pattern_by sc.sizes r.to (is 1 (omega arith));
-      unlike_kinds = same_side_by _ _ (is 2 (omega arith));
+      unlike_kinds = same_side-is _ _ (is 2 (omega arith));
       frames = range_by 0 (sc.frames - 1) r.frames (is 3 (omega arith));
       slots = range_by 0 (sync_slot_of sc.sizes) r.slots (is 4 (omega arith));
       stages = range_by 1 3 r.stages (is 5 (omega arith));
@@ -229,9 +225,6 @@ sync_alone_by : (sizes : Sizes) (slots : ℕ × ℕ) → is_sync_alone sizes slo
 sync_alone_by sizes slots h =
     let parts = and_parts (slots.0 == sync_slot_of sizes) (slots.1 == sync_slot_of sizes) h in
     (eqb-true slots.0 (sync_slot_of sizes) parts.0, eqb-true slots.1 (sync_slot_of sizes) parts.1)
-
-either_by : (P Q : Type 0) (p q : Bool) → (p ≡ true → P) → (q ≡ true → Q) → p || q ≡ true → P ⊎ Q
-either_by P Q p q shows_p shows_q h = elim (or_cases p q h) [ inl e ↦ inl (shows_p e) | inr e ↦ inr (shows_q e) ]
 
 abbrev lies_in : Plan → Say → ℕ → Bool
 lies_in plan s stage = not (is_in_range s.stages stage) || nat_lt s.offset (ticks_in_sync plan stage)
@@ -278,7 +271,7 @@ say_by sc s h =
       from = node_by sc.sizes s.from (is 0 (omega arith));
       faulty = not-true _ (is 1 (omega arith));
       to = pattern_by sc.sizes s.to (is 2 (omega arith));
-      unlike_kinds = same_side_by _ _ (is 3 (omega arith));
+      unlike_kinds = same_side-is _ _ (is 3 (omega arith));
       frames = range_by 0 (sc.frames - 1) s.frames (is 4 (omega arith));
       slots = range_by 0 (sync_slot_of sc.sizes) s.slots (is 5 (omega arith));
       stages = stages;

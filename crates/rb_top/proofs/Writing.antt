@@ -1,15 +1,10 @@
 -- A text written piece by piece: what is still owed of it, and what stands where a write fails.
-use Rattle.std.proofs.Common.{◌≡◌, ℕ, suc, ◌+◌, ◌-◌, ◌<◌, ◌≤◌, List, [], ◌++◌, Option, Result, Ok, Err, OnErr, OnOk, arith, sym, ◌∙◌, ap, append_assoc, subst, refl}
+use Rattle.std.proofs.Common.{◌≡◌, ℕ, suc, ◌+◌, ◌-◌, ◌<◌, ◌≤◌, List, [], ◌++◌, Option, Result, Ok, Err, OnErr, arith, sym, ◌∙◌, ap, append_assoc, subst, refl}
 use Rattle.std.proofs.lemmas.List.{append-nil}
 use Rattle.std.specs.List.{flat_map, range_with_len}
 use Rattle.std.specs.Io.KnownBytes.{Appends}
 use Rattle.rb_outside.specs.Bytes.{AppendsPart}
 use Rattle.rb_outside.proofs.Known.{appends_none, appends_join, part_join, part_widens}
-
--- what holds anyway holds of an error
-pub on_err : {T E P : Type 0} (r : Result T E) → P → OnErr r P
-on_err (Ok x) p = tt
-on_err (Err e) p = p
 
 -- of the whole text, all but the rest is written
 pub record Owes (old now : Option (List ℕ)) (whole rest : List ℕ) : Type 0 where
@@ -99,9 +94,6 @@ pub four_written : (a b c d e : Option (List ℕ)) (w x y z : List ℕ) → Appe
 four_written a b c d e w x y z first second third fourth =
     appends_join a b e w (x ++ (y ++ z)) first (appends_join b c e x (y ++ z) second (appends_join c d e y z third fourth))
 
-pub part_of_first : (a b : Option (List ℕ)) (w rest : List ℕ) → AppendsPart a b w → AppendsPart a b (w ++ rest)
-part_of_first a b w rest p = part_widens a b w rest p
-
 pub part_of_second : (a b c : Option (List ℕ)) (w x rest : List ℕ) → Appends a b w → AppendsPart b c x → AppendsPart a c (w ++ (x ++ rest))
 part_of_second a b c w x rest first p = part_join a b c w (x ++ rest) first (part_widens b c x rest p)
 
@@ -114,12 +106,3 @@ pub part_of_fourth : (a b c d e : Option (List ℕ)) (w x y z : List ℕ) → Ap
     → AppendsPart a e (w ++ (x ++ (y ++ z)))
 part_of_fourth a b c d e w x y z first second third p =
     part_join a b e w (x ++ (y ++ z)) first (part_join b c e x (y ++ z) second (part_join c d e y z third p))
-
--- what a result has of its value and of its error, where both follow from the same
-pub err_from : {T E A B : Type 0} (r : Result T E) → (A → B) → OnErr r A → OnErr r B
-err_from (Ok x) f a = tt
-err_from (Err e) f a = f a
-
-pub ok_from : {T E A B : Type 0} (r : Result T E) → (A → B) → OnOk r A → OnOk r B
-ok_from (Ok x) f a = f a
-ok_from (Err e) f a = tt

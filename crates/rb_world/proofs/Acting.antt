@@ -1,6 +1,7 @@
 -- A tick of a node, put together from its parts.
 use Rattle.std.proofs.Common.{◌≡◌, ℕ, ◌==◌, Bool, true, false, Some, None, Option, List, [], slice_get, refl, sym, ap, ◌∙◌, subst, if◌then◌else◌}
-use Rattle.std.specs.Prelude.{option_and_then, unwrap_or}
+use Rattle.std.specs.Prelude.{option_and_then}
+use Rattle.std.proofs.lemmas.Option.{same_Some}
 use Rattle.rb_base.specs.Nodes.{Side}
 use Rattle.rb_base.specs.declared.node.NodeName.{NodeName}
 use Rattle.rb_rules.specs.declared.closing.Closed.{Closed}
@@ -20,11 +21,12 @@ use Rattle.rb_node.specs.Wants.{want_for, want_then}
 use Rattle.rb_node.specs.declared.act.Step.{Step}
 use Rattle.rb_world.specs.Sites.{KeptSite, after_tick, number_of}
 use Rattle.rb_world_traffic.specs.Arriving.{number_of as number_in}
+use Rattle.rb_world_traffic.proofs.Says.{number-of}
 use Rattle.rb_world.specs.declared.scene.Scene.{Scene}
 use Rattle.rb_world.specs.Steps.{closed_if, moved}
 use Rattle.rb_world.specs.Worlds.{Surrounds}
 use Rattle.rb_world.proofs.Alike.{SameShown, alike}
-use Rattle.rb_world.proofs.Lanes.{kind-named, number-named}
+use Rattle.rb_world.proofs.Lanes.{kind-named}
 use Rattle.rb_world.proofs.Sites.{at-twice}
 
 -- What is wanted.
@@ -77,9 +79,6 @@ abbrev pub told_in : Scenario → World → Side → ℕ → Act → World
 told_in sc w me i x =
     record (moved me i (after_tick sc w.ports me i x) w) { ports = with_delivery sc i (option_and_then (λ (c : Closed). c.delivered) x.closed) w.ports }
 
-some-same : {X : Type 0} (a b : X) → Some a ≡ Some b → a ≡ b
-some-same a b e = ap (λ o. unwrap_or o a) e
-
 told-by : (sc : Scenario) (me : Side) (i : ℕ) (scene : Scene) (w : World) (s : Site) (x : Act) (o : Option Closed) (row : Row) → slice_get (of_kind me w.sites) i ≡ Some s → x.closed ≡ o
     → ((c : Closed) → o ≡ Some c → (c.place.stage == 4) ≡ false → row_of me i x.core.state (coming_from s.got) c ≡ row)
     → Surrounds sc scene (closed_if sc (name_of me i) o row (moved me i (with_epoch sc w.ports me i x.epoch) w)) → Surrounds sc scene (told_in sc w me i x)
@@ -90,15 +89,15 @@ told-by sc me i scene w s x (Some c) row there closed is h =
     let f : Site → Site = λ z. with_row c.place.stage row (with_epoch sc w.ports me i x.epoch z) in
     let at : World = record w { ports = with_delivery sc i c.delivered w.ports } in
     let named : Surrounds sc scene (record (moved me i (with_row c.place.stage row) (moved me i (with_epoch sc w.ports me i x.epoch) w)) { ports = with_delivery sc i c.delivered w.ports }) =
-    subst (λ n. Surrounds sc scene (record (moved me i (with_row c.place.stage row) (moved me i (with_epoch sc w.ports me i x.epoch) w)) { ports = with_delivery sc n c.delivered w.ports })) (number-named me i)
-    (subst (λ n. Surrounds sc scene (record (moved me n (with_row c.place.stage row) (moved me i (with_epoch sc w.ports me i x.epoch) w)) { ports = with_delivery sc (number_in (name_of me i)) c.delivered w.ports })) (number-named me i)
+    subst (λ n. Surrounds sc scene (record (moved me i (with_row c.place.stage row) (moved me i (with_epoch sc w.ports me i x.epoch) w)) { ports = with_delivery sc n c.delivered w.ports })) (number-of me i)
+    (subst (λ n. Surrounds sc scene (record (moved me n (with_row c.place.stage row) (moved me i (with_epoch sc w.ports me i x.epoch) w)) { ports = with_delivery sc (number_in (name_of me i)) c.delivered w.ports })) (number-of me i)
     (subst (λ k. Surrounds sc scene (record (moved k (number_in (name_of me i)) (with_row c.place.stage row) (moved me i (with_epoch sc w.ports me i x.epoch) w)) { ports = with_delivery sc (number_in (name_of me i)) c.delivered w.ports })) (kind-named me i) h)) in
     let once : Surrounds sc scene (moved me i f at) =
     subst (λ (sites : Each Site). Surrounds sc scene (record at { sites = sites })) (at-twice me i (with_row c.place.stage row) (with_epoch sc w.ports me i x.epoch) w.sites) named in
     subst (λ o. Surrounds sc scene (record (moved me i (after_tick sc w.ports me i x) w) { ports = with_delivery sc i (option_and_then (λ (c : Closed). c.delivered) o) w.ports })) (sym closed)
     (alike sc scene at me i f (after_tick sc w.ports me i x)
     (λ z e.
-    let same : s ≡ z = some-same s z (sym there ∙ e) in
+    let same : s ≡ z = same_Some s z (sym there ∙ e) in
     after_tick-alike sc w.ports me i x c row z closed (subst (λ (y : Site). (c.place.stage == 4) ≡ false → row_of me i x.core.state (coming_from y.got) c ≡ row) same (is c refl))) once)
 
 -- The node's own name being this, and by what the step says.
@@ -112,14 +111,14 @@ told-around sc me i name scene w s x step shown row named there act is h =
   where
     rows : (b : Bool) → (b ≡ true → (shown.place.stage == 4) ≡ false → row_of me i x.core.state (coming_from s.got) shown ≡ row) → (c : Closed) → (if b then Some shown else None) ≡ Some c
         → (c.place.stage == 4) ≡ false → row_of me i x.core.state (coming_from s.got) c ≡ row
-    rows true is c e = subst (λ (c : Closed). (c.place.stage == 4) ≡ false → row_of me i x.core.state (coming_from s.got) c ≡ row) (some-same shown c e) (is refl)
+    rows true is c e = subst (λ (c : Closed). (c.place.stage == 4) ≡ false → row_of me i x.core.state (coming_from s.got) c ≡ row) (same_Some shown c e) (is refl)
     rows false is c e = cc
 
     T : NodeName → Side → ℕ → Type 0
     T n k j = Surrounds sc scene (closed_if sc n (if step.closed then Some shown else None) row (moved k j (with_epoch sc w.ports k j step.epoch) w))
 
     by_name : Surrounds sc scene (closed_if sc (name_of me i) (if step.closed then Some shown else None) row (moved me i (with_epoch sc w.ports me i step.epoch) w))
-    by_name = subst (λ j. T (name_of me i) me j) (number-named me i) (subst (λ k. T (name_of me i) k (number_in (name_of me i))) (kind-named me i) (subst (λ n. T n (kind_of n) (number_in n)) named h))
+    by_name = subst (λ j. T (name_of me i) me j) (number-of me i) (subst (λ k. T (name_of me i) k (number_in (name_of me i))) (kind-named me i) (subst (λ n. T n (kind_of n) (number_in n)) named h))
 
     named_so : Surrounds sc scene (closed_if sc (name_of me i) (if step.closed then Some shown else None) row (moved me i (with_epoch sc w.ports me i x.epoch) w))
     named_so = subst (λ o. Surrounds sc scene (closed_if sc (name_of me i) (if step.closed then Some shown else None) row (moved me i (with_epoch sc w.ports me i o) w))) act.epoch by_name

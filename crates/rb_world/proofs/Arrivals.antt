@@ -1,10 +1,11 @@
 -- An arrival that is due may happen, and what it leaves.
-use Rattle.std.proofs.Common.{◌≡◌, ℕ, ◌+◌, ◌-◌, ◌<◌, ◌≤◌, ◌^◌, Bool, true, false, Some, None, Option, List, [], ◌∷◌, ◌++◌, length, map, slice_get, refl, sym, ap, ◌∙◌, subst, arith}
+use Rattle.std.proofs.Common.{◌≡◌, ℕ, ◌-◌, ◌<◌, ◌≤◌, ◌^◌, Bool, true, false, Some, None, Option, List, [], ◌∷◌, ◌++◌, map, slice_get, refl, sym, ap, ◌∙◌, subst, arith}
 use Rattle.std.specs.Prelude.{flat_map, option_map, option_to_list, slice_set, unwrap_or}
+use Rattle.std.proofs.lemmas.Bool.{true≢false}
 use Rattle.std.proofs.lemmas.List.Elements.{All-append, All-cons, All-nil}
+use Rattle.std.proofs.lemmas.Option.{same_Some}
 use Rattle.rb_base.specs.Nodes.{Side, other}
 use Rattle.rb_base.specs.Nodes.Side.{Biu, Rmu}
-use Rattle.rb_base.specs.Sizes.{Sizes}
 use Rattle.rb_base.specs.declared.event.Event.{Event}
 use Rattle.rb_base.specs.declared.event.EventKind.{EventKind}
 use Rattle.rb_base.specs.declared.event.EventKind.TheVariants as kind
@@ -12,15 +13,13 @@ use Rattle.rb_base.specs.declared.node.NodeName.{NodeName}
 use Rattle.rb_rules.specs.Book.{Each, in_order, of_kind}
 use Rattle.rb_rules.specs.Clock.{ComesBy, Timeline, stamp_of, time_of}
 use Rattle.rb_rules.specs.Core.{Core, arrive, busy_among, next_tick, pass_to}
-use Rattle.rb_rules.specs.Goodness.{Scenario, clock_of, clock_place}
+use Rattle.rb_rules.specs.Goodness.{Scenario, clock_of}
 use Rattle.rb_rules.specs.Hearing.{Coming}
-use Rattle.rb_rules.specs.Lawful.{IsLawful, kind_of}
+use Rattle.rb_rules.specs.Lawful.{kind_of}
 use Rattle.rb_rules.specs.Links.{name_of}
-use Rattle.rb_rules.specs.Plan.{longest_of, shortest_of}
 use Rattle.rb_rules.specs.Slots.{count_of}
 use Rattle.rb_rules.specs.WorldStep.{Due, Pending as Waits, Site, Timed, World, after_arrival, happens, times_of}
 use Rattle.rb_rules.specs.WorldStep.Pending.{Tick, Arrival}
-use Rattle.rb_rules.proofs.Drift.{clock_moves}
 use Rattle.rb_rules.proofs.QuietTicks.{arrive-next}
 use Rattle.rb_rules.proofs.Stamps.{Moves}
 use Rattle.rb_laws_synchrony.proofs.Times.{stamp_to}
@@ -28,28 +27,27 @@ use Rattle.rb_world_agenda.specs.Agenda.{IsAtTime}
 use Rattle.rb_world_agenda.specs.Holding.{Shows, coming_with, without_waiting}
 use Rattle.rb_world_agenda.proofs.Which.{has-item}
 use Rattle.rb_node.specs.Cores.{bare_core, next_of, passing_end}
-use Rattle.rb_laws_events.proofs.CloseOrder.{shortest-some}
 use Rattle.rb_laws_events.proofs.DueEvents.{IsDue, every-at, every-back, every-front, every-unflat}
+use Rattle.rb_laws_events.proofs.OneEvent.{none-stands}
 use Rattle.rb_laws_events.proofs.PendingLists.{StandsAt}
 use Rattle.rb_laws_events.proofs.Receiving.{every-stands}
 use Rattle.rb_laws_events.proofs.SameHeard.{Every}
 use Rattle.rb_laws_events.proofs.WorldNodes.{worlds-known}
 use Rattle.rb_world.specs.Sites.{KeptSite, Stands as StandsFor, number_of as number_of_kept}
 use Rattle.rb_world_traffic.specs.Arriving.{number_of}
+use Rattle.rb_world_traffic.proofs.Says.{number-of}
+use Rattle.rb_laws_sweeps.proofs.SentLater.{node-moves}
 use Rattle.rb_world.specs.declared.scene.Scene.{Scene}
 use Rattle.rb_world.specs.Steps.{MayHappen, moved}
 use Rattle.rb_world.specs.Worlds.{Awaits, IsNode, Surrounds}
 use Rattle.rb_world.proofs.Alike.{alike}
 use Rattle.rb_world.proofs.Happening.{Acts, nodes-other, nodes-own}
 use Rattle.rb_world.proofs.Passed.{passed-same}
-use Rattle.rb_world.proofs.Lanes.{kind-named, number-named}
+use Rattle.rb_world.proofs.Lanes.{kind-named}
 use Rattle.rb_world.proofs.Ready.{due-reached, node-there}
 use Rattle.rb_world.proofs.InTime.{HasTick, reached-in-time}
 
 -- Which event it is.
-
-some-same : {X : Type 0} (a b : X) → Some a ≡ Some b → a ≡ b
-some-same a b e = ap (λ o. unwrap_or o a) e
 
 arrival-shown : (p : Waits) (k : EventKind) (time : ℕ) (x : Coming) → Shows p k → IsAtTime time p → coming_with time k ≡ Some x → (n : ℕ) × (p ≡ Arrival n x)
 arrival-shown (Tick n) (kind.Tick word wanted) time x shows at e = absurd (let never : ◌≡◌ {A = Option Coming} None (Some x) = e in cc)
@@ -60,7 +58,7 @@ arrival-shown (Arrival n c) (kind.Arrive from bytes) time x shows at e =
     let same : c ≡ y = ap (λ t. let z : Coming = record { time = t; from = c.from; bytes = c.bytes } in z) at
     ∙ ap (λ f. let z : Coming = record { time = time; from = f; bytes = c.bytes } in z) (sym shows.0)
     ∙ ap (λ b. let z : Coming = record { time = time; from = from; bytes = b } in z) (sym shows.1) in
-    (n, ap (Arrival n) (same ∙ some-same y x e))
+    (n, ap (Arrival n) (same ∙ same_Some y x e))
 
 -- the arrival of the node that is due
 pub record IsArrivalOf (d : Due) (me : Side) (i : ℕ) (x : Coming) : Type 0 where
@@ -73,24 +71,13 @@ arrival-of sc kept scene time name event w place d me i x may shown named =
     let k = arrival-shown d.pending event.kind time x may.shows may.time_is shown in
     let same : name_of d.side d.node ≡ name_of me i = sym may.node ∙ named in
     let side : d.side ≡ me = sym (kind-named d.side d.node) ∙ ap kind_of same ∙ kind-named me i in
-    let number : d.node ≡ i = sym (number-named d.side d.node) ∙ ap number_of same ∙ number-named me i in
+    let number : d.node ≡ i = sym (number-of d.side d.node) ∙ ap number_of same ∙ number-of me i in
     record {
       place = k.0;
       is = ap (λ s. let x : Due = record { side = s; node = d.node; pending = d.pending } in x) side
           ∙ ap (λ n. let x : Due = record { side = me; node = n; pending = d.pending } in x) number
           ∙ ap (λ p. let x : Due = record { side = me; node = i; pending = p } in x) k.1;
     }
-
--- Clocks.
-
-place-within : (sizes : Sizes) (me : Side) (i n : ℕ) → n ≡ sizes.bius + sizes.rmus → i < count_of me sizes → clock_place sizes me i < n
-place-within sizes Biu i n e h = omega arith
-place-within sizes Rmu i n e h = omega arith
-
-moves-at : (sc : Scenario) → IsLawful sc → (me : Side) (i : ℕ) → i < count_of me sc.sizes → Moves (clock_of sc me i)
-moves-at sc lawful me i within =
-    clock_moves (shortest_of sc.plan) (longest_of sc.plan) (clock_of sc me i) (shortest-some sc lawful)
-    (lawful.clocks (clock_place sc.sizes me i) (record { start = 0; segments = [] }) (place-within sc.sizes me i (length sc.clocks) lawful.one_clock_each within))
 
 -- The next tick that isn't quiet.
 
@@ -102,9 +89,6 @@ next-kept sc me i k s is =
     ∙ ap (λ n. busy_among sc.sizes sc.plan me n k.node.seat.state (2 ^ 31 - k.node.had) k.node.had) is.number
     ∙ ap (λ st. busy_among sc.sizes sc.plan me i st (2 ^ 31 - k.node.had) k.node.had) (sym is.site.core.state)
     ∙ ap (λ had. busy_among sc.sizes sc.plan me i s.core.state (2 ^ 31 - had) had) (sym is.site.core.had)
-
-true-false : true ≡ false → ⊥
-true-false e = cc
 
 -- All that an arrival needs.
 
@@ -135,11 +119,7 @@ times-at w t me i s first there = by me there
 
 tick-time : (t : ℕ) (o : Option Timed) (coming : List Coming) (a : Timed) → o ≡ Some a → Every (λ u. t ≤ u) (option_to_list (option_map (λ (a : Timed). a.time) o) ++ map (λ (c : Coming). c.time) coming) → t ≤ a.time
 tick-time t None coming a e all = absurd (let never : ◌≡◌ {A = Option Timed} None (Some a) = e in cc)
-tick-time t (Some b) coming a e all = let same : b ≡ a = some-same b a e in subst (λ (a : Timed). t ≤ a.time) same all.0
-
-stands-some : (n : ℕ) (x : Coming) (xs : List Coming) → xs ≡ [] → StandsAt n x xs → ⊥
-stands-some n x [] e at = at
-stands-some n x (y ∷ ys) e at = cc
+tick-time t (Some b) coming a e all = let same : b ≡ a = same_Some b a e in subst (λ (a : Timed). t ≤ a.time) same all.0
 
 pub arrival-ready : (sc : Scenario) (kept : Each KeptSite) (scene : Scene) (time : ℕ) (name : NodeName) (event : Event) (w : World) (place : ℕ) (d : Due) (me : Side) (i : ℕ) (x : Coming)
     → MayHappen sc kept scene time name event w place d → coming_with time event.kind ≡ Some x → name ≡ name_of me i → ArrivalReady sc kept w d me i x
@@ -151,7 +131,7 @@ arrival-ready sc kept scene time name event w place d me i x may shown named =
     let found = has-item (of_kind me kept) i inside.1 in
     let node : IsNode sc me i found.item s = (may.nodes me).each i found.item s found.is due.there in
     let runs : s.runs ≡ true = is-up s node.awaits k.place due.ready.0 s.runs refl in
-    let moves : Moves (clock_of sc me i) = moves-at sc may.lawful me i inside.0 in
+    let moves : Moves (clock_of sc me i) = node-moves sc may.lawful me i inside.0 in
     let at : x.time ≡ due.t = due.ready.1 in
     let tick : HasTick sc due.t me i =
     reached-in-time sc w may.lawful may.reached place (record { side = me; node = i; pending = Arrival k.place x }) (may.found ∙ ap (λ d. Some d) k.is) due runs in
@@ -178,7 +158,7 @@ arrival-ready sc kept scene time name event w place d me i x may shown named =
   where
     is-up : (s : Site) → Awaits sc me i s → (n : ℕ) → StandsAt n x s.coming → (b : Bool) → s.runs ≡ b → s.runs ≡ true
     is-up s awaits n at true e = e
-    is-up s awaits n at false e = absurd (stands-some n x s.coming (awaits.nothing e) at)
+    is-up s awaits n at false e = absurd (none-stands n x s.coming (awaits.nothing e) at)
 
 -- so it comes by the tick up to which ticks may pass
 pub in-time : (sc : Scenario) (kept : Each KeptSite) (w : World) (d : Due) (me : Side) (i : ℕ) (x : Coming) (r : ArrivalReady sc kept w d me i x)
@@ -214,7 +194,7 @@ arrived-node sc kept w d me i x new r number stands =
       awaits = record {
         running = λ e. r.node.awaits.running e ∙ ap (λ o. option_map (λ k. let t : Timed = record { tick = k; time = time_of (clock_of sc me i) k } in t) o) (sym next);
         tick_of_none = r.node.awaits.tick_of_none;
-        nothing = λ e. absurd (true-false (sym r.runs ∙ e));
+        nothing = λ e. absurd (true≢false (sym r.runs ∙ e));
       };
       senders = All-append (λ (c : Coming). c.from < count_of (other me) sc.sizes) s.got (x ∷ []) r.node.senders
           (All-cons (λ (c : Coming). c.from < count_of (other me) sc.sizes) x [] r.source (All-nil (λ (c : Coming). c.from < count_of (other me) sc.sizes)));

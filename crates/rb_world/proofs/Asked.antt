@@ -1,32 +1,25 @@
 -- What is asked of a run.
 use Rattle.std.proofs.Common.{◌≡◌, ℕ, ◌<◌, List, Some, length, slice_get, get_or, refl, sym, ap, ◌∙◌, subst, arith}
 use Rattle.std.specs.Prelude.{option_and_then, option_map}
+use Rattle.std.proofs.lemmas.Option.{get_or_from_slice_get}
 use Rattle.rb_base.specs.Nodes.{Side}
 use Rattle.rb_base.specs.Nodes.Side.{Biu, Rmu}
 use Rattle.rb_base.specs.declared.event.Event.{Event}
 use Rattle.rb_base.specs.declared.node.NodeName.{NodeName}
 use Rattle.rb_rules.specs.Book.{of_kind}
-use Rattle.rb_rules.specs.Core.{Core}
-use Rattle.rb_rules.specs.Goodness.{Scenario}
 use Rattle.rb_rules.specs.Lawful.{IsNodeOf, kind_of}
 use Rattle.rb_rules.specs.Links.{name_of}
-use Rattle.rb_rules.specs.Ports.{PortState}
 use Rattle.rb_rules.specs.Slots.{count_of}
-use Rattle.rb_rules.specs.WorldStep.{Due, Pending, Site, World, due_of, event_at, event_of}
-use Rattle.rb_rules.specs.WorldStep.Pending.{Tick, Arrival}
+use Rattle.rb_rules.specs.WorldStep.{Due, Site, World, due_of, event_at, event_of}
 use Rattle.rb_world_agenda.specs.Agenda.{IsDue}
 use Rattle.rb_world_agenda.specs.Holding.{due_with}
 use Rattle.rb_world_agenda.proofs.Which.{has-item}
 use Rattle.rb_world.specs.Sites.{KeptSite}
 use Rattle.rb_world_traffic.specs.Arriving.{number_of}
+use Rattle.rb_laws_sweeps.proofs.Telling.{shown-node}
 use Rattle.rb_world.specs.Worlds.{KeptWorld, Stands, due_in}
 use Rattle.rb_world.proofs.Idle.{due-busy}
-use Rattle.rb_world.proofs.Told.{got-is}
 use Rattle.rb_world.proofs.Turns.{due-is-now}
-
-event-node : (sc : Scenario) (ports : List PortState) (me : Side) (i : ℕ) (c : Core) (p : Pending) → (event_of sc ports me i c p).node ≡ name_of me i
-event-node sc ports me i c (Tick k) = refl
-event-node sc ports me i c (Arrival place a) = refl
 
 -- the node of the event that is due at a place
 pub node-at : (k : KeptWorld) (w : World) (i place : ℕ) (name : NodeName) → Stands k w → i < due_in k → IsDue k.bus w k.scene.agenda i name place
@@ -37,7 +30,7 @@ node-at k w i place name is below due =
     let found : slice_get (due_of k.bus w) i ≡ Some d = ap (λ (l : List Due). slice_get l i) (due-is-now k.bus w (due-busy k w i is below)) ∙ due.due in
     ap (λ o. option_map (λ (e : Event). e.node) (option_and_then (λ (d : Due). option_map (λ (s : Site). event_of k.bus w.ports d.side d.node s.core d.pending) (slice_get (of_kind d.side w.sites) d.node)) o)) found
     ∙ ap (λ o. option_map (λ (e : Event). e.node) (option_map (λ (s : Site). event_of k.bus w.ports due.side due.number s.core d.pending) o)) due.there
-    ∙ ap (λ n. Some n) (event-node k.bus w.ports due.side due.number due.site.core d.pending ∙ sym due.named)
+    ∙ ap (λ n. Some n) (shown-node k.bus w.ports due.side due.number due.site.core d.pending ∙ sym due.named)
 
 -- the frame in which a node is
 pub frame-at : (k : KeptWorld) (w : World) (me : Side) (i : ℕ) (site : KeptSite) (s : Site) → Stands k w → slice_get (of_kind me k.nodes) i ≡ Some site
@@ -59,7 +52,7 @@ pub frame-named : (k : KeptWorld) (w : World) (name : NodeName) (me : Side) (i f
     → site ≡ get_or (of_kind me k.nodes) i site → frame ≡ site.node.seat.state.frame → slice_get (of_kind (kind_of name) w.sites) (number_of name) ≡ Some s → frame ≡ s.core.state.frame
 frame-named k w name me i frame site s is node named got frame_is there =
     let found = has-item (of_kind me k.nodes) i (node-within k w name me i is node named) in
-    let same : found.item ≡ site = sym (got ∙ got-is (of_kind me k.nodes) i found.item site found.is) in
+    let same : found.item ≡ site = sym (got ∙ get_or_from_slice_get (of_kind me k.nodes) i found.item site found.is) in
     frame_is ∙ frame-at k w me i site s is (found.is ∙ ap (λ x. Some x) same)
     (sym (ap (λ (n : NodeName). slice_get (of_kind (kind_of n) w.sites) (number_of n)) named ∙ by me) ∙ there)
   where

@@ -4,11 +4,10 @@ use Rattle.std.specs.Prelude.{get_or, option_map, slice_set}
 use Rattle.std.proofs.lemmas.Bool.{cases_lt}
 use Rattle.std.proofs.lemmas.Bool.Decides.{nat_tests}
 use Rattle.std.proofs.lemmas.List.Elements.{All-nil}
-use Rattle.std.proofs.lemmas.Option.{slice_get_read}
+use Rattle.std.proofs.lemmas.Option.{same_Some, slice_get_read}
 use Rattle.rb_base.specs.Nodes.{Side, other}
 use Rattle.rb_base.specs.Nodes.Side.{Biu, Rmu}
-use Rattle.rb_base.specs.Sizes.{Sizes}
-use Rattle.rb_rules.specs.declared.plan.Plan.{Plan}
+use Rattle.rb_base.proofs.Plain.{none_not_some}
 use Rattle.rb_rules.specs.Core.{state_at, window_here}
 use Rattle.rb_rules.specs.Goodness.{Scenario}
 use Rattle.rb_rules.specs.Hearing.{Coming, Span, span_of}
@@ -22,6 +21,7 @@ use Rattle.rb_rules.proofs.WindowNumbers.{exact-numbered}
 use Rattle.rb_laws_events.proofs.TickRooms.{has-room}
 use Rattle.rb_laws_events.proofs.TickWindows.{IsTickIn, first-same, first_of, here-is}
 use Rattle.rb_laws_events.proofs.WorldStands.{get-at, is_node}
+use Rattle.rb_laws_events.proofs.FirstWorld.{not-turned}
 use Rattle.rb_world.specs.Sites.{KeptSite, number_of}
 use Rattle.rb_world.specs.declared.scene.Scene.{Scene}
 use Rattle.rb_world.specs.Openings.{AreFresh, HaveBegun, MayBegin, with_begun}
@@ -31,20 +31,9 @@ use Rattle.rb_world.proofs.Lanes.{has-lane, node-named, spare-at}
 
 -- The first window.
 
-none-some : {X P : Type 0} (x : X) → None ≡ Some x → P
-none-some x e = absurd (cc)
-
-some-is : {X : Type 0} (x y : X) → Some x ≡ Some y → x ≡ y
-some-is x y e = cc
-
 if-some : (b : Bool) (x y : Span) → (elim b as (λ _. Option Span) [ true ↦ Some x | false ↦ None ]) ≡ Some y → x ≡ y
-if-some true x y e = some-is x y e
-if-some false x y e = none-some y e
-
-not-turned : (sizes : Sizes) (plan : Plan) (me : Side) (k : ℕ) → state_at sizes plan me (first_state sizes me) k ≡ first_state sizes me
-unfolding state_at
-not-turned sizes plan Biu k = refl
-not-turned sizes plan Rmu k = refl
+if-some true x y e = same_Some x y e
+if-some false x y e = none_not_some y e
 
 first-here : (sc : Scenario) → IsLawful sc → (me : Side) → window_here sc.sizes sc.plan me (first_state sc.sizes me) 0 ≡ exact_window sc.plan 0
 first-here sc lawful me =
@@ -69,8 +58,8 @@ first-spans sc lawful me span e =
 -- One node begins.
 
 set-found : {X : Type 0} (xs : List X) (n i : ℕ) (y x : X) → slice_get (slice_set xs n y) i ≡ Some x → ((i ≡ n) × (x ≡ y)) ⊎ ((slice_get xs i ≡ Some x) × (i ≡ n → ⊥))
-set-found [] n i y x e = none-some x e
-set-found (z ∷ zs) zero zero y x e = inl (refl, some-is x y (sym e))
+set-found [] n i y x e = none_not_some x e
+set-found (z ∷ zs) zero zero y x e = inl (refl, same_Some x y (sym e))
 set-found (z ∷ zs) zero (suc i) y x e = inr (e, λ same. omega (arith, same))
 set-found (z ∷ zs) (suc n) zero y x e = inr (e, λ same. omega (arith, same))
 set-found (z ∷ zs) (suc n) (suc i) y x e = elim (set-found zs n i y x e) [

@@ -1,10 +1,11 @@
 -- A node takes the first tick of a world that is behind the run's.
 use Rattle.std.proofs.Common.{◌≡◌, ℕ, zero, suc, ◌+◌, ◌<◌, ◌≤◌, ◌&&◌, Bool, true, false, Some, None, Option, List, [], ◌∷◌, ◌++◌, get_or, length, map, slice_get, refl, sym, ap, ◌∙◌, subst, arith, inl, inr}
-use Rattle.std.specs.Prelude.{⊤, option_map, option_to_list, slice_set, unwrap_or}
+use Rattle.std.specs.Prelude.{⊤, option_map, option_to_list, slice_set}
 use Rattle.std.proofs.lemmas.Bool.{lt-ltb}
-use Rattle.std.proofs.lemmas.Option.{slice_get-get_or, slice_get_within}
+use Rattle.std.proofs.lemmas.Option.{same_Some, slice_get-get_or, slice_get_within}
 use Rattle.rb_base.specs.Nodes.{Side, other}
 use Rattle.rb_base.specs.Nodes.Side.{Biu, Rmu}
+use Rattle.rb_base.proofs.Plain.{option_map-back}
 use Rattle.rb_rules.specs.declared.message.Message.{Message}
 use Rattle.rb_rules.specs.Book.{Each, of_kind}
 use Rattle.rb_rules.specs.Core.{Act}
@@ -23,7 +24,7 @@ use Rattle.rb_world_agenda.proofs.Which.{has-item}
 use Rattle.rb_laws_events.specs.PendingEvents.{most_pending}
 use Rattle.rb_laws_events.proofs.OneEvent.{happens-is}
 use Rattle.rb_laws_events.proofs.WorldNodes.{settle-sites}
-use Rattle.rb_laws_events.proofs.WorldStands.{back-from, is_node, node-is, node-itself, not-other}
+use Rattle.rb_laws_events.proofs.WorldStands.{is_node, node-is, node-itself, not-other}
 use Rattle.rb_world.specs.Sites.{KeptSite, number_of}
 use Rattle.rb_laws_sweeps.specs.AheadOf.{GoesOnAhead, IsFirstTick, ahead_of, is_behind, tick_alone, until_tick}
 use Rattle.rb_laws_sweeps.specs.Room.{StoppedHaveNothing, TickBehindIsInTime}
@@ -48,9 +49,6 @@ use Rattle.rb_world.proofs.Sites.{at-same, at-twice, at_one, was-there}
 use Rattle.rb_world.specs.Trailing.{BehindTick, IsBehind, MaySweep, MayTakeFirst, MayTickFirst, Sweeps, TakesFirst, Trails, alone, bare, cleared, tick_from}
 use Rattle.rb_world.proofs.Small.{small-time}
 use Rattle.rb_world.proofs.Spans.{spans-by}
-
-some-same : {X : Type 0} (a b : X) → Some a ≡ Some b → a ≡ b
-some-same a b e = ap (λ o. unwrap_or o a) e
 
 -- What is known of the first tick.
 
@@ -112,7 +110,7 @@ may-sweep-own sc kept scene until w v me i a h n =
       rooms = h.trails.surrounds.rooms;
       reachable = record {
         has_tick = λ runs. (a.tick, (its.small, omega (arith, time)));
-        before = λ b e. let same : a ≡ b = some-same a b (sym h.first.pends ∙ e) in subst (λ (b : Timed). a.time + 1 ≤ b.time + 1) same (omega arith);
+        before = λ b e. let same : a ≡ b = same_Some a b (sym h.first.pends ∙ e) in subst (λ (b : Timed). a.time + 1 ≤ b.time + 1) same (omega arith);
       };
     }
 
@@ -125,7 +123,7 @@ pub cleared-bare : (sc : Scenario) (me : Side) (i : ℕ) (a : Timed) (v : World)
 cleared-bare sc me i a v first =
     at-same me i (cleared sc me i (a.time + 1)) (bare sc me i a) v.sites
     (λ s there.
-    let same : first.node ≡ s = some-same first.node s (sym first.there ∙ there) in
+    let same : first.node ≡ s = same_Some first.node s (sym first.there ∙ there) in
     let gone : tick_from (a.time + 1) s.ahead ≡ None = tick-gone a s.ahead (sym (ap (λ (s : Site). s.ahead) same) ∙ first.pends) in
     ap (λ (o : Option Timed). record (swept sc me i (a.time + 1) s) { ahead = o }) gone)
 
@@ -261,7 +259,7 @@ pub may-take : (sc : Scenario) (kept : Each KeptSite) (scene : Scene) (until : S
     → (number_of site ≡ i) × MaySweep sc me i (time + 1) site scene.agenda v.sites m.at.first.node
 may-take sc kept scene until w v me i a time own site m there =
     let n = node-of sc kept scene until w v m.at.trails me i m.at.first.node m.at.first.there in
-    let same : n.site ≡ site = some-same n.site site (sym n.there ∙ ap (λ ks. slice_get ks i) m.own_is ∙ there) in (
+    let same : n.site ≡ site = same_Some n.site site (sym n.there ∙ ap (λ ks. slice_get ks i) m.own_is ∙ there) in (
       ap number_of (sym same) ∙ n.node.number,
       subst (λ t. MaySweep sc me i (t + 1) site scene.agenda v.sites m.at.first.node) (sym m.time_is)
           (subst (λ k. MaySweep sc me i (a.time + 1) k scene.agenda v.sites m.at.first.node) same (may-sweep-own sc kept scene until w v me i a m.at n)),
@@ -343,7 +341,7 @@ message-was sc me i frame k None sites side n y there = (y, (there, (refl, refl)
 message-was sc me i frame k (Some m) sites side n y there =
     let x : Sending = record { tick = k; message = m } in
     let sent : Side → ℕ → Site → Site = sent_to sc me i frame x in
-    let was = back-from (sent side n) (slice_get (of_kind side sites) n) y (sym (get-each sent sites side n) ∙ there) in
+    let was = option_map-back (sent side n) (slice_get (of_kind side sites) n) y (sym (get-each sent sites side n) ∙ there) in
     let same = sent-same sc me i frame x side n was.0 in
     (was.0, (was.1.0, (ap (λ (s : Site). s.ahead) (sym was.1.1) ∙ same.0, ap (λ (s : Site). s.runs) (sym was.1.1) ∙ same.1)))
 
@@ -419,7 +417,7 @@ behind-tick sc kept scene until w v me i a h side j y there =
     by q here true e is ahead runs =
         let at = node-is me side i j e in
         let here_me : slice_get (of_kind me v.sites) i ≡ Some q = sym (ap (λ k. slice_get (of_kind k v.sites) j) at.0 ∙ ap (slice_get (of_kind me v.sites)) at.1) ∙ here in
-        let same : q ≡ s = some-same q s (sym here_me ∙ h.first.there) in
+        let same : q ≡ s = same_Some q s (sym here_me ∙ h.first.there) in
         let acts : after_act sc v.ports me i x (swept sc me i (a.time + 1) q) ≡ _ =
         sym (ap (λ b. elim b as (λ _. Site) [ true ↦ after_act sc v.ports me i x (swept sc me i (a.time + 1) q) | false ↦ q ]) e) ∙ is in
         subst (λ k. IsBehind sc k j (until_tick me i a.time k j) y) (sym at.0)

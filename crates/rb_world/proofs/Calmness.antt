@@ -2,13 +2,13 @@
 use Rattle.std.proofs.Common.{◌≡◌, ℕ, ◌+◌, ◌<◌, ◌⊎◌, ◌&&◌, ◌||◌, nat_lt, Bool, true, false, Some, None, List, [], get_or, refl, sym, ap, ◌∙◌, subst, arith, inl, inr}
 use Rattle.std.specs.Prelude.{◌==◌, Option, length, unwrap_or}
 use Rattle.std.specs.List.{list_any}
+use Rattle.std.proofs.lemmas.Bool.{lt-ltb, or_cases}
 use Rattle.std.proofs.lemmas.Bool.Decides.{nat_tests}
 use Rattle.rb_base.specs.Nodes.{Side}
 use Rattle.rb_base.specs.Nodes.Side.{Biu, Rmu}
 use Rattle.rb_base.specs.Sizes.{Sizes}
 use Rattle.rb_base.specs.declared.node.NodeName.{NodeName}
 use Rattle.rb_base.specs.declared.values.Place.{Place}
-use Rattle.rb_base.proofs.Sets.{lt_true}
 use Rattle.rb_world_onset.specs.Faults.{Faults, faults_of}
 use Rattle.rb_plan.specs.Timetable.{Timetable}
 use Rattle.rb_rules.specs.declared.plan.Plan.{Plan}
@@ -27,11 +27,11 @@ use Rattle.rb_rules.specs.SyncStage.{new_epoch_of}
 use Rattle.rb_rules.specs.WorldStep.{Site, await, proceed, says_in, span_from}
 use Rattle.rb_world_traffic.specs.Arriving.{number_of}
 use Rattle.rb_world_traffic.specs.Saying.{KeptSayings, entries_for, first_frame, is_for, kept_of, last_frame}
-use Rattle.rb_world_traffic.proofs.Says.{none-after, none-before, none-for, says-are}
+use Rattle.rb_world_traffic.proofs.Says.{none-after, none-before, none-for, number-of, says-are}
 use Rattle.rb_world.specs.Buses.{IsBus, scenario_of}
 use Rattle.rb_world.specs.Calm.{AreRestless, IsRestless, first_restless, is_calm, is_outside, last_restless}
 use Rattle.rb_world.specs.declared.calm.Restless.{Restless}
-use Rattle.rb_world.proofs.Lanes.{kind-named, number-named}
+use Rattle.rb_world.proofs.Lanes.{kind-named}
 use Rattle.rb_world.proofs.Onward.{goes-in, goes-on}
 
 -- The frame of a window.
@@ -78,13 +78,9 @@ span-frame sizes plan me st k span e =
 abbrev pub IsOut : ℕ → ℕ → ℕ → Type 0
 IsOut first last g = (g < first) ⊎ (last < g)
 
-or-parts : (a b : Bool) → (a || b) ≡ true → (a ≡ true) ⊎ (b ≡ true)
-or-parts true b e = inl refl
-or-parts false b e = inr e
-
 pub out-of : (first last frame g : ℕ) → is_outside first last frame ≡ true → (g ≡ frame) ⊎ (g ≡ frame + 1) → IsOut first last g
 out-of first last frame g outside is =
-    elim (or-parts (nat_lt (frame + 1) first) (nat_lt last frame) outside) [
+    elim (or_cases (nat_lt (frame + 1) first) (nat_lt last frame) outside) [
       | inl before ↦
           let lt : frame + 1 < first = grind (arith, nat_tests, before) in
           inl (elim is [ inl e ↦ omega (arith, e, lt) | inr e ↦ omega (arith, e, lt) ])
@@ -123,7 +119,7 @@ calm-good sc me i span frame calm within small is =
     let says = entries_for (kept_of sc) (name_of me i) in
     let few : span.place.frame < 4294967297 = elim is [ inl e ↦ omega (arith, e, small) | inr e ↦ omega (arith, e, small) ] in
     let out = out-of (first_restless o (first_frame says)) (last_restless o (last_frame says)) frame span.place.frame calm is in
-    ap (λ b. b && is_before o span.place.frame span.place.slot) (lt_true i (count_of me sc.sizes) within)
+    ap (λ b. b && is_before o span.place.frame span.place.slot) (lt-ltb i (count_of me sc.sizes) within)
     ∙ good-out o (first_frame says) (last_frame says) span.place.frame span.place.slot few out
 
 pub calm-unsaid : (sc : Scenario) (me : Side) (i : ℕ) (span : Span) (frame : ℕ) → is_calm sc me i frame ≡ true → frame < 4294967296
@@ -134,7 +130,7 @@ calm-unsaid sc me i span frame calm small is =
     let says : List Say = entries_for (kept_of sc) to in
     let few : span.place.frame < 4294967297 = elim is [ inl e ↦ omega (arith, e, small) | inr e ↦ omega (arith, e, small) ] in
     let out = out-of (first_restless o (first_frame says)) (last_restless o (last_frame says)) frame span.place.frame calm is in
-    sym (ap (λ k. says_in sc k (number_of to) span) (kind-named me i) ∙ ap (λ n. says_in sc me n span) (number-named me i))
+    sym (ap (λ k. says_in sc k (number_of to) span) (kind-named me i) ∙ ap (λ n. says_in sc me n span) (number-of me i))
     ∙ says-are sc to span
     ∙ none-for sc (clock_of sc (kind_of to) (number_of to)) span says (unsaid-out o says span.place few out)
 

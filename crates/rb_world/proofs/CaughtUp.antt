@@ -1,13 +1,14 @@
 -- All nodes are swept, one after another.
-use Rattle.std.proofs.Common.{◌≡◌, ℕ, zero, suc, ◌+◌, ◌<◌, ◌≤◌, ◌==◌, Bool, true, false, Some, None, Option, List, [], ◌∷◌, length, slice_get, refl, sym, ap, ◌∙◌, subst, arith, inl, inr}
+use Rattle.std.proofs.Common.{◌≡◌, ℕ, zero, suc, ◌+◌, ◌<◌, ◌≤◌, ◌==◌, Bool, true, false, Some, None, Option, List, [], length, slice_get, refl, sym, ap, ◌∙◌, subst, arith, inl, inr}
 use Rattle.std.specs.Prelude.{option_map, slice_set, unwrap_or}
-use Rattle.std.proofs.lemmas.Bool.{cases_lt, le-ltb}
+use Rattle.std.proofs.lemmas.Bool.{cases_lt}
 use Rattle.std.proofs.lemmas.Bool.Decides.{nat_tests}
 use Rattle.std.proofs.lemmas.List.{length-set}
-use Rattle.std.proofs.lemmas.Option.{slice_get_past, slice_get_within}
+use Rattle.std.proofs.lemmas.Option.{same_Some, slice_get_past, slice_get_within}
 use Rattle.rb_base.specs.Nodes.{Side, has, other}
 use Rattle.rb_base.specs.Nodes.Side.{Biu, Rmu}
 use Rattle.rb_base.specs.declared.node.NodeName.{NodeName}
+use Rattle.rb_base.proofs.Plain.{option_map-back}
 use Rattle.rb_rules.specs.Lawful.{kind_of}
 use Rattle.rb_rules.specs.Book.{Each, of_kind}
 use Rattle.rb_rules.specs.Goodness.{Scenario}
@@ -19,7 +20,7 @@ use Rattle.rb_queue.specs.Waiting.{HasLane, Held}
 use Rattle.rb_world_agenda.specs.Holding.{HoldsSites}
 use Rattle.rb_world_agenda.proofs.Which.{has-item}
 use Rattle.rb_world_book.proofs.Noting.{same-shown}
-use Rattle.rb_laws_events.proofs.WorldStands.{back-from, get-at, is_node, node-itself, not-other}
+use Rattle.rb_laws_events.proofs.WorldStands.{get-at, is_node, node-itself, not-other}
 use Rattle.rb_world.specs.Sites.{KeptSite, number_of}
 use Rattle.rb_laws_sweeps.specs.AheadOf.{ahead_of, each_swept, until_tick}
 use Rattle.rb_laws_sweeps.proofs.Calls.{nobody-is-ahead}
@@ -27,22 +28,18 @@ use Rattle.rb_laws_sweeps.specs.Sweeping.{swept}
 use Rattle.rb_laws_sweeps.proofs.GoesOn.{sweep_to}
 use Rattle.rb_laws_sweeps.proofs.Sweeps.{sweeps-keep}
 use Rattle.rb_world_traffic.specs.Arriving.{AreRunning, number_of as number_in}
+use Rattle.rb_world_traffic.proofs.Says.{number-of}
 use Rattle.rb_world.specs.declared.scene.Scene.{Scene}
 use Rattle.rb_world.specs.Buses.{HaveRooms}
 use Rattle.rb_world.specs.Worlds.{AreNodes, IsNode, Surrounds, running_of}
-use Rattle.rb_world.proofs.Lanes.{has-lane, kind-named, node-named, number-named}
+use Rattle.rb_world.proofs.Lanes.{has-lane, kind-named, node-named}
 use Rattle.rb_world.proofs.Sites.{at-same, shows-each}
 use Rattle.rb_world.proofs.Told.{set-here, set-there}
-use Rattle.rb_world.specs.Trailing.{HasCaughtUp, HaveCaughtUp, MayCatchUp, MaySweep, Sweeps, Trails, cleared, swept_first, tick_from}
-
-some-same : {X : Type 0} (a b : X) → Some a ≡ Some b → a ≡ b
-some-same a b e = ap (λ o. unwrap_or o a) e
+use Rattle.rb_world.specs.Trailing.{HasCaughtUp, HaveCaughtUp, MayCatchUp, MaySweep, Sweeps, Trails, cleared, swept_first}
+use Rattle.rb_world.proofs.FirstStands.{kept-none, same-lists}
+use Rattle.rb_world.proofs.Swept.{kept-tick}
 
 -- The first of them are swept, and the others are as before.
-
-kept-none : (o : Option Site) → option_map (λ s. s) o ≡ o
-kept-none None = refl
-kept-none (Some s) = refl
 
 apart : (me : Side) (n i : ℕ) → (n ≡ i → ⊥) → is_node me n me i ≡ false
 apart Biu n i not = not-same n i not
@@ -97,15 +94,6 @@ first-other sc until me (suc n) i sites =
     get-at me (other me) n i (swept sc me n (until me n)) (swept_first sc until me n sites)
     ∙ ap (λ (b : Bool). option_map (λ s. elim b as (λ _. Site) [ true ↦ swept sc me n (until me n) s | false ↦ s ]) (slice_get (of_kind (other me) (swept_first sc until me n sites)) i)) (not-other me n i)
     ∙ kept-none (slice_get (of_kind (other me) (swept_first sc until me n sites)) i) ∙ first-other sc until me n i sites
-
-none-some : (x : Site) → None ≡ Some x → ⊥
-none-some x e = cc
-
-same-lists : (xs ys : List Site) → ((i : ℕ) → slice_get xs i ≡ slice_get ys i) → xs ≡ ys
-same-lists [] [] h = refl
-same-lists [] (y ∷ ys) h = absurd (none-some y (h 0))
-same-lists (x ∷ xs) [] h = absurd (none-some x (sym (h 0)))
-same-lists (x ∷ xs) (y ∷ ys) h = ap (λ z. z ∷ xs) (some-same x y (h 0)) ∙ ap (λ zs. y ∷ zs) (same-lists xs ys (λ i. h (suc i)))
 
 -- all nodes of a kind
 first-all : (sc : Scenario) (until : Side → ℕ → ℕ) (me : Side) (n : ℕ) (sites : Each Site) → length (of_kind me sites) ≡ n
@@ -186,10 +174,6 @@ next-of sc until me n first begun kept lanes sites may is inside =
       };
     }
 
-kept-tick : (until : ℕ) (o : Option Timed) → ((a : Timed) → o ≡ Some a → until ≤ a.time) → tick_from until o ≡ o
-kept-tick until None late = refl
-kept-tick until (Some a) late = ap (λ b. elim b as (λ _. Option Timed) [ true ↦ None | false ↦ Some a ]) (le-ltb a.time until (late a refl))
-
 -- its tick stays
 cleared-swept : (sc : Scenario) (me : Side) (i until : ℕ) (s : Site) → ((a : Timed) → s.ahead ≡ Some a → until ≤ a.time) → cleared sc me i until s ≡ swept sc me i until s
 cleared-swept sc me i until s late =
@@ -224,7 +208,7 @@ catch-goes sc until me n first begun kept lanes new site sites may is next sweep
     by-node i k s below here there true e =
         let same : i ≡ n = grind (arith, nat_tests, e) in
         let new_is : site ≡ k = set-here kept n site k (subst (λ m. slice_get (slice_set kept n site) m ≡ Some k) same here) in
-        let old : next.s ≡ s = some-same next.s s (sym next.there ∙ ap (slice_get (of_kind me sites)) (sym same) ∙ there) in
+        let old : next.s ≡ s = same_Some next.s s (sym next.there ∙ ap (slice_get (of_kind me sites)) (sym same) ∙ there) in
         subst (λ m. IsNode sc me m k (swept sc me m (until me m) s)) (sym same)
         (subst (λ k. IsNode sc me n k (swept sc me n (until me n) s)) new_is (subst (λ s. IsNode sc me n site (swept sc me n (until me n) s)) old sweeps.node))
     by-node i k s below here there false e =
@@ -243,7 +227,7 @@ catch-ends sc until me n kept lanes sites all is = record {
       let inside = slice_get_within kept i k here in
       let many = is.many in
       let below : i < n = omega (arith, inside, many, all) in
-      let was = back-from (swept sc me i (until me i)) (slice_get (of_kind me sites) i) z (sym (first-there sc until me n i sites below) ∙ there) in
+      let was = option_map-back (swept sc me i (until me i)) (slice_get (of_kind me sites) i) z (sym (first-there sc until me n i sites below) ∙ there) in
       subst (IsNode sc me i k) was.1.1 (is.swept_are i k was.0 below here was.1.0);
 }
 
@@ -270,7 +254,7 @@ around-ahead sc kept scene until w v lanes h holds rooms =
 
     runs : (side : Side) (r : ℕ) → AreRunning side r v.sites → AreRunning side r (each_swept sc until v.sites)
     runs side r are n z e =
-        let was = back-from (sweep_to sc until side n) (slice_get (of_kind side v.sites) n) z (sym (get-each (sweep_to sc until) v.sites side n) ∙ e) in
+        let was = option_map-back (sweep_to sc until side n) (slice_get (of_kind side v.sites) n) z (sym (get-each (sweep_to sc until) v.sites side n) ∙ e) in
         are n was.0 was.1.0 ∙ sym (ap (λ (s : Site). s.runs) (sweeps-keep sc side n (until side n) was.0).is) ∙ ap (λ (s : Site). s.runs) was.1.1
 
     running : (side : Side) → AreRunning side (running_of side (record scene { agenda = lanes })) (ahead_of sc until v).sites
@@ -296,7 +280,7 @@ catch-may sc from time me n u first begun kept lanes sites site name may is insi
     let same : next.site ≡ site = some-kept next.site site (sym next.here ∙ there) in
     let number : number_of site ≡ n = sym (ap number_of same) ∙ next.may.node.number in
     let name_is : name ≡ name_of me n = named ∙ ap (name_of me) number in
-    let until_is : u ≡ all me n = until ∙ ap (λ m. all (kind_of m) (number_in m)) name_is ∙ ap (λ k. all k (number_in (name_of me n))) (kind-named me n) ∙ ap (all me) (number-named me n) in
+    let until_is : u ≡ all me n = until ∙ ap (λ m. all (kind_of m) (number_in m)) name_is ∙ ap (λ k. all k (number_in (name_of me n))) (kind-named me n) ∙ ap (all me) (number-of me n) in
     record {
       next = next;
       number = number;

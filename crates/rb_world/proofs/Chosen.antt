@@ -21,7 +21,7 @@ pub waits-pends : (p : Waits) → Pends (without_waiting p)
 waits-pends (Tick k) = record { row = λ s. refl; begun = λ s. refl; runs = λ s. refl }
 waits-pends (Arrival place c) = record { row = λ s. refl; begun = λ s. refl; runs = λ s. refl }
 
-room-left : (place : ℕ) (lane : Held) → (without_ready place lane).room ≡ lane.room
+pub room-left : (place : ℕ) (lane : Held) → (without_ready place lane).room ≡ lane.room
 room-left place lane = by (slice_get (ready_of lane) place)
   where
     by : (o : Option Ready) → (without_found o lane).room ≡ lane.room

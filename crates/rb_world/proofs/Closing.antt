@@ -1,6 +1,7 @@
 -- What a tick leaves of what came, and of which sources it shows times.
 use Rattle.std.proofs.Common.{◌≡◌, ℕ, zero, suc, ◌+◌, ◌<◌, ◌≤◌, ◌==◌, ◌&&◌, Bool, true, false, Option, Some, None, List, [], ◌∷◌, map, get_or, refl, sym, ◌∙◌, subst, arith, if◌then◌else◌}
 use Rattle.std.proofs.lemmas.List.FromFn.{get_or-map-range_with_len}
+use Rattle.std.proofs.lemmas.Option.{same_Some}
 use Rattle.rb_base.specs.Nodes.{Side}
 use Rattle.rb_base.specs.Sizes.{Sizes, sync_slot_of}
 use Rattle.rb_base.specs.declared.values.Heard.{Heard}
@@ -106,9 +107,6 @@ pub record Leaves (c : Core) (x : Act) : Type 0 where
   pub cleared : (shown : Closed) → x.closed ≡ Some shown → x.core.inbox ≡ []
   pub sole : (shown : Closed) → x.closed ≡ Some shown → (j stamp : ℕ) → j < 16 → ShowsTime shown j stamp → (a : Arrival) × (of_source c.inbox j ≡ a ∷ [])
 
-same-some : (a b : Closed) → Some a ≡ Some b → a ≡ b
-same-some a b e = cc
-
 on-leaves : (sizes : Sizes) (plan : Plan) (me : Side) (index : ℕ) (c : Core) (st : NodeState) (message : Option Message) (kept : NodeState)
     → Leaves c (act_on sizes plan me index c st message kept)
 unfolding act_on
@@ -127,7 +125,7 @@ on-leaves sizes plan me index c st message kept = by (is_last sizes plan me st c
       cleared = λ shown e. refl;
       sole = λ shown e j stamp h t.
           window-sole sizes plan me index kept (window_here sizes plan me st c.had) (of_source c.inbox) j stamp h
-          (subst (λ (x : Closed). ShowsTime x j stamp) (sym (same-some closing.closed shown e)) t);
+          (subst (λ (x : Closed). ShowsTime x j stamp) (sym (same_Some closing.closed shown e)) t);
     }
     by false = record { later = omega arith; kept = λ e. refl; cleared = λ shown e. absurd (cc); sole = λ shown e j stamp h t. absurd (cc) }
 

@@ -1,6 +1,7 @@
 -- A node enters a window, or not.
 use Rattle.std.proofs.Common.{◌≡◌, ℕ, ◌+◌, ◌<◌, ◌≤◌, true, false, Some, None, List, [], ◌++◌, length, slice_get, refl, sym, ap, ◌∙◌, subst, arith, length-append}
-use Rattle.std.specs.Prelude.{option_map, unwrap_or}
+use Rattle.std.specs.Prelude.{option_map}
+use Rattle.std.proofs.lemmas.Option.{same_Some}
 use Rattle.rb_base.specs.Nodes.{Side, other}
 use Rattle.rb_base.specs.Nodes.Side.{Biu, Rmu}
 use Rattle.rb_base.specs.declared.node.NodeName.{NodeName}
@@ -19,21 +20,18 @@ use Rattle.rb_laws_events.proofs.WorldStands.{get-at, is_node, node-itself}
 use Rattle.rb_world.specs.Sites.{KeptSite}
 use Rattle.rb_world_traffic.specs.Arriving.{number_of}
 use Rattle.rb_world_traffic.specs.Saying.{hears, with_arrivals}
+use Rattle.rb_world_traffic.proofs.Says.{good-of, number-of}
+use Rattle.rb_laws_events.proofs.FewEntered.{says-few}
 use Rattle.rb_world.specs.declared.scene.Scene.{Scene}
 use Rattle.rb_world.specs.Buses.{HaveRooms}
 use Rattle.rb_world.specs.Calm.{is_calm}
 use Rattle.rb_world.specs.Steps.{IsAt, IsCoreAt, OthersStay, Proceeds, moved}
 use Rattle.rb_world.specs.Worlds.{Surrounds}
 use Rattle.rb_world.proofs.Around.{Pends, pends-more}
-use Rattle.rb_world.proofs.Entries.{says-few}
 use Rattle.rb_world.proofs.Going.{name-is, says-then}
-use Rattle.rb_world.proofs.Lanes.{kind-named, number-named, rooms-with}
+use Rattle.rb_world.proofs.Lanes.{kind-named, rooms-with}
 use Rattle.rb_world.proofs.Calmness.{calm-awaits}
 use Rattle.rb_world.proofs.Onward.{goes-in, goes-on, goes-out, others-stay, proceeds-on, proceeds-out}
-
-pub good-named : (sc : Scenario) (me : Side) (i frame slot : ℕ) → is_node_good sc (name_of me i) frame slot ≡ is_good sc me i frame slot
-good-named sc Biu i frame slot = refl
-good-named sc Rmu i frame slot = refl
 
 -- the lanes of the other kind, the node being named
 pub others-named : (name : NodeName) (lane : Held) (lanes : Each Held) → of_kind (other (kind_of name)) (with_lane name lane lanes) ≡ of_kind (other (kind_of name)) lanes
@@ -58,13 +56,10 @@ changed-there me i change w s there =
     get-at me me i i change w.sites ∙ ap (option_map (λ z. elim (is_node me i me i) as (λ _. Site) [ true ↦ change z | false ↦ z ])) there
     ∙ ap (λ b. Some (elim b as (λ _. Site) [ true ↦ change s | false ↦ s ])) (node-itself me i)
 
-some-same : {X : Type 0} (a b : X) → Some a ≡ Some b → a ≡ b
-some-same a b e = ap (λ o. unwrap_or o a) e
-
 -- its core, where the node's name is this
 pub core-at : (sc : Scenario) (me : Side) (i : ℕ) (site : KeptSite) (scene : Scene) (w : World) (s : Site) → IsAt sc me i site scene w s → IsCoreAt sc me (name_of me i) site s.core w
 core-at sc me i site scene w s at = record {
-  number = at.number ∙ sym (number-named me i);
+  number = at.number ∙ sym (number-of me i);
   sizes = at.stands.sizes;
   plan = at.stands.plan;
   core = at.stands.core;
@@ -73,12 +68,12 @@ core-at sc me i site scene w s at = record {
 }
   where
     one : (z : Site) → slice_get (of_kind me w.sites) (number_of (name_of me i)) ≡ Some z → s ≡ z
-    one z e = some-same s z (sym at.there ∙ subst (λ n. slice_get (of_kind me w.sites) n ≡ Some z) (number-named me i) e)
+    one z e = same_Some s z (sym at.there ∙ subst (λ n. slice_get (of_kind me w.sites) n ≡ Some z) (number-of me i) e)
 
 pub core-then : (sc : Scenario) (me : Side) (i : ℕ) (site : KeptSite) (scene : Scene) (w : World) (s : Site) (span : Span) → IsAt sc me i site scene w s
     → IsCoreAt sc me (name_of me i) site s.core (moved me i (λ z. record z { coming = z.coming ++ says_in sc me i span }) w)
 core-then sc me i site scene w s span at = record {
-  number = at.number ∙ sym (number-named me i);
+  number = at.number ∙ sym (number-of me i);
   sizes = at.stands.sizes;
   plan = at.stands.plan;
   core = at.stands.core;
@@ -89,9 +84,9 @@ core-then sc me i site scene w s span at = record {
     one : (z : Site) → slice_get (of_kind me (moved me i (λ z. record z { coming = z.coming ++ says_in sc me i span }) w).sites) (number_of (name_of me i)) ≡ Some z
         → record s { coming = s.coming ++ says_in sc me i span } ≡ z
     one z e =
-        some-same (record s { coming = s.coming ++ says_in sc me i span }) z
+        same_Some (record s { coming = s.coming ++ says_in sc me i span }) z
         (sym (changed-there me i (λ z. record z { coming = z.coming ++ says_in sc me i span }) w s at.there)
-        ∙ subst (λ n. slice_get (of_kind me (moved me i (λ z. record z { coming = z.coming ++ says_in sc me i span }) w).sites) n ≡ Some z) (number-named me i) e)
+        ∙ subst (λ n. slice_get (of_kind me (moved me i (λ z. record z { coming = z.coming ++ says_in sc me i span }) w).sites) n ≡ Some z) (number-of me i) e)
 
 -- as the world has it, the node's name being this
 pub named-moved : (me : Side) (i : ℕ) (change : Site → Site) (w : World) → moved (kind_of (name_of me i)) (number_of (name_of me i)) change w ≡ moved me i change w
@@ -152,7 +147,7 @@ after-some sc me i name site before lanes after w s span named at enters good sa
     subst (Surrounds sc mid) (ap (λ n. moved (kind_of n) (number_of n) (hears sc n span) w) named ∙ hears-named sc me i span w) said in
     let kind : kind_of name ≡ me = ap kind_of named ∙ kind-named me i in
     let here : is_good sc me i span.place.frame span.place.slot ≡ true =
-    sym (good-named sc me i span.place.frame span.place.slot) ∙ ap (λ n. is_node_good sc n span.place.frame span.place.slot) (sym named) ∙ good in
+    sym (good-of sc me i span.place.frame span.place.slot) ∙ ap (λ n. is_node_good sc n span.place.frame span.place.slot) (sym named) ∙ good in
     proceeds-on sc me i site before after w s more at (goes-in sc me i span s enters here)
     (subst (Surrounds sc after) (await-named sc me i (moved me i says w) ∙ ap (λ (sites : Each Site). record w { sites = sites }) (says-then sc me i span w.sites))
     (does (moved me i says w) s.core (core-then sc me i site before w s span at) heard))
@@ -164,7 +159,7 @@ pub after-stop : (sc : Scenario) (me : Side) (i : ℕ) (name : NodeName) (site s
     → Proceeds sc me i stopped before after w s
 after-stop sc me i name site stopped before after w s span named at enters bad is_stopped around others =
     let here : is_good sc me i span.place.frame span.place.slot ≡ false =
-    sym (good-named sc me i span.place.frame span.place.slot) ∙ ap (λ n. is_node_good sc n span.place.frame span.place.slot) (sym named) ∙ bad in
+    sym (good-of sc me i span.place.frame span.place.slot) ∙ ap (λ n. is_node_good sc n span.place.frame span.place.slot) (sym named) ∙ bad in
     subst (λ k. Proceeds sc me i k before after w s) (sym is_stopped)
     (proceeds-out sc me i site before after w s at (goes-out sc me i span s enters here)
     (subst (Surrounds sc after) (ap (λ n. moved (kind_of n) (number_of n) stop w) named ∙ named-moved me i stop w) around)
@@ -176,7 +171,7 @@ pub after-calm : (sc : Scenario) (me : Side) (i : ℕ) (name : NodeName) (site :
 after-calm sc me i name site before after w s frame named at is small calm awaits others =
     let does : AwaitsTick sc me (name_of me i) site before after = subst (λ n. AwaitsTick sc me n site before after) named awaits in
     let kind : kind_of name ≡ me = ap kind_of named ∙ kind-named me i in
-    let number : number_of name ≡ i = ap number_of named ∙ number-named me i in
+    let number : number_of name ≡ i = ap number_of named ∙ number-of me i in
     let same : frame ≡ s.core.state.frame = is ∙ ap (λ (st : NodeState). st.frame) (sym at.stands.core.state) in
     let here : is_calm sc me i s.core.state.frame ≡ true =
     sym (ap (is_calm sc me i) same) ∙ sym (ap (λ k. is_calm sc k (number_of name) frame) kind ∙ ap (λ n. is_calm sc me n frame) number) ∙ calm in

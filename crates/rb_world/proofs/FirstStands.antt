@@ -3,12 +3,13 @@ use Rattle.std.proofs.Common.{◌≡◌, ℕ, zero, suc, ◌+◌, ◌<◌, ◌�
 use Rattle.std.specs.Prelude.{option_map}
 use Rattle.std.proofs.lemmas.Bool.{cases_lt, ltb-true}
 use Rattle.std.proofs.lemmas.Bool.Decides.{nat_tests}
-use Rattle.std.proofs.lemmas.Option.{slice_get_past, slice_get_within}
+use Rattle.std.proofs.lemmas.Option.{same_Some, slice_get_past, slice_get_within}
 use Rattle.std.proofs.lemmas.List.Elements.{All-cons, All-nil}
 use Rattle.rb_base.specs.Counting.{numbers}
 use Rattle.rb_base.specs.Nodes.{Side, has, other, set_of}
 use Rattle.rb_base.specs.Nodes.Side.{Biu, Rmu}
 use Rattle.rb_base.specs.Sizes.{IsShape, Sizes}
+use Rattle.rb_base.proofs.Plain.{none_not_some}
 use Rattle.rb_base.proofs.Sets.{has-set_of, has_above, set_of-lt}
 use Rattle.rb_rules.specs.Book.{each_of, of_kind}
 use Rattle.rb_rules.specs.Goodness.{Scenario}
@@ -34,13 +35,8 @@ use Rattle.rb_world.specs.declared.ties.Seeding.{Seeding}
 use Rattle.rb_world.specs.Openings.{HaveBegun, MayBegin, before_all, with_begun}
 use Rattle.rb_world.specs.Worlds.{AreNodes, HoldsPorts, IsNode, Stands, Surrounds, running_of}
 use Rattle.rb_world.proofs.Beginning.{apart}
+use Rattle.rb_world.proofs.Going.{few-nodes}
 use Rattle.rb_world.proofs.Sites.{counts-one}
-
-none-some : {X P : Type 0} (x : X) → None ≡ Some x → P
-none-some x e = absurd (cc)
-
-some-is : {X : Type 0} (x y : X) → Some x ≡ Some y → x ≡ y
-some-is x y e = cc
 
 -- What surrounds the nodes before they begin.
 
@@ -79,16 +75,12 @@ shows-first h awaits stops sc Biu =
 shows-first h awaits stops sc Rmu =
     shows-list h (λ i. fresh_site sc.sizes Rmu) (λ i. proceed sc Rmu i (fresh_site sc.sizes Rmu)) (λ i. sym (goes-same h awaits stops sc Rmu i (fresh_site sc.sizes Rmu))) (numbers sc.sizes.rmus)
 
-few-nodes : (sc : Scenario) (me : Side) → IsShape sc.sizes → count_of me sc.sizes ≤ 16
-few-nodes sc Biu shape = shape.most_bius
-few-nodes sc Rmu shape = shape.most_rmus
-
 is-fresh : (sc : Scenario) (me : Side) (i : ℕ) (s : Site) → slice_get (of_kind me (before_all sc).sites) i ≡ Some s → (i < count_of me sc.sizes) × (fresh_site sc.sizes me ≡ s)
 is-fresh sc me i s e =
     let lt = slice_get_within (of_kind me (before_all sc).sites) i s e in
     let many : length (of_kind me (before_all sc).sites) ≡ count_of me sc.sizes = first-counts sc.sizes (λ me i. fresh_site sc.sizes me) me in
     let within : i < count_of me sc.sizes = omega (arith, lt, many) in
-    (within, some-is (fresh_site sc.sizes me) s (sym (get-made sc.sizes (λ me i. fresh_site sc.sizes me) me i within) ∙ e))
+    (within, same_Some (fresh_site sc.sizes me) s (sym (get-made sc.sizes (λ me i. fresh_site sc.sizes me) me i within) ∙ e))
 
 all-run : (sc : Scenario) (me : Side) (r : ℕ) → IsShape sc.sizes → r ≡ set_of (λ i. nat_lt i (count_of me sc.sizes)) → AreRunning me r (before_all sc).sites
 all-run sc me r shape is i s e =
@@ -140,7 +132,7 @@ unfolding with_begun
 begun-rest sc me zero w = refl
 begun-rest sc me (suc n) w = ap (λ (x : World). record x { sites = at_node me n (proceed sc me n) (with_begun sc me n w).sites }) (begun-rest sc me n w)
 
-kept-none : (o : Option Site) → option_map (λ s. s) o ≡ o
+pub kept-none : (o : Option Site) → option_map (λ s. s) o ≡ o
 kept-none None = refl
 kept-none (Some s) = refl
 
@@ -183,11 +175,11 @@ begun-there sc me (suc n) i w below = elim (cases_lt i n) [
       ∙ ap (option_map (proceed sc me n)) (begun-later sc me n n w (omega arith)))
 ]
 
-same-lists : (xs ys : List Site) → ((i : ℕ) → slice_get xs i ≡ slice_get ys i) → xs ≡ ys
+pub same-lists : (xs ys : List Site) → ((i : ℕ) → slice_get xs i ≡ slice_get ys i) → xs ≡ ys
 same-lists [] [] h = refl
-same-lists [] (y ∷ ys) h = none-some y (h 0)
-same-lists (x ∷ xs) [] h = none-some x (sym (h 0))
-same-lists (x ∷ xs) (y ∷ ys) h = ap (λ z. z ∷ xs) (some-is x y (h 0)) ∙ ap (λ zs. y ∷ zs) (same-lists xs ys (λ i. h (suc i)))
+same-lists [] (y ∷ ys) h = none_not_some y (h 0)
+same-lists (x ∷ xs) [] h = none_not_some x (sym (h 0))
+same-lists (x ∷ xs) (y ∷ ys) h = ap (λ z. z ∷ xs) (same_Some x y (h 0)) ∙ ap (λ zs. y ∷ zs) (same-lists xs ys (λ i. h (suc i)))
 
 -- a kind of which all have begun
 all-begun : (sc : Scenario) (me : Side) (w : World) → of_kind me w.sites ≡ of_kind me (before_all sc).sites
@@ -235,7 +227,7 @@ begun-nodes sc me kept scene w is = record {
       let many = is.many in
       let lt = slice_get_within kept i k here in
       let within : i < count_of me sc.sizes = omega (arith, lt, many) in
-      subst (IsNode sc me i k) (some-is (proceed sc me i (fresh_site sc.sizes me)) s (sym (get-made sc.sizes (λ me i. proceed sc me i (fresh_site sc.sizes me)) me i within) ∙ there)) (is.begun i k within here);
+      subst (IsNode sc me i k) (same_Some (proceed sc me i (fresh_site sc.sizes me)) s (sym (get-made sc.sizes (λ me i. proceed sc me i (fresh_site sc.sizes me)) me i within) ∙ there)) (is.begun i k within here);
 }
 
 pub first-stands : (sc : Scenario) (bius rmus : List KeptSite) (between scene : Scene) (draws : Seeding) → IsLawful sc → HaveBegun sc Biu sc.sizes.bius bius between (before_all sc)

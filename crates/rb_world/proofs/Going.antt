@@ -4,6 +4,7 @@ use Rattle.std.specs.Prelude.{option_map, slice_set, unwrap_or}
 use Rattle.std.proofs.lemmas.Bool.{cases_lt}
 use Rattle.std.proofs.lemmas.Bool.Decides.{nat_tests}
 use Rattle.std.proofs.lemmas.List.{append-nil}
+use Rattle.std.proofs.lemmas.Option.{slice_get_within}
 use Rattle.rb_base.specs.Nodes.{Side, has, other, set_of}
 use Rattle.rb_base.specs.Nodes.Side.{Biu, Rmu}
 use Rattle.rb_base.specs.Sizes.{IsShape}
@@ -42,14 +43,9 @@ use Rattle.rb_world.proofs.Sites.{at-same, at-twice, at_one, counts-one, holds-s
 abbrev pub without : ℕ → ℕ → ℕ
 without running i = set_of (λ k. not (k == i) && has running k)
 
-few-nodes : (sc : Scenario) (me : Side) → IsShape sc.sizes → count_of me sc.sizes ≤ 16
+pub few-nodes : (sc : Scenario) (me : Side) → IsShape sc.sizes → count_of me sc.sizes ≤ 16
 few-nodes sc Biu shape = shape.most_bius
 few-nodes sc Rmu shape = shape.most_rmus
-
-below-all : {X : Type 0} (xs : List X) (i : ℕ) (x : X) → slice_get xs i ≡ Some x → i < length xs
-below-all [] i x e = cc
-below-all (y ∷ xs) zero x e = omega arith
-below-all (y ∷ xs) (suc i) x e = let lt = below-all xs i x e in omega arith
 
 not-itself : (me : Side) (i n : ℕ) → is_node me i me n ≡ false → (n == i) ≡ false
 not-itself Biu i n h = h
@@ -60,7 +56,7 @@ running-without : (running : ℕ) (sites : Each Site) (me : Side) (i : ℕ) → 
     → AreRunning me (without running i) (at_node me i stop sites)
 running-without running sites me i few runs n z e =
     let was = was-there me i stop sites me n z e in
-    let lt = below-all (of_kind me sites) n was.site was.there in
+    let lt = slice_get_within (of_kind me sites) n was.site was.there in
     let low : n < 16 = omega (arith, lt, few) in
     has-set_of n (λ k. not (k == i) && has running k) low ∙ by was.site was.there was.is (is_node me i me n) refl
   where

@@ -1,56 +1,28 @@
 -- What is kept goes on standing for a world behind.
-use Rattle.std.proofs.Common.{◌≡◌, ℕ, ◌<◌, true, false, length, slice_get, refl, sym, ap, ◌∙◌, subst, arith}
-use Rattle.rb_base.specs.Nodes.{Side, has}
-use Rattle.rb_base.specs.Nodes.Side.{Biu, Rmu}
+use Rattle.std.proofs.Common.{◌≡◌, ℕ, ◌<◌, false, slice_get, refl, sym, ap, ◌∙◌, subst, arith}
+use Rattle.rb_base.specs.Nodes.{Side}
 use Rattle.rb_base.specs.declared.node.NodeName.{NodeName}
 use Rattle.rb_rules.specs.Book.{Each, of_kind}
 use Rattle.rb_rules.specs.Goodness.{Scenario}
 use Rattle.rb_rules.specs.Links.{name_of}
-use Rattle.rb_rules.specs.Slots.{count_of}
-use Rattle.rb_rules.specs.WorldStep.{Site, Timed, Way, World, go_on, happens, settle}
+use Rattle.rb_rules.specs.WorldStep.{Site, Timed, World, go_on, happens, settle}
 use Rattle.rb_rules.specs.WorldStep.Choice.{GoOn}
 use Rattle.rb_rules.specs.WorldStep.Pending.{Tick}
 use Rattle.rb_rules.specs.WorldStep.Way.{ByAnEvent, ByItself}
-use Rattle.rb_world_agenda.specs.Holding.{HoldsSites}
 use Rattle.rb_world_book.specs.Records.{record_of}
 use Rattle.rb_world_book.specs.Settling.{Settles}
 use Rattle.rb_world_book.specs.declared.book.Book.{Book as KeptBook}
 use Rattle.rb_world_book.specs.declared.turn.Turn.{Turn}
-use Rattle.rb_laws_events.proofs.OneTake.{settle-ports}
 use Rattle.rb_laws_events.proofs.WorldNodes.{settle-sites}
 use Rattle.rb_world.specs.Sites.{KeptSite}
 use Rattle.rb_laws_sweeps.specs.AheadOf.{GoesOnAhead, IsFirstTick}
 use Rattle.rb_laws_sweeps.proofs.Calls.{go-on-passes, nobody-is-ahead}
-use Rattle.rb_world_traffic.specs.Arriving.{AreRunning}
+use Rattle.rb_laws_events.proofs.GivenAlone.{go-on-is}
 use Rattle.rb_world.specs.declared.scene.Scene.{Scene}
-use Rattle.rb_world.specs.Worlds.{AreNodes, HoldsPorts, KeptWorld, Stands, Surrounds, running_of}
-use Rattle.rb_world.proofs.GoingOn.{going-settles}
-use Rattle.rb_world.proofs.Turns.{reached-more}
+use Rattle.rb_world.specs.Worlds.{AreNodes, KeptWorld, Stands, Surrounds}
+use Rattle.rb_world.proofs.Turns.{reached-more, surrounds-settled}
 use Rattle.rb_world.specs.Trailing.{BehindTick, GoesToTick, HappensFirst, Trails, alone}
 use Rattle.rb_world.proofs.Behind.{behind-tick, goes-on}
-
--- what surrounds the nodes once something is settled
-pub around-settled : (sc : Scenario) (way : Way) (v : World) (scene : Scene) (book : KeptBook) (turn : Turn) → Surrounds sc scene v → Settles sc way v book turn
-    → Surrounds sc (record scene { book = book }) (settle sc way 2 v)
-around-settled sc way v scene book turn is settles =
-    let sites = sym (settle-sites sc way 2 v) in
-    record {
-      counts = λ side. ap (λ xs. length (of_kind side xs)) (settle-sites sc way 2 v) ∙ is.counts side;
-      lanes = subst (HoldsSites sc.sizes scene.agenda) sites is.lanes;
-      rooms = is.rooms;
-      book = settles.holds;
-      ports = subst (HoldsPorts sc scene.ports.items) (sym (settle-ports sc way 2 v)) is.ports;
-      running = running;
-      within = within;
-    }
-  where
-    within : (side : Side) (n : ℕ) → has (running_of side (record scene { book = book })) n ≡ true → n < count_of side sc.sizes
-    within Biu = is.within Biu
-    within Rmu = is.within Rmu
-
-    running : (side : Side) → AreRunning side (running_of side (record scene { book = book })) (settle sc way 2 v).sites
-    running Biu = subst (AreRunning Biu scene.running_biu) (sym (settle-sites sc way 2 v)) (is.running Biu)
-    running Rmu = subst (AreRunning Rmu scene.running_rmu) (sym (settle-sites sc way 2 v)) (is.running Rmu)
 
 -- At first.
 
@@ -88,7 +60,7 @@ goes-to-tick sc kept new scene after until w v me i a name time book turn h happ
         reached = record { choices = goes.choices; is = sym goes.reached };
         ahead = refl;
         nodes = λ side. subst (λ xs. AreNodes sc side (of_kind side new) (of_kind side xs)) (sym (settle-sites sc ByAnEvent 2 x)) (happened.nodes side);
-        surrounds = around-settled sc ByAnEvent x after book turn happened.surrounds settles;
+        surrounds = surrounds-settled sc ByAnEvent x after book turn happened.surrounds settles;
         later = goes.later;
         behind = behind-tick sc kept scene until w v me i a h;
       };
@@ -109,17 +81,17 @@ first-as-before v x me i a same first = record {
 pub trails-by-itself : (sc : Scenario) (kept : Each KeptSite) (scene : Scene) (until : Side → ℕ → ℕ) (w v : World) (book : KeptBook) (turn : Turn) → Trails sc kept scene until w v
     → v.book.ended ≡ false → Settles sc ByItself v book turn → Trails sc kept (record scene { book = book }) until (go_on sc w) (go_on sc v)
 trails-by-itself sc kept scene until w v book turn h going settles =
-    let is : go_on sc v ≡ settle sc ByItself 2 v = going-settles sc v going in
+    let is : go_on sc v ≡ settle sc ByItself 2 v = go-on-is sc v going in
     let sites : (go_on sc v).sites ≡ v.sites = ap (λ (x : World). x.sites) is ∙ settle-sites sc ByItself 2 v in
     record {
       lawful = h.lawful;
       reached = reached-more sc w GoOn h.reached;
       ahead = ap (go_on sc) h.ahead ∙ go-on-passes sc until v;
       nodes = λ side. subst (λ xs. AreNodes sc side (of_kind side kept) (of_kind side xs)) (sym sites) (h.nodes side);
-      surrounds = subst (Surrounds sc (record scene { book = book })) (sym is) (around-settled sc ByItself v scene book turn h.surrounds settles);
+      surrounds = subst (Surrounds sc (record scene { book = book })) (sym is) (surrounds-settled sc ByItself v scene book turn h.surrounds settles);
       later = λ me i a first. h.later me i a (first-as-before v (go_on sc v) me i a sites first);
       behind = λ side j s there. h.behind side j s (ap (λ (y : Each Site). slice_get (of_kind side y) j) (sym sites) ∙ there);
     }
 
 pub turn-by-itself : (sc : Scenario) (v : World) (book : KeptBook) (turn : Turn) → v.book.ended ≡ false → Settles sc ByItself v book turn → (go_on sc v).turn ≡ record_of turn
-turn-by-itself sc v book turn going settles = ap (λ (x : World). x.turn) (going-settles sc v going) ∙ settles.turn_is
+turn-by-itself sc v book turn going settles = ap (λ (x : World). x.turn) (go-on-is sc v going) ∙ settles.turn_is

@@ -1,20 +1,22 @@
 -- What a state that is handed in makes of a world.
 use Rattle.std.proofs.Common.{◌≡◌, ℕ, zero, suc, ◌<◌, ◌&&◌, nat_lt, Bool, true, false, Option, Some, None, List, [], ◌∷◌, ◌++◌, get_or, length, slice_get, slice_set, refl, sym, ap, ◌∙◌, subst}
 use Rattle.std.proofs.lemmas.Bool.{ltb-true}
+use Rattle.std.proofs.lemmas.Option.{same_Some}
 use Rattle.rb_base.specs.Nodes.{Side, has}
 use Rattle.rb_base.specs.Nodes.Side.{Biu, Rmu}
+use Rattle.rb_base.proofs.Plain.{none_not_some}
 use Rattle.rb_rules.specs.Book.{Record, of_kind}
 use Rattle.rb_rules.specs.Goodness.{Scenario, is_before, is_good, onsets_of}
 use Rattle.rb_rules.specs.Ports.{PortState, with_state}
 use Rattle.rb_rules.specs.Slots.{count_of}
 use Rattle.rb_rules.specs.WorldStep.{World, frame_in, hand}
 use Rattle.rb_rules.specs.WorldStep.Choice.{Hand}
-use Rattle.rb_laws_events.proofs.HandedIn.{length-handed}
 use Rattle.rb_port.specs.Keeping.{HoldsPort, KeptPort}
 use Rattle.rb_world_traffic.specs.Arriving.{AreRunning}
 use Rattle.rb_world_agenda.specs.Holding.{HoldsSites}
 use Rattle.rb_world_book.specs.Holding.{Holds}
 use Rattle.rb_world_book.specs.declared.book.Book.{Book as KeptBook}
+use Rattle.rb_laws_agreement.proofs.PortLists.{with-state-long}
 use Rattle.rb_world.specs.Buses.{HaveRooms}
 use Rattle.rb_world.specs.declared.last.Last.TheVariants as last
 use Rattle.rb_world.specs.declared.scene.Scene.{Scene}
@@ -23,23 +25,17 @@ use Rattle.rb_world.proofs.Turns.{reached-more}
 
 -- Ports.
 
-none-is : {A P : Type 0} (x : A) → None ≡ Some x → P
-none-is x e = absurd (cc)
-
-some-is : {A : Type 0} (x y : A) → Some x ≡ Some y → x ≡ y
-some-is x y e = cc
-
 abbrev HoldAll : List KeptPort → List PortState → Type 0
 HoldAll kept ports = (i : ℕ) (k : KeptPort) (port : PortState) → slice_get kept i ≡ Some k → slice_get ports i ≡ Some port → HoldsPort k port
 
 set-held : (biu state : ℕ) (kept : List KeptPort) (ports : List PortState) (new : KeptPort) → HoldAll kept ports
     → ((k : KeptPort) (port : PortState) → slice_get kept biu ≡ Some k → HoldsPort k port → HoldsPort new (record port { state = state }))
     → HoldAll (slice_set kept biu new) (with_state biu state ports)
-set-held biu state [] ports new all one i k port here there = none-is k here
-set-held zero state (k0 ∷ ks) [] new all one i k port here there = none-is port there
-set-held (suc b) state (k0 ∷ ks) [] new all one i k port here there = none-is port there
+set-held biu state [] ports new all one i k port here there = none_not_some k here
+set-held zero state (k0 ∷ ks) [] new all one i k port here there = none_not_some port there
+set-held (suc b) state (k0 ∷ ks) [] new all one i k port here there = none_not_some port there
 set-held zero state (k0 ∷ ks) (p0 ∷ ps) new all one zero k port here there =
-    subst (λ x. HoldsPort x port) (some-is new k here) (subst (HoldsPort new) (some-is (record p0 { state = state }) port there) (one k0 p0 refl (all 0 k0 p0 refl refl)))
+    subst (λ x. HoldsPort x port) (same_Some new k here) (subst (HoldsPort new) (same_Some (record p0 { state = state }) port there) (one k0 p0 refl (all 0 k0 p0 refl refl)))
 set-held zero state (k0 ∷ ks) (p0 ∷ ps) new all one (suc i) k port here there = all (suc i) k port here there
 set-held (suc b) state (k0 ∷ ks) (p0 ∷ ps) new all one zero k port here there = all 0 k port here there
 set-held (suc b) state (k0 ∷ ks) (p0 ∷ ps) new all one (suc i) k port here there =
@@ -55,7 +51,7 @@ pub ports-handed : (sc : Scenario) (biu state : ℕ) (kept : List KeptPort) (por
     → HoldsPorts sc (slice_set kept biu new) (with_state biu state ports)
 ports-handed sc biu state kept ports new is one = record {
   many = set-length kept biu new ∙ is.many;
-  all = length-handed biu state ports ∙ is.all;
+  all = with-state-long biu state ports ∙ is.all;
   each = set-held biu state kept ports new is.each one;
 }
 

@@ -1,6 +1,7 @@
 -- When nothing may be taken.
 use Rattle.std.proofs.Common.{◌≡◌, ℕ, ◌<◌, ◌||◌, Bool, true, false, List, [], length, refl, sym, ap, ◌∙◌, arith, inl, inr, IsTrue, ◌↔◌}
 use Rattle.std.proofs.lemmas.Bool.{cases_lt}
+use Rattle.rb_base.proofs.Plain.{or-true}
 use Rattle.rb_rules.specs.WorldStep.{Due, World, due_of, needs_no_event}
 use Rattle.rb_world_agenda.specs.Agenda.{due_now, how_many}
 use Rattle.rb_world_book.specs.Settling.{is_free}
@@ -12,10 +13,6 @@ use Rattle.rb_world.proofs.Turns.{due-is-now}
 idle-is : (k : KeptWorld) (w : World) → Stands k w → (w.book.ended || needs_no_event k.bus w.book.upcoming) ≡ (k.scene.book.ended || is_free k.scene.book)
 idle-is k w is =
     ap (λ b. b || needs_no_event k.bus w.book.upcoming) is.scene.book.ended ∙ ap (λ b. k.scene.book.ended || b) (free-is k.bus k.scene.book w is.scene.book)
-
-or-true : (b : Bool) → (b || true) ≡ true
-or-true true = refl
-or-true false = refl
 
 pub ended-idle : (k : KeptWorld) (w : World) → Stands k w → w.book.ended ≡ true → (w.book.ended || needs_no_event k.bus w.book.upcoming) ≡ true
 ended-idle k w is e = ap (λ b. b || needs_no_event k.bus w.book.upcoming) e

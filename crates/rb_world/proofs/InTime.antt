@@ -1,42 +1,33 @@
 -- What is due comes while the node's clock still has a tick, in every world that choices lead to.
-use Rattle.std.proofs.Common.{◌≡◌, ℕ, zero, suc, ◌^◌, ◌<◌, ◌≤◌, true, false, List, sym, ◌∙◌, subst, arith, inl, inr, Some, slice_get}
+use Rattle.std.proofs.Common.{◌≡◌, ℕ, ◌^◌, ◌<◌, ◌≤◌, true, List, sym, ◌∙◌, subst, arith, inl, inr, Some, slice_get}
 use Rattle.rb_base.specs.Nodes.{Side}
+use Rattle.rb_base.proofs.Plain.{true-false}
 use Rattle.rb_rules.specs.Clock.{time_of}
 use Rattle.rb_rules.specs.Goodness.{Scenario, clock_of}
 use Rattle.rb_rules.specs.Lawful.{IsLawful}
 use Rattle.rb_rules.specs.Rounds.{moment}
 use Rattle.rb_rules.specs.WorldStep.{Choice, Due, World, due_of, world_after}
-use Rattle.rb_laws_events.proofs.BreakKeeps.{early-keeps}
 use Rattle.rb_laws_events.proofs.BreakNodes.{KeepsNodes}
 use Rattle.rb_laws_events.proofs.BreakOff.{BreaksOff}
 use Rattle.rb_laws_events.proofs.BreakRooms.{HasLater, has-later}
 use Rattle.rb_laws_events.proofs.BreakRuns.{first-of, waits-yet}
 use Rattle.rb_laws_events.proofs.DueEvents.{IsDue}
-use Rattle.rb_laws_events.proofs.EventsHold.{nodes_at}
+use Rattle.rb_laws_events.proofs.EventsHold.{keeps, nodes_at}
 use Rattle.rb_laws_events.proofs.EveryWorld.{AnyWorld, InRun, any-after, due-going}
 use Rattle.rb_laws_events.proofs.Invariant.{is_good_at}
-use Rattle.rb_laws_events.proofs.LastKeeps.{last-keeps}
 use Rattle.rb_laws_events.proofs.NodeEvents.{tick-after}
-use Rattle.rb_laws_events.proofs.OneEvent.{all-pend, pend-of}
+use Rattle.rb_laws_events.proofs.OneEvent.{all-pend}
 use Rattle.rb_laws_events.proofs.OneTake.{StandsInRounds}
 use Rattle.rb_laws_events.proofs.TickRooms.{has-room}
 use Rattle.rb_laws_events.proofs.WorldStands.{IsUp, sent_by}
+use Rattle.rb_laws_events.proofs.Behind.{pend-of}
 use Rattle.rb_world.specs.Worlds.{IsReached}
-
-true-false : {P : Type 0} → true ≡ false → P
-true-false e = absurd (cc)
 
 -- a tick that the node may have and that comes no earlier
 pub record HasTick (sc : Scenario) (t : ℕ) (me : Side) (i : ℕ) : Type 0 where
   pub k : ℕ
   pub small : k < 2 ^ 31
   pub later : t ≤ time_of (clock_of sc me i) k
-
-keeps : (sc : Scenario) → IsLawful sc → (q : ℕ) → q < 3 → KeepsNodes sc q (nodes_at sc q)
-keeps sc lawful zero small = early-keeps sc lawful (has-room sc lawful) 0 (omega arith)
-keeps sc lawful (suc zero) small = early-keeps sc lawful (has-room sc lawful) 1 (omega arith)
-keeps sc lawful (suc (suc zero)) small = last-keeps sc lawful (has-room sc lawful)
-keeps sc lawful (suc (suc (suc q))) small = absurd (omega (arith, small))
 
 in-run : (sc : Scenario) (w : World) (d : Due) → InRun sc w → (due : IsDue w d) → due.s.runs ≡ true → HasTick sc due.t d.side d.node
 in-run sc w d run due runs =

@@ -1,8 +1,9 @@
 -- Room in the lanes.
-use Rattle.std.proofs.Common.{◌≡◌, ℕ, zero, suc, ◌+◌, ◌<◌, ◌≤◌, Bool, true, false, Some, None, All, List, [], ◌∷◌, length, map, slice_get, refl, ap, subst, arith, length-append}
+use Rattle.std.proofs.Common.{◌≡◌, ℕ, zero, suc, ◌+◌, ◌<◌, ◌≤◌, Bool, true, false, Some, All, List, [], ◌∷◌, length, map, slice_get, refl, ap, subst, arith, length-append}
 use Rattle.std.specs.Prelude.{option_map, option_to_list, unwrap_or}
 use Rattle.std.proofs.lemmas.List.{length-map}
 use Rattle.std.proofs.lemmas.List.Elements.{All-cons, All-head, All-nil, All-set, All-tail}
+use Rattle.std.proofs.lemmas.Option.{none-some}
 use Rattle.rb_base.specs.Nodes.{Side}
 use Rattle.rb_base.specs.Nodes.Side.{Biu, Rmu}
 use Rattle.rb_base.specs.Sizes.{Sizes}
@@ -18,7 +19,7 @@ use Rattle.rb_rules.specs.WorldStep.{Site, World, times_of}
 use Rattle.rb_laws_events.specs.PendingEvents.{most_pending}
 use Rattle.rb_queue.specs.Waiting.{HasLane, Held, empty_lane, lane_of, spare_of, with_arrival, with_lane}
 use Rattle.rb_world_agenda.specs.Holding.{HoldsAll, HoldsSite, HoldsSites}
-use Rattle.rb_world_traffic.specs.Arriving.{lane_with, lanes_with, number_of}
+use Rattle.rb_world_traffic.specs.Arriving.{lane_with, lanes_with}
 use Rattle.rb_world.specs.declared.scene.Scene.{Scene}
 use Rattle.rb_world.specs.Buses.{HasRoom, HaveRooms}
 use Rattle.rb_world.specs.Worlds.{Surrounds}
@@ -28,10 +29,6 @@ use Rattle.rb_world.specs.Worlds.{Surrounds}
 pub kind-named : (me : Side) (i : ℕ) → kind_of (name_of me i) ≡ me
 kind-named Biu i = refl
 kind-named Rmu i = refl
-
-pub number-named : (me : Side) (i : ℕ) → number_of (name_of me i) ≡ i
-number-named Biu i = refl
-number-named Rmu i = refl
 
 -- each node has a lane
 lanes-many : (sizes : Sizes) (me : Side) (ls : List Held) (ss : List Site) → HoldsAll sizes me ls ss → length ls ≡ length ss
@@ -96,9 +93,6 @@ events-count sizes me lane s h =
     let arrived : length lane.arrivals ≡ length s.coming = ap length h.coming in
     let ahead : length (option_to_list lane.tick) ≡ length ticks = ap (λ o. length (option_to_list o)) h.ahead in
     omega (arith, long, many, arrived, ahead)
-
-none-some : {X : Type 0} (x : X) → None ≡ Some x → ⊥
-none-some x e = cc
 
 lane-held : (sizes : Sizes) (me : Side) (ls : List Held) (ss : List Site) (i : ℕ) (s : Site) → HoldsAll sizes me ls ss → slice_get ss i ≡ Some s
     → HoldsSite sizes me (unwrap_or (slice_get ls i) (empty_lane 0)) s

@@ -17,6 +17,7 @@ use Rattle.rb_rules.specs.WorldStep.Way.{ByAnEvent, ByItself}
 use Rattle.rb_laws_events.proofs.WorldBooks.{IsTurn, go-on-turn, happens-book, last-one, none-past, settle_rest, take-turn}
 use Rattle.rb_world.specs.Nexts.{is_last}
 use Rattle.rb_world.specs.Worlds.{IsReached}
+use Rattle.rb_world.proofs.GoingOn.{ended-stays}
 
 not-both : {P : Type 0} (b : Bool) → b ≡ true → b ≡ false → P
 not-both b t f = absurd (cc)
@@ -94,11 +95,6 @@ settle-ends sc way (suc n) w going =
     one : (next : World) (o : Option Record) → next.book.ended ≡ is_last o → (next.book.ended ≡ false → EndsWell (settle sc way n next)) → EndsWell (settle_rest sc way n next o)
     one next None ends more = more ends
     one next (Some r) ends more = ends
-
--- a run that has ended stays
-stays : (sc : Scenario) (w : World) → w.book.ended ≡ true → go_on sc w ≡ w
-unfolding go_on
-stays sc w e = ap (λ b. elim b as (λ _. World) [ true ↦ w | false ↦ settle sc ByItself 2 w ]) e
 
 go-on-ends : (sc : Scenario) (w : World) → EndsWell w → EndsWell (go_on sc w)
 unfolding go_on
@@ -179,7 +175,7 @@ go-on-gave : (sc : Scenario) (w : World) → GaveLast w → GaveLast (go_on sc w
 go-on-gave sc w gave = by w.book.ended refl
   where
     by : (b : Bool) → w.book.ended ≡ b → GaveLast (go_on sc w)
-    by true e = subst GaveLast (sym (stays sc w e)) gave
+    by true e = subst GaveLast (sym (ended-stays sc w e)) gave
     by false e = turn-gave w.book.given (go_on sc w) (go-on-turn sc w e)
 
 take-gave : (sc : Scenario) (w : World) (i : ℕ) → GaveLast w → GaveLast (take sc w i)

@@ -7,6 +7,7 @@ use Rattle.rb_base.specs.Nodes.{Side}
 use Rattle.rb_base.specs.Nodes.Side.{Biu, Rmu}
 use Rattle.rb_base.specs.declared.node.NodeName.{NodeName}
 use Rattle.rb_base.specs.declared.node.NodeName.TheVariants as node
+use Rattle.rb_base.proofs.Plain.{and-false}
 use Rattle.rb_rules.specs.Book.{Each, of_kind}
 use Rattle.rb_rules.specs.Goodness.{Scenario}
 use Rattle.rb_rules.specs.Lawful.{IsNodeOf, kind_of}
@@ -52,14 +53,10 @@ catch-told S step old new sc from time me n u kept lanes sites site at name name
 
 -- The first so many.
 
-and-none : (b : Bool) → (b && false) ≡ false
-and-none true = refl
-and-none false = refl
-
 pub below-none : (sc : Scenario) (until : Side → ℕ → ℕ) (me : Side) (sites : Each Site) (name : NodeName) → left_below sc until me 0 sites name ≡ []
 below-none sc until me sites name =
     ap (λ b. if same_side (kind_of name) me && b then left_for sc until sites name else []) (le-ltb (number_of name) 0 (omega arith))
-    ∙ ap (λ b. if b then left_for sc until sites name else []) (and-none (same_side (kind_of name) me))
+    ∙ ap (λ b. if b then left_for sc until sites name else []) (and-false (same_side (kind_of name) me))
 
 one-more : (k : Bool) (x i : ℕ) (l : List Told) → (if k && nat_lt x i then l else []) ++ (if k && (x == i) then l else []) ≡ (if k && nat_lt x (i + 1) then l else [])
 one-more false x i l = refl

@@ -15,6 +15,7 @@ use Rattle.rb_world_book.specs.declared.turn.Turn.{Turn}
 use Rattle.rb_world_book.specs.declared.turn.Turn.TheVariants as shown
 use Rattle.rb_laws_events.specs.Laws.{IsNextTurn}
 use Rattle.rb_laws_events.proofs.EventsHold.{events-hold, turns-hold}
+use Rattle.rb_laws_events.proofs.GivenAlone.{go-on-is}
 use Rattle.rb_laws_events.proofs.OneTake.{settle-hands}
 use Rattle.rb_laws_events.proofs.RoundNodes.{item-at}
 use Rattle.rb_world.specs.declared.ties.Ties.{Ties}
@@ -24,7 +25,7 @@ use Rattle.rb_world.specs.Nexts.{GoesToNext, IsNext, Standing, after_steps, draw
 use Rattle.rb_world.specs.Numbering.{GivesInRounds, GoesInRounds, IsNextRecord, TakesInRounds}
 use Rattle.rb_world.specs.Turning.{Gives}
 use Rattle.rb_world.specs.Worlds.{IsReached, KeptWorld, Stands}
-use Rattle.rb_world.proofs.GoingOn.{ended-stays, going-settles}
+use Rattle.rb_world.proofs.GoingOn.{ended-stays}
 use Rattle.rb_world.proofs.LastTurn.{reached-ended, reached-gave}
 use Rattle.rb_world.proofs.Steps.{place-below}
 use Rattle.rb_world.proofs.Turns.{reached-more}
@@ -96,7 +97,7 @@ taken-in-rounds sc after turn w i d lawful reached found gives =
 -- or none is, before the run has ended
 go-on-in-rounds : (sc : Scenario) (w : World) → IsLawful sc → IsReached sc w → w.book.ended ≡ false → TakesInRounds sc w (go_on sc w) (go_on sc w).turn
 go-on-in-rounds sc w lawful reached going =
-    turn-in-rounds sc w (go_on sc w) lawful (reached-more sc w GoOn reached) (ap (λ (x : World). x.hands) (going-settles sc w going) ∙ settle-hands sc ByItself 2 w)
+    turn-in-rounds sc w (go_on sc w) lawful (reached-more sc w GoOn reached) (ap (λ (x : World). x.hands) (go-on-is sc w going) ∙ settle-hands sc ByItself 2 w)
     (subst (λ (x : World). x.book.ended ≡ false → IsNextTurn sc x (go_on sc x)) (sym reached.is) (turns-hold sc lawful reached.choices).1 going)
 
 -- Steps.
@@ -142,7 +143,7 @@ steps-wait sc ties (suc n) s lawful reached going quiet =
     }
 
 -- once the run has ended, no step changes anything
-none-due : (sc : Scenario) (w : World) → w.book.ended ≡ true → length (due_of sc w) ≡ 0
+pub none-due : (sc : Scenario) (w : World) → w.book.ended ≡ true → length (due_of sc w) ≡ 0
 unfolding due_of
 none-due sc w e = ap (λ b. length (elim (b || needs_no_event sc w.book.upcoming) as (λ _. List Due) [ true ↦ [] | false ↦ due_at sc w (least (flat_map times_of (in_order w.sites))) ])) e
 

@@ -1,6 +1,6 @@
 -- What is told to an observer.
-use Rattle.std.proofs.Common.{◌≡◌, ℕ, List, [], ◌∷◌, ◌++◌, refl, sym, ap, ◌∙◌, subst, arith, Some, slice_get}
-use Rattle.std.specs.Prelude.{unwrap_or}
+use Rattle.std.proofs.Common.{◌≡◌, ℕ, List, [], ◌∷◌, ◌++◌, refl, sym, ◌∙◌, subst, arith, Some, slice_get}
+use Rattle.std.proofs.lemmas.Option.{same_Some}
 use Rattle.rb_base.specs.Nodes.{Side}
 use Rattle.rb_base.specs.declared.event.Event.{Event}
 use Rattle.rb_base.specs.declared.node.NodeName.{NodeName}
@@ -18,9 +18,6 @@ use Rattle.rb_world.specs.Observing.{WasTold}
 use Rattle.rb_world.specs.Showing.{MayShowArrival}
 use Rattle.rb_world.specs.Steps.{CanHear}
 
-some-same : {X : Type 0} (a b : X) → Some a ≡ Some b → a ≡ b
-some-same a b e = ap (λ o. unwrap_or o a) e
-
 -- One event.
 
 pub told-as : (S : Type 0) (step : S → Told → S → Type 0) (a b : S) (sc : Scenario) (states : List PortState) (me : Side) (i frame : ℕ) (s : Site) (p : Pending) (e : Event)
@@ -31,7 +28,7 @@ told-as S step a b sc states me i frame s p e did frame_is event_is =
 -- the arrival at a place of a lane
 pub arrival-there : (sc : Scenario) (me : Side) (i place : ℕ) (name : NodeName) (site : KeptSite) (lanes : Each Held) (c x : Coming) → CanHear sc me i name place site lanes c
     → slice_get (lane_of lanes name).arrivals place ≡ Some x → c ≡ x
-arrival-there sc me i place name site lanes c x can there = some-same c x (sym can.stands ∙ there)
+arrival-there sc me i place name site lanes c x can there = same_Some c x (sym can.stands ∙ there)
 
 pub arrival-shown : (sc : Scenario) (me : Side) (place time : ℕ) (name : NodeName) (site : KeptSite) (lanes : Each Held) (c : Coming) (s : Site) → name ≡ name_of me (number_of site)
     → CanHear sc me (number_of site) name place site lanes c → StandsFor sc me site s → time ≡ c.time → MayShowArrival sc me (number_of site) site time name s

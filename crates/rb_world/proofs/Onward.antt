@@ -1,6 +1,6 @@
 -- A node that goes on is as in the world.
 use Rattle.std.proofs.Common.{◌≡◌, ℕ, Bool, true, false, Some, None, List, [], slice_get, refl, sym, ap, ◌∙◌, subst}
-use Rattle.std.specs.Prelude.{unwrap_or}
+use Rattle.std.proofs.lemmas.Option.{same_Some}
 use Rattle.rb_base.specs.Nodes.{Side, other}
 use Rattle.rb_base.specs.Nodes.Side.{Biu, Rmu}
 use Rattle.rb_rules.specs.Book.{Each, of_kind}
@@ -38,15 +38,12 @@ goes-out sc me i span s e bad = ap (λ o. enter sc me i o s) e ∙ entered sc me
 
 -- What then stands.
 
-some-same : {X : Type 0} (a b : X) → Some a ≡ Some b → a ≡ b
-some-same a b e = ap (λ o. unwrap_or o a) e
-
 -- the world with the node's site changed, as it changes here
 pub moved-so : (sc : Scenario) (me : Side) (i : ℕ) (change : Site → Site) (w : World) (s : Site) → slice_get (of_kind me w.sites) i ≡ Some s → proceed sc me i s ≡ change s
     → moved me i change w ≡ moved me i (proceed sc me i) w
 moved-so sc me i change w s there e =
     ap (λ (sites : Each Site). record w { sites = sites })
-    (at-same me i change (proceed sc me i) w.sites (λ z at. let same : s ≡ z = some-same s z (sym there ∙ at) in sym (subst (λ z. proceed sc me i z ≡ change z) same e)))
+    (at-same me i change (proceed sc me i) w.sites (λ z at. let same : s ≡ z = same_Some s z (sym there ∙ at) in sym (subst (λ z. proceed sc me i z ≡ change z) same e)))
 
 pub proceeds-on : (sc : Scenario) (me : Side) (i : ℕ) (site : KeptSite) (before after : Scene) (w : World) (s : Site) (more : List Coming) → IsAt sc me i site before w s
     → proceed sc me i s ≡ await sc me i more s → Surrounds sc after (moved me i (await sc me i more) w) → of_kind (other me) after.agenda ≡ of_kind (other me) before.agenda

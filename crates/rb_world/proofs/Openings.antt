@@ -1,9 +1,10 @@
 -- What there is before any node begins.
-use Rattle.std.proofs.Common.{◌≡◌, ℕ, zero, suc, ◌+◌, ◌<◌, ◌⊎◌, Some, None, List, [], ◌∷◌, ◌++◌, length, map, slice_get, refl, sym, ap, ◌∙◌, subst, arith, inl, inr, length-append}
+use Rattle.std.proofs.Common.{◌≡◌, ℕ, zero, suc, ◌+◌, ◌<◌, ◌⊎◌, Some, List, [], ◌∷◌, ◌++◌, length, map, slice_get, refl, sym, ap, ◌∙◌, subst, arith, inl, inr, length-append}
 use Rattle.std.specs.Prelude.{get_or, option_map}
-use Rattle.std.proofs.lemmas.Option.{slice_get_within}
+use Rattle.std.proofs.lemmas.Option.{same_Some, slice_get_within}
 use Rattle.rb_base.specs.Counting.{numbers}
 use Rattle.rb_base.specs.Nodes.{Side}
+use Rattle.rb_base.proofs.Plain.{none_not_some}
 use Rattle.rb_rules.specs.Goodness.{Scenario}
 use Rattle.rb_rules.specs.Hearing.{port_at}
 use Rattle.rb_rules.specs.Ports.{fresh_port}
@@ -16,16 +17,10 @@ use Rattle.rb_world.specs.Sites.{KeptSite}
 use Rattle.rb_world.specs.Openings.{AreFresh, IsFresh}
 use Rattle.rb_world.specs.Worlds.{HoldsPorts}
 
-none-some : {X P : Type 0} (x : X) → None ≡ Some x → P
-none-some x e = absurd (cc)
-
-some-is : {X : Type 0} (x y : X) → Some x ≡ Some y → x ≡ y
-some-is x y e = cc
-
 -- what stands in a list with one more was there, or is that one
 pushed : {X : Type 0} (xs : List X) (y : X) (i : ℕ) (x : X) → slice_get (xs ++ y ∷ []) i ≡ Some x → (slice_get xs i ≡ Some x) ⊎ ((i ≡ length xs) × (x ≡ y))
-pushed [] y zero x e = inr (refl, some-is x y (sym e))
-pushed [] y (suc i) x e = none-some x e
+pushed [] y zero x e = inr (refl, same_Some x y (sym e))
+pushed [] y (suc i) x e = none_not_some x e
 pushed (z ∷ zs) y zero x e = inl e
 pushed (z ∷ zs) y (suc i) x e = elim (pushed zs y i x e) [ inl was ↦ inl was | inr is ↦ inr (ap suc is.0, is.1) ]
 
@@ -40,7 +35,7 @@ pub record HoldEach (sc : Scenario) (n : ℕ) (kept : List KeptPort) : Type 0 wh
   pub each : (i : ℕ) (k : KeptPort) → slice_get kept i ≡ Some k → HoldsPort k (port_at sc [] i)
 
 pub no-ports-yet : (sc : Scenario) (kept : List KeptPort) → kept ≡ [] → HoldEach sc 0 kept
-no-ports-yet sc kept none = subst (HoldEach sc 0) (sym none) (record { many = refl; each = λ i k e. none-some k e })
+no-ports-yet sc kept none = subst (HoldEach sc 0) (sym none) (record { many = refl; each = λ i k e. none_not_some k e })
 
 pub one-port : (sc : Scenario) (n app word : ℕ) (kept more : List KeptPort) (k : KeptPort) → more ≡ kept ++ k ∷ [] → app ≡ get_or sc.apps n 0 → word ≡ get_or sc.words n 0
     → HoldsPort k (fresh_port app word) → HoldEach sc n kept → HoldEach sc (n + 1) more
@@ -64,7 +59,7 @@ all-ports sc n kept count is = record {
       let within : i < sc.sizes.bius = let lt = slice_get_within kept i k here in omega (arith, lt, many, count) in
       let made : slice_get (map (port_at sc []) (numbers sc.sizes.bius)) i ≡ Some (port_at sc [] i) =
       slice_get-map (port_at sc []) (numbers sc.sizes.bius) i ∙ ap (option_map (port_at sc [])) (get-number sc.sizes.bius i within) in
-      subst (HoldsPort k) (some-is (port_at sc [] i) port (sym made ∙ there)) (is.each i k here);
+      subst (HoldsPort k) (same_Some (port_at sc [] i) port (sym made ∙ there)) (is.each i k here);
 }
 
 -- Sites.
@@ -74,7 +69,7 @@ pub record FirstFresh (sc : Scenario) (me : Side) (n : ℕ) (kept : List KeptSit
   pub each : (i : ℕ) (k : KeptSite) → slice_get kept i ≡ Some k → IsFresh sc me i k
 
 pub no-sites-yet : (sc : Scenario) (me : Side) (kept : List KeptSite) → kept ≡ [] → FirstFresh sc me 0 kept
-no-sites-yet sc me kept none = subst (FirstFresh sc me 0) (sym none) (record { many = refl; each = λ i k e. none-some k e })
+no-sites-yet sc me kept none = subst (FirstFresh sc me 0) (sym none) (record { many = refl; each = λ i k e. none_not_some k e })
 
 pub one-site : (sc : Scenario) (me : Side) (n : ℕ) (kept more : List KeptSite) (k : KeptSite) → more ≡ kept ++ k ∷ [] → IsFresh sc me n k → FirstFresh sc me n kept
     → FirstFresh sc me (n + 1) more

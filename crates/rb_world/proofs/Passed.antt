@@ -1,6 +1,6 @@
 -- The next tick that isn't quiet, when ticks pass up to it.
 use Rattle.std.proofs.Common.{◌≡◌, ℕ, zero, suc, ◌+◌, ◌-◌, ◌<◌, ◌≤◌, ◌^◌, Bool, true, false, Some, None, Option, refl, sym, ap, ◌∙◌, arith, inl, inr}
-use Rattle.std.proofs.lemmas.Bool.{cases_lt}
+use Rattle.std.proofs.lemmas.Bool.{cases_lt, true≢false}
 use Rattle.rb_base.specs.Nodes.{Side}
 use Rattle.rb_base.specs.Sizes.{Sizes}
 use Rattle.rb_rules.specs.Core.{Core, busy_among, is_busy, next_tick, pass_to}
@@ -8,9 +8,6 @@ use Rattle.rb_rules.specs.Goodness.{Scenario}
 use Rattle.rb_rules.specs.NodeState.{NodeState}
 use Rattle.rb_rules.specs.declared.plan.Plan.{Plan}
 use Rattle.rb_rules.proofs.QuietTicks.{IsNext, next-is, passed-next}
-
-true-false : true ≡ false → ⊥
-true-false e = cc
 
 -- the search finds the first that isn't quiet
 finds : (sizes : Sizes) (plan : Plan) (me : Side) (i : ℕ) (st : NodeState) (others had k : ℕ) → k < had + others → IsNext sizes plan me i st had k
@@ -20,7 +17,7 @@ finds sizes plan me i st (suc others) had k room next = by (λ later. finds size
   where
     by : (IsNext sizes plan me i st (suc had) k → busy_among sizes plan me i st others (suc had) ≡ Some k) → (b : Bool) → is_busy sizes plan me i st had ≡ b → (elim b as (λ _. Option ℕ) [ true ↦ Some had | false ↦ busy_among sizes plan me i st others (suc had) ]) ≡ Some k
     by rest true e = elim (cases_lt had k) [
-      | inl lt ↦ absurd (true-false (sym e ∙ next.quiet_before had (omega arith) lt))
+      | inl lt ↦ absurd (true≢false (sym e ∙ next.quiet_before had (omega arith) lt))
       | inr ge ↦ let later = next.later in let same : had ≡ k = omega (arith, later, ge) in ap (λ m. Some m) same
     ]
     by rest false e = elim (cases_lt had k) [
@@ -28,7 +25,7 @@ finds sizes plan me i st (suc others) had k room next = by (λ later. finds size
       | inr ge ↦
           let later = next.later in
           let same : k ≡ had = omega (arith, later, ge) in
-          absurd (true-false (sym next.busy ∙ ap (is_busy sizes plan me i st) same ∙ e))
+          absurd (true≢false (sym next.busy ∙ ap (is_busy sizes plan me i st) same ∙ e))
     ]
 
 -- ticks that pass up to it leave it

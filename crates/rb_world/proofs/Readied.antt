@@ -1,15 +1,16 @@
 -- A node that has taken in unstamped what came to it up to its tick may take that tick.
 use Rattle.std.proofs.Common.{◌≡◌, ℕ, true, ◌+◌, ◌^◌, ◌<◌, ◌≤◌, ◌++◌, Some, List, [], ◌∷◌, filter, map, slice_get, refl, sym, ap, ◌∙◌, subst, arith}
-use Rattle.std.specs.Prelude.{All, nat_le, nat_lt, slice_set, unwrap_or}
+use Rattle.std.specs.Prelude.{All, nat_le, nat_lt, slice_set}
 use Rattle.std.proofs.lemmas.List.Elements.{All-append, All-cons, All-nil}
+use Rattle.std.proofs.lemmas.Option.{same_Some}
 use Rattle.rb_base.specs.Nodes.{Side, other}
 use Rattle.rb_base.specs.Sizes.{Sizes, sync_slot_of}
 use Rattle.rb_base.specs.declared.node.NodeName.{NodeName}
 use Rattle.rb_base.specs.declared.node.NodeName.TheVariants as node
 use Rattle.rb_rules.specs.declared.plan.Plan.{Plan}
 use Rattle.rb_rules.specs.Book.{Each, of_kind}
-use Rattle.rb_rules.specs.Clock.{stamp_of, time_of}
-use Rattle.rb_rules.specs.Core.{Core, arrive, is_last, next_tick, of_source, pass_to, state_at, window_here}
+use Rattle.rb_rules.specs.Clock.{time_of}
+use Rattle.rb_rules.specs.Core.{Core, is_last, next_tick, of_source, state_at, window_here}
 use Rattle.rb_rules.specs.Goodness.{Scenario, clock_of}
 use Rattle.rb_rules.specs.Hearing.{Coming}
 use Rattle.rb_rules.specs.Links.{name_of}
@@ -18,7 +19,6 @@ use Rattle.rb_rules.specs.Slots.{count_of}
 use Rattle.rb_rules.specs.Sense.{Arrival}
 use Rattle.rb_rules.specs.WorldStep.{Site, Timed, World, after_arrival, at_node, coming_from, happens, pass_and_tick}
 use Rattle.rb_rules.specs.WorldStep.Pending.{Tick}
-use Rattle.rb_rules.proofs.QuietTicks.{arrive-same}
 use Rattle.rb_laws_synchrony.proofs.Times.{stamp_to}
 use Rattle.rb_laws_events.proofs.SameHeard.{Every}
 use Rattle.rb_queue.specs.Waiting.{HasLane, Held, lane_of, with_lane, without_before, without_tick}
@@ -35,35 +35,27 @@ use Rattle.rb_laws_sweeps.specs.Brought.{Brings, CameTogether, IsHeardIfDue, due
 use Rattle.rb_laws_sweeps.specs.Stamps.{stamped_anew}
 use Rattle.rb_laws_sweeps.specs.Sweeping.{swept}
 use Rattle.rb_laws_sweeps.proofs.Bringing.{sweeps-bring}
-use Rattle.rb_laws_sweeps.proofs.Firsts.{every-so, every-stands, every-without, first-stands}
+use Rattle.rb_laws_sweeps.proofs.Firsts.{first-stands}
 use Rattle.rb_laws_sweeps.proofs.SentLater.{node-moves}
 use Rattle.rb_laws_sweeps.proofs.StampsOff.{stamps-make-no-difference}
 use Rattle.rb_laws_sweeps.proofs.Sweeps.{all-every, every-all, sweep-of, sweep-stays, sweep-takes}
+use Rattle.rb_laws_events.proofs.BreakPorts.{arrival-had}
+use Rattle.rb_laws_events.proofs.DueEvents.{every-weaker}
+use Rattle.rb_laws_events.proofs.Receiving.{every-stands, every-without}
 use Rattle.rb_world.specs.declared.scene.Scene.{Scene}
 use Rattle.rb_world.specs.Buses.{HaveRooms}
 use Rattle.rb_world.specs.Steps.{MayTick, Ticks, moved}
 use Rattle.rb_world.specs.Trailing.{BehindTick, TakesFirst, alone, bare}
 use Rattle.rb_world.specs.Unstamped.{EndsExactly, MayTakeExactly, TakenUp, bare_with, due_before, taken_all}
 use Rattle.rb_world.specs.Worlds.{AreNodes, IsNode}
-use Rattle.rb_world.proofs.Behind.{in-time, node-of, set-again}
+use Rattle.rb_world.proofs.Behind.{in-time, node-of}
 use Rattle.rb_world.proofs.Lanes.{has-lane, lane-holds, node-named, rooms-with}
 use Rattle.rb_world.proofs.Ready.{next-due}
 use Rattle.rb_world.proofs.TakenIn.{ShowAlike, Taken, due-node, every-filter, first_stamp, restamped-source, restamped-sources, shows-alike, sole-alike, stamped, stamps_in, taken, with_stamp}
 use Rattle.rb_world.proofs.TakenIn.ShowAlike.{many, none, one}
 use Rattle.rb_world.proofs.Unstamped.{Readied, may-tick-with, takes-with}
 
-some-same : {X : Type 0} (a b : X) → Some a ≡ Some b → a ≡ b
-some-same a b e = ap (λ o. unwrap_or o a) e
-
 -- What a sweep does not lessen.
-
-arrival-later : (sc : Scenario) (me : Side) (i place : ℕ) (c : Coming) (s : Site) → s.core.had ≤ (after_arrival sc me i place c s).core.had
-unfolding after_arrival
-arrival-later sc me i place c s =
-    let passed : Core = pass_to (stamp_of (clock_of sc me i) c.time) s.core in
-    let same : (arrive sc.sizes me passed c.from c.bytes).had ≡ passed.had = (arrive-same sc.sizes me passed c.from c.bytes).1 in
-    let up : s.core.had ≤ passed.had = omega arith in
-    omega (arith, same, up)
 
 had-grows : (sc : Scenario) (me : Side) (i until : ℕ) (s : Site) → s.core.had ≤ (swept sc me i until s).core.had
 had-grows sc me i until s =
@@ -71,7 +63,7 @@ had-grows sc me i until s =
     (λ s late. subst (λ (z : Site). s.core.had ≤ z.core.had) (sym (sweep-stays sc me i until s late)) (omega arith))
     (λ s p e lt rest.
     subst (λ (z : Site). s.core.had ≤ z.core.had) (sym (sweep-takes sc me i until s p e lt))
-    (let more = arrival-later sc me i p.place p.coming s in omega (arith, more, rest))) s
+    (let more = arrival-had sc me i p.place p.coming s in omega (arith, more, rest))) s
 
 -- all senders are known
 abbrev Known : Scenario → Side → Coming → Type 0
@@ -140,7 +132,7 @@ readied sc kept scene until w v me i a before site lanes h there up ends =
     let s : Site = h.first.node in
     let z : Site = swept sc me i (a.time + 1) s in
     let n = node-of sc kept scene until w v h.trails me i s h.first.there in
-    let same : n.site ≡ before = some-same n.site before (sym n.there ∙ there) in
+    let same : n.site ≡ before = same_Some n.site before (sym n.there ∙ there) in
     let node : IsNode sc me i before s = subst (λ (k : KeptSite). IsNode sc me i k s) same n.node in
     let its = in-time sc kept scene until w v me i a h in
     let later : s.core.had ≤ a.tick = (let up = had-grows sc me i (a.time + 1) s in let had = its.had s h.first.there in omega (arith, up, had)) in
@@ -148,7 +140,7 @@ readied sc kept scene until w v me i a before site lanes h there up ends =
     let known = its.senders me i s h.first.there in
     let coming : Every (Known sc me) s.coming = all-every (Known sc me) s.coming known.0 in
     let may : All (IsHeardIfDue sc me i (a.time + 1)) s.coming =
-    every-all (IsHeardIfDue sc me i (a.time + 1)) s.coming (every-so (Known sc me) (IsHeardIfDue sc me i (a.time + 1))
+    every-all (IsHeardIfDue sc me i (a.time + 1)) s.coming (every-weaker (Known sc me) (IsHeardIfDue sc me i (a.time + 1))
     (λ c from due. (
       from,
       let time = its.time in
@@ -173,7 +165,7 @@ readied sc kept scene until w v me i a before site lanes h there up ends =
       holds = subst (λ (ls : Each Held). HoldsSites sc.sizes ls (at_node me i (bare sc me i a) v.sites)) (sym up.left)
           (holds-at sc.sizes scene.agenda v.sites me i new (bare sc me i a) h.trails.surrounds.lanes lane
           (λ y at holds.
-          let here : s ≡ y = some-same s y (sym h.first.there ∙ at) in
+          let here : s ≡ y = same_Some s y (sym h.first.there ∙ at) in
           subst (λ (y : Site). HoldsSite sc.sizes me (lane_of scene.agenda name) y → HoldsSite sc.sizes me new (bare sc me i a y)) here
           (λ holds. record {
             coming = ap (filter (λ (c : Coming). nat_le (a.time + 1) c.time)) holds.coming ∙ sym brings.coming;
@@ -187,11 +179,6 @@ readied sc kept scene until w v me i a before site lanes h there up ends =
           (subst (λ (st : NodeState). (window_here sc.sizes sc.plan me (state_at sc.sizes sc.plan me st a.tick) a.tick).slot < sync_slot_of sc.sizes) (sym brings.state) ends.slot)
           its.small later (its.had s h.first.there);
     }
-
--- a lane that is changed twice
-pub lane-again : (lanes : Each Held) (name : NodeName) (lane new : Held) → with_lane name new (with_lane name lane lanes) ≡ with_lane name new lanes
-lane-again lanes (node.Biu i) lane new = ap (λ (ls : List Held). record { bius = ls; rmus = lanes.rmus }) (set-again lanes.bius i lane new)
-lane-again lanes (node.Rmu i) lane new = ap (λ (ls : List Held). record { bius = lanes.bius; rmus = ls }) (set-again lanes.rmus i lane new)
 
 -- What is taken in at the node.
 
@@ -212,7 +199,7 @@ pub node-at : (sc : Scenario) (kept : Each KeptSite) (scene : Scene) (until : Si
     → (m : MayTakeExactly sc kept scene until w v me i a time own site) → (i < count_of me sc.sizes) × IsNode sc me i site m.first.at.first.node
 node-at sc kept scene until w v me i a time own site m =
     let n = node-of sc kept scene until w v m.first.at.trails me i m.first.at.first.node m.first.at.first.there in
-    let same : n.site ≡ site = some-same n.site site (sym n.there ∙ ap (λ ks. slice_get ks i) m.first.own_is ∙ m.there) in
+    let same : n.site ≡ site = same_Some n.site site (sym n.there ∙ ap (λ ks. slice_get ks i) m.first.own_is ∙ m.there) in
     (n.within, subst (λ (k : KeptSite). IsNode sc me i k m.first.at.first.node) same n.node)
 
 -- its lane, in which all senders are nodes of the bus

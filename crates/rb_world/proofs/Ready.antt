@@ -28,13 +28,14 @@ use Rattle.rb_queue.specs.Waiting.{lane_of, spare_of}
 use Rattle.rb_laws_events.proofs.SameHeard.{Every}
 use Rattle.rb_world.specs.Sites.{KeptSite, number_of as number_of_kept}
 use Rattle.rb_world_traffic.specs.Arriving.{number_of}
+use Rattle.rb_world_traffic.proofs.Says.{number-of}
 use Rattle.rb_world.specs.declared.scene.Scene.{Scene}
 use Rattle.rb_world.specs.Steps.{MayHappen, MayTick, moved}
 use Rattle.rb_world.specs.Worlds.{Awaits, IsReached, Surrounds}
-use Rattle.rb_world.proofs.Lanes.{has-lane, kind-named, node-named, number-named, spare-at}
+use Rattle.rb_world.proofs.Lanes.{has-lane, kind-named, node-named, spare-at}
 use Rattle.rb_world.proofs.Entering.{changed-there}
 use Rattle.rb_world.proofs.Room.{fits-reached, spans-reached}
-use Rattle.rb_world.proofs.Sites.{counts-one, was-there}
+use Rattle.rb_world.proofs.Sites.{counts-one, from-map, was-there}
 
 -- which event it is
 tick-shown : (p : Waits) (k : EventKind) (word : ℕ) (wanted : Bool) → Shows p k → k ≡ kind.Tick word wanted → (n : ℕ) × (p ≡ Tick n)
@@ -52,7 +53,7 @@ tick-of sc kept scene time name event w place d me i word wanted may shown named
     let k = tick-shown d.pending event.kind word wanted may.shows shown in
     let same : name_of d.side d.node ≡ name_of me i = sym may.node ∙ named in
     let side : d.side ≡ me = sym (kind-named d.side d.node) ∙ ap kind_of same ∙ kind-named me i in
-    let number : d.node ≡ i = sym (number-named d.side d.node) ∙ ap number_of same ∙ number-named me i in
+    let number : d.node ≡ i = sym (number-of d.side d.node) ∙ ap number_of same ∙ number-of me i in
     record {
       tick = k.0;
       is = ap (λ s. let x : Due = record { side = s; node = d.node; pending = d.pending } in x) side
@@ -66,10 +67,6 @@ due-reached sc w place d reached found =
     due-is sc w place d (record { known = subst (λ (v : World). (me : Side) (i : ℕ) (s : Site) → slice_get (of_kind me v.sites) i ≡ Some s → Every (λ c. c.from < count_of (other me) sc.sizes) s.coming) (sym reached.is) (worlds-known sc reached.choices).known }) found
 
 -- its node runs, and the tick is the next that isn't quiet
-from-map : {X Y : Type 0} (f : X → Y) (o : Option X) (y : Y) → option_map f o ≡ Some y → (x : X) × (o ≡ Some x) × (f x ≡ y)
-from-map f None y e = absurd (cc)
-from-map f (Some x) y e = (x, refl, let same : f x ≡ y = cc in same)
-
 pub next-due : (sc : Scenario) (me : Side) (i k : ℕ) (s : Site) (a : Timed) → Awaits sc me i s → s.ahead ≡ Some a → a.tick ≡ k → (s.runs ≡ true) × (next_tick sc.sizes sc.plan me i s.core ≡ Some k)
 next-due sc me i k s a awaits ahead tick = by s.runs refl
   where
@@ -178,7 +175,7 @@ pub node-there : (sc : Scenario) (kept : Each KeptSite) (scene : Scene) (time : 
 node-there sc kept scene time name event w place d me i may named =
     let same : name_of d.side d.node ≡ name_of me i = sym may.node ∙ named in
     let side : d.side ≡ me = sym (kind-named d.side d.node) ∙ ap kind_of same ∙ kind-named me i in
-    let number : d.node ≡ i = sym (number-named d.side d.node) ∙ ap number_of same ∙ number-named me i in
+    let number : d.node ≡ i = sym (number-of d.side d.node) ∙ ap number_of same ∙ number-of me i in
     let due : IsDue w d = due-reached sc w place d may.reached may.found in
     let there : slice_get (of_kind me w.sites) i ≡ Some due.s = subst (λ n. slice_get (of_kind me w.sites) n ≡ Some due.s) number (subst (λ k. slice_get (of_kind k w.sites) d.node ≡ Some due.s) side due.there) in
     let counts : length (of_kind me (moved d.side d.node (without_waiting d.pending) w).sites) ≡ count_of me sc.sizes = may.surrounds.counts me in

@@ -1,5 +1,6 @@
 -- Room for what is pending, and for windows that begin: the laws, at the worlds that some choices lead to.
 use Rattle.std.proofs.Common.{◌≡◌, ℕ, ◌+◌, ◌^◌, ◌<◌, ◌≤◌, sym, ◌∙◌, ap, subst, arith, List}
+use Rattle.std.proofs.lemmas.Option.{same_Some}
 use Rattle.rb_base.specs.Nodes.{Side}
 use Rattle.rb_rules.specs.Core.{Act, pass_to}
 use Rattle.rb_rules.specs.Goodness.{Scenario}
@@ -14,7 +15,7 @@ use Rattle.rb_laws_events.proofs.OneEvent.{all-pend}
 use Rattle.rb_laws_events.proofs.RunsEnd.{HasTicksLeft}
 use Rattle.rb_laws_events.proofs.Takes.{tick-had}
 use Rattle.rb_laws_events.proofs.WorldNodes.{events-due}
-use Rattle.rb_laws_events.proofs.WorldStands.{AllPend, some-same}
+use Rattle.rb_laws_events.proofs.WorldStands.{AllPend}
 use Rattle.rb_laws_events.specs.PendingEvents.{EventsFit, TakesTick}
 use Rattle.rb_world.proofs.Spans.{spans-by}
 use Rattle.rb_world.specs.Steps.{SpansFit}
@@ -38,7 +39,7 @@ taken-had sc lawful choices me i k s x takes =
     let ready = due.ready in
     let a = ready.0 in
     let room = left.left me i due.s a due.there ready.1.0 (subst (λ t. AllPend t w.sites) (sym ready.1.1.1.0) (all-pend w due.t due.first)) in
-    let same : due.s ≡ s = some-same due.s s (sym due.there ∙ takes.there) in
+    let same : due.s ≡ s = same_Some due.s s (sym due.there ∙ takes.there) in
     let had : s.core.had ≤ k = subst (λ (s : Site). s.core.had ≤ k) same (subst (λ k. due.s.core.had ≤ k) ready.1.1.0 room.0) in
     let small : k < 2 ^ 31 = subst (λ k. k < 2 ^ 31) ready.1.1.0 room.1 in
     let passed : (pass_to k s.core).had ≡ k = omega (arith, had) in

@@ -1,11 +1,11 @@
 -- A node sees nothing of nodes that are not there.
-use Rattle.std.proofs.Common.{◌≡◌, ℕ, zero, suc, ◌+◌, ◌<◌, ◌≤◌, ◌==◌, ◌&&◌, Bool, true, false, Some, None, Option, All, List, [], ◌∷◌, cond, filter, length, map, get_or, refl, ap, ◌∙◌, subst, arith, inl, inr, if◌then◌else◌}
-use Rattle.std.specs.Prelude.{unwrap_or}
+use Rattle.std.proofs.Common.{◌≡◌, ℕ, ◌+◌, ◌<◌, ◌≤◌, ◌==◌, ◌&&◌, Bool, true, false, Some, None, Option, All, List, [], ◌∷◌, cond, filter, length, map, get_or, refl, ap, ◌∙◌, subst, arith, inl, inr, if◌then◌else◌}
 use Rattle.std.proofs.lemmas.Bool.{cases_lt}
 use Rattle.std.proofs.lemmas.Bool.Decides.{nat_tests}
 use Rattle.std.proofs.lemmas.List.FromFn.{get_or-map-range_with_len, length-range_with_len}
-use Rattle.std.proofs.lemmas.List.{length-map}
+use Rattle.std.proofs.lemmas.List.{get_or_past, length-map}
 use Rattle.std.proofs.lemmas.List.Elements.{All-head, All-tail}
+use Rattle.std.proofs.lemmas.Option.{same_Some}
 use Rattle.rb_base.specs.Counting.{numbers}
 use Rattle.rb_base.specs.Nodes.{Side}
 use Rattle.rb_base.specs.Sizes.{Sizes, sync_slot_of}
@@ -29,11 +29,6 @@ use Rattle.rb_world.specs.Sites.{ComeTogether}
 
 -- Of a source of which nothing came nothing is taken.
 
-past-end : {X : Type 0} (xs : List X) (j : ℕ) (d : X) → length xs ≤ j → get_or xs j d ≡ d
-past-end [] j d h = refl
-past-end (x ∷ xs) zero d h = absurd (omega arith)
-past-end (x ∷ xs) (suc j) d h = past-end xs j d (omega arith)
-
 map-twice : {X Y Z : Type 0} (f : X → Y) (g : Y → Z) (xs : List X) → map g (map f xs) ≡ map (λ x. g (f x)) xs
 map-twice f g [] = refl
 map-twice f g (x ∷ xs) = ap (λ l. g (f x) ∷ l) (map-twice f g xs)
@@ -44,7 +39,7 @@ of-node f see j e =
       | inl lt ↦ get_or-map-range_with_len (λ n. see (f n)) 0 16 j j Nothing lt (omega arith) ∙ e
       | inr ge ↦
           let long : length (map (λ n. see (f n)) (numbers 16)) ≡ 16 = length-map (numbers 16) (λ n. see (f n)) ∙ length-range_with_len 0 16 in
-          past-end (map (λ n. see (f n)) (numbers 16)) j Nothing (omega (arith, long, ge))
+          get_or_past (map (λ n. see (f n)) (numbers 16)) j Nothing (omega (arith, long, ge))
     ])
 
 none-taken : {X : Type 0} (part : Sense → Option X) (s : Standing) (expected : ℕ → Bool) (sense : ℕ → Sense) (j : ℕ) → part (sense j) ≡ None
@@ -82,9 +77,6 @@ window-sees sizes plan me i st w arrivals j none = by (w.slot == sync_slot_of si
 
 -- A tick.
 
-same-some : (a b : Closed) → Some a ≡ Some b → a ≡ b
-same-some a b e = ap (λ o. unwrap_or o a) e
-
 none-some : (x : Closed) → None ≡ Some x → ⊥
 none-some x e = cc
 
@@ -101,7 +93,7 @@ on-sees sizes plan me i c st m kept j shown none = by (is_last sizes plan me st 
       | false ↦ record { core = record { state = kept; had = c.had + 1; inbox = c.inbox }; epoch = epoch_at sizes me st c.had; message = m; closed = None }
     ]).closed ≡ Some shown → get_or shown.sees j Nothing ≡ Nothing
     by true e =
-        subst (λ (x : Closed). get_or x.sees j Nothing ≡ Nothing) (same-some closing.closed shown e)
+        subst (λ (x : Closed). get_or x.sees j Nothing ≡ Nothing) (same_Some closing.closed shown e)
         (window-sees sizes plan me i kept (window_here sizes plan me st c.had) (of_source c.inbox) j none)
     by false e = absurd (none-some shown e)
 

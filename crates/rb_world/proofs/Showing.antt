@@ -2,6 +2,7 @@
 use Rattle.std.proofs.Common.{◌≡◌, ◌<◌, ◌≤◌, ◌^◌, ◌==◌, ℕ, Bool, true, List, Option, Some, length, slice_get, refl, sym, ap, ◌∙◌, subst, arith}
 use Rattle.std.specs.Prelude.{option_and_then, option_map, unwrap_or}
 use Rattle.std.proofs.lemmas.Bool.Decides.{nat_tests}
+use Rattle.std.proofs.lemmas.Option.{same_Some}
 use Rattle.arrayvec.specs.ArrayVec.{ArrayVec}
 use Rattle.rb_base.specs.Nodes.{Side}
 use Rattle.rb_base.specs.declared.event.Event.{Event}
@@ -16,12 +17,13 @@ use Rattle.rb_rules.specs.Links.{name_of}
 use Rattle.rb_rules.specs.Ports.{PortState}
 use Rattle.rb_rules.specs.WorldStep.{Due, Pending, Site, Timed, World, at_node, due_of, event_at, event_of}
 use Rattle.rb_rules.specs.WorldStep.Pending.{Tick, Arrival}
-use Rattle.rb_queue.specs.Waiting.{HasLane, Held as Lane, Ready, event_with, kind_with, lane_of, ready_event, ready_of, with_lane, without_ready}
+use Rattle.rb_queue.specs.Waiting.{HasLane, Held as Lane, Ready, event_with, lane_of, ready_event, ready_of, with_lane, without_ready}
 use Rattle.rb_queue.specs.Waiting.Ready.{Comes, Ticks}
 use Rattle.rb_world_agenda.specs.Agenda.{IsAtTime, IsDue, StandsAt, Takes, TakesDue, first_time, key_of}
 use Rattle.rb_world_agenda.specs.Holding.{HoldsSite, HoldsSites, Shows, coming_with, due_with, waits_with, without_waiting}
 use Rattle.rb_world_agenda.proofs.Changes.{holds-at}
 use Rattle.rb_world_agenda.proofs.Places.{IsAtHead, IsOf, holds-without, ready-at}
+use Rattle.rb_world_agenda.proofs.Taking.{shows-own}
 use Rattle.rb_world_agenda.proofs.Which.{has-item}
 use Rattle.rb_node.specs.Cores.{passing_end}
 use Rattle.rb_laws_events.proofs.DueEvents.{IsDue as IsPending}
@@ -81,16 +83,9 @@ arrival-shows sc me i waits site kept time name event states s from bytes may is
 
 -- An event that would be taken.
 
-shows-own : (ahead : Option Timed) (r : Ready) → Shows (waits_with ahead r) (kind_with r)
-shows-own ahead (Comes place c) = (refl, refl)
-shows-own ahead Ticks = tt
-
 at-time : (lane : Lane) (ahead : Option Timed) (t : ℕ) (r : Ready) → IsOf t lane r → IsAtTime t (waits_with ahead r)
 at-time lane ahead t (Comes place c) is = is.0
 at-time lane ahead t Ticks is = tt
-
-some-same : {X : Type 0} (a b : X) → Some a ≡ Some b → a ≡ b
-some-same a b e = ap (λ o. unwrap_or o a) e
 
 ready-first : (lanes : Each Lane) (l : Lane) (place : ℕ) (r : Ready) → slice_get (ready_of l) place ≡ Some r → (key_of l == first_time lanes) ≡ true → IsOf (first_time lanes) l r
 ready-first lanes l place r e first =
@@ -106,13 +101,13 @@ takes-due : (sc : Scenario) (w : World) (lanes : Each Lane) (i : ℕ) (event : E
 takes-due sc w lanes i event name place holds at d shown =
     let l : Lane = lane_of lanes name in
     let waits : Pending = waits_with d.site.ahead d.event in
-    let its : event_with name d.event ≡ event = some-same (event_with name d.event) event (sym (ap (option_map (event_with name)) d.ready) ∙ shown) in
+    let its : event_with name d.event ≡ event = same_Some (event_with name d.event) event (sym (ap (option_map (event_with name)) d.ready) ∙ shown) in
     let lane : lane_of lanes (name_of d.side d.number) ≡ l = ap (lane_of lanes) (sym d.named) in
     let change : Site → Site = without_waiting waits in
     let step : (s : Site) → slice_get (of_kind d.side w.sites) d.number ≡ Some s → HoldsSite sc.sizes d.side (lane_of lanes (name_of d.side d.number)) s
     → HoldsSite sc.sizes d.side (without_ready place l) (change s) =
     λ s e h.
-    let same : d.site ≡ s = some-same d.site s (sym d.there ∙ e) in
+    let same : d.site ≡ s = same_Some d.site s (sym d.there ∙ e) in
     subst (λ x. HoldsSite sc.sizes d.side (without_ready place l) (change x)) same
     (holds-without sc.sizes d.side l d.site place d.event
     (subst (HoldsSite sc.sizes d.side l) (sym same) (subst (λ x. HoldsSite sc.sizes d.side x s) lane h)) d.ready) in

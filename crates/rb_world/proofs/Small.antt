@@ -2,18 +2,13 @@
 use Rattle.std.proofs.Common.{ℕ, ◌+◌, ◌*◌, ◌^◌, ◌<◌, ◌≤◌, ◌≡◌, [], length, arith, subst}
 use Rattle.std.proofs.Math.Nat.{mul-le-mul_left}
 use Rattle.rb_base.specs.Nodes.{Side}
-use Rattle.rb_base.specs.Nodes.Side.{Biu, Rmu}
-use Rattle.rb_base.specs.Sizes.{Sizes}
 use Rattle.rb_rules.specs.Clock.{IsClock, time_of}
 use Rattle.rb_rules.specs.Goodness.{Scenario, clock_of, clock_place}
 use Rattle.rb_rules.specs.Lawful.{IsLawful}
 use Rattle.rb_rules.specs.Plan.{longest_of, shortest_of}
 use Rattle.rb_rules.specs.Slots.{count_of}
 use Rattle.rb_rules.proofs.Drift.{drift, has_lengths}
-
-place-within : (sizes : Sizes) (me : Side) (i n : ℕ) → n ≡ sizes.bius + sizes.rmus → i < count_of me sizes → clock_place sizes me i < n
-place-within sizes Biu i n e h = omega arith
-place-within sizes Rmu i n e h = omega arith
+use Rattle.rb_rules.proofs.Slots.{place-within}
 
 pub small-time : (sc : Scenario) → IsLawful sc → (me : Side) (i k : ℕ) → i < count_of me sc.sizes → k < 2 ^ 31 → time_of (clock_of sc me i) k < 18446744073709551615
 small-time sc lawful me i k within small =

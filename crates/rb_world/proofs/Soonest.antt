@@ -2,7 +2,7 @@
 use Rattle.std.proofs.Common.{◌≡◌, ℕ, ◌+◌, ◌<◌, ◌≤◌, ◌==◌, ◌⊎◌, min, Bool, true, false, Some, None, Option, All, List, [], ◌∷◌, ◌++◌, length, map, slice_get, refl, sym, ap, ◌∙◌, subst, arith, inl, inr}
 use Rattle.std.specs.Prelude.{option_map, option_to_list, unwrap_or}
 use Rattle.std.proofs.lemmas.Bool.{cases_lt, eq-eqb, eqb-true}
-use Rattle.std.proofs.lemmas.Option.{slice_get-map}
+use Rattle.std.proofs.lemmas.Option.{same_Some, slice_get-map}
 use Rattle.rb_base.specs.Nodes.{Side, other}
 use Rattle.rb_base.specs.Sizes.{Sizes}
 use Rattle.rb_base.specs.declared.event.Event.{Event}
@@ -26,9 +26,6 @@ use Rattle.rb_laws_sweeps.specs.Sweeping.{Placed, first_of}
 use Rattle.rb_world.specs.Trailing.{NoneBefore}
 use Rattle.rb_laws_sweeps.proofs.ReadyFirst.{Begins, ReadyFirst, ready-first}
 use Rattle.rb_laws_sweeps.proofs.Sweeps.{all-every, every-all}
-
-some-same : {X : Type 0} (a b : X) → Some a ≡ Some b → a ≡ b
-some-same a b e = ap (λ o. unwrap_or o a) e
 
 -- Times.
 
@@ -102,7 +99,7 @@ tick-ready me i t (Some a) all d e = by (a.time == t) refl e
   where
     by : (b : Bool) → (a.time == t) ≡ b → slice_get (elim b as (λ _. List Due) [ true ↦ record { side = me; node = i; pending = Tick a.tick } ∷ [] | false ↦ [] ]) 0 ≡ Some d
         → (x : Timed) × ((Some a ≡ Some x) × ((x.time ≡ t) × (record { side = me; node = i; pending = Tick x.tick } ≡ d)))
-    by true h e = (a, (refl, (eqb-true a.time t h, some-same (record { side = me; node = i; pending = Tick a.tick }) d e)))
+    by true h e = (a, (refl, (eqb-true a.time t h, same_Some (record { side = me; node = i; pending = Tick a.tick }) d e)))
     by false h e = absurd (let never : ◌≡◌ {A = Option Due} None (Some d) = e in cc)
 
 front-of : (us vs : List ℕ) (t : ℕ) → Every (λ u. t ≤ u) (us ++ vs) → Every (λ u. t ≤ u) us
@@ -126,9 +123,9 @@ what-next sizes me i lane s t name event few holds head shown = by (slice_get (r
         → slice_get (ready_at sizes t me i s) 0 ≡ Some (record { side = me; node = i; pending = Arrival p.place p.coming }) → ArrivalNext sizes me lane s t event.kind
     arrival c e same p is at due =
         let first : IsAtHead lane c = ready-at lane 0 c e in
-        let own : IsOf t lane c = subst (λ u. IsOf u lane c) (some-same first.time t (sym first.head ∙ head)) first.is in
+        let own : IsOf t lane c = subst (λ u. IsOf u lane c) (same_Some first.time t (sym first.head ∙ head)) first.is in
         let d : Due = record { side = me; node = i; pending = Arrival p.place p.coming } in
-        let both = due-arrival me i lane s t p.place p.coming c own (some-same d (due_with me i s c) (sym due ∙ found c e)) in
+        let both = due-arrival me i lane s t p.place p.coming c own (same_Some d (due_with me i s c) (sym due ∙ found c e)) in
         record {
           first = p;
           is = is;
@@ -160,7 +157,7 @@ what-next sizes me i lane s t name event few holds head shown = by (slice_get (r
     by : (o : Option Ready) → slice_get (ready_of lane) 0 ≡ o → ArrivalNext sizes me lane s t event.kind ⊎ TickNext sizes me lane s t event.kind
     by None e = absurd (let never : ◌≡◌ {A = Option Event} None (Some event) = sym (ap (option_map (event_with name)) e) ∙ shown in cc)
     by (Some c) e =
-        which c e (some-same (event_with name c) event (sym (ap (option_map (event_with name)) e) ∙ shown))
+        which c e (same_Some (event_with name c) event (sym (ap (option_map (event_with name)) e) ∙ shown))
         (ready-first sizes t me i s (all-every (λ c. c.from < count_of (other me) sizes) s.coming holds.senders) (all-after t s.ahead s.coming all))
 
 -- Something is ready where a time is the least.
@@ -171,8 +168,8 @@ least-above m (u ∷ us) t all e = by (least us) refl (least-above m us) e
   where
     by : (o : Option ℕ) → least us ≡ o → ((v : ℕ) → Every (λ u. m ≤ u) us → least us ≡ Some v → m ≤ v)
         → ◌≡◌ {A = Option ℕ} (Some (elim o as (λ _. ℕ) [ None ↦ u | Some v ↦ min u v ])) (Some t) → m ≤ t
-    by None h rest e = let same : u ≡ t = some-same u t e in let here = all.0 in omega (arith, same, here)
-    by (Some v) h rest e = let same : min u v ≡ t = some-same (min u v) t e in let here = all.0 in let more = rest v all.1 h in omega (arith, same, here, more)
+    by None h rest e = let same : u ≡ t = same_Some u t e in let here = all.0 in omega (arith, same, here)
+    by (Some v) h rest e = let same : min u v ≡ t = same_Some (min u v) t e in let here = all.0 in let more = rest v all.1 h in omega (arith, same, here, more)
 
 every-mapped : (m : ℕ) (cs : List Coming) → Every (λ (c : Coming). m ≤ c.time) cs → Every (λ u. m ≤ u) (map (λ (c : Coming). c.time) cs)
 every-mapped m [] all = tt

@@ -1,8 +1,9 @@
 -- A window that begins with a tick begins in time.
 use Rattle.std.proofs.Common.{◌≡◌, ℕ, ◌+◌, ◌-◌, ◌*◌, ◌^◌, ◌≤◌, ◌==◌, Bool, true, false, Some, None, Option, sym, ap, refl, subst, arith, List, [], ◌∷◌, ◌++◌, map}
-use Rattle.std.proofs.lemmas.Bool.Decides.{nat_tests}
 use Rattle.std.specs.Prelude.{cond, find, unwrap_or}
 use Rattle.std.specs.List.{range_with_len}
+use Rattle.std.proofs.lemmas.Bool.{eqb-true}
+use Rattle.std.proofs.lemmas.Option.{same_Some}
 use Rattle.rb_base.specs.Nodes.{Side}
 use Rattle.rb_base.specs.Sizes.{Sizes, sync_slot_of}
 use Rattle.rb_rules.specs.declared.plan.Plan.{Plan}
@@ -13,7 +14,6 @@ use Rattle.rb_rules.specs.Hearing.{Span, span_of, tail_at}
 use Rattle.rb_rules.specs.NodeState.{NodeState}
 use Rattle.rb_rules.specs.Plan.{f0_of}
 use Rattle.rb_rules.specs.Windows.{exact_window, holds_offset, sync_windows, window_at, window_of}
-use Rattle.rb_laws_events.proofs.WorldStands.{some-same}
 use Rattle.rb_world.specs.Steps.{SpansFit}
 
 -- The window of a tick.
@@ -24,7 +24,7 @@ IsStage w = 1 ≤ w.stage
 
 found-there : (test : Window → Bool) (x w : Window) (xs : List Window) (b : Bool) → IsStage x → (find test xs ≡ Some w → IsStage w)
     → cond b (Some x) (find test xs) ≡ Some w → IsStage w
-found-there test x w xs true one rest e = subst IsStage (some-same x w e) one
+found-there test x w xs true one rest e = subst IsStage (same_Some x w e) one
 found-there test x w xs false one rest e = rest e
 
 found-exact : (plan : Plan) (test : Window → Bool) (ns : List ℕ) (rest : List Window) (w : Window) → (find test rest ≡ Some w → IsStage w)
@@ -51,11 +51,8 @@ here-stage sizes plan me st k = by (window_at sizes plan (k - st.epoch)) refl
         found-exact plan (holds_offset (k - st.epoch)) (range_with_len 0 (3 * sync_slot_of sizes)) (sync_windows sizes plan) w (found-sync sizes plan (holds_offset (k - st.epoch)) w) e
 
 if-begins : (b : Bool) (x y : Span) → (elim b as (λ _. Option Span) [ true ↦ Some x | false ↦ None ]) ≡ Some y → (b ≡ true) × (x ≡ y)
-if-begins true x y e = (refl, some-same x y e)
+if-begins true x y e = (refl, same_Some x y e)
 if-begins false x y e = absurd (cc)
-
-same-of : (a b : ℕ) → (a == b) ≡ true → a ≡ b
-same-of a b h = grind (arith, nat_tests)
 
 -- a window that a node enters with its next tick begins by the last tick that a node may have
 pub spans-by : (sc : Scenario) (me : Side) (c : Core) → c.had ≤ 2 ^ 31 → SpansFit sc me c
@@ -63,7 +60,7 @@ spans-by sc me c had span e =
     let now : NodeState = state_at sc.sizes sc.plan me c.state c.had in
     let here : Span = span_of now (window_here sc.sizes sc.plan me now c.had) in
     let is = if-begins (here.first == c.had) here span e in
-    let begins : here.first ≡ c.had = same-of here.first c.had is.0 in
+    let begins : here.first ≡ c.had = eqb-true here.first c.had is.0 in
     let first : span.first ≡ here.first = ap (λ (s : Span). s.first) (sym is.1) in
     record {
       stage = subst (λ (s : Span). 1 ≤ s.place.stage) is.1 (here-stage sc.sizes sc.plan me now c.had);

@@ -239,7 +239,7 @@ epoch-tick sizes me st m e found = by (st.epoch == m) refl found
         sym (ap (λ (e : Epoch). e.tick) is) ∙ at
     by false h f = absurd (cc)
 
-on-epoch : (sizes : Sizes) (plan : Plan) (me : Side) (index : ℕ) (c : Core) (st : NodeState) (message : Option Message) (kept : NodeState)
+pub on-epoch : (sizes : Sizes) (plan : Plan) (me : Side) (index : ℕ) (c : Core) (st : NodeState) (message : Option Message) (kept : NodeState)
     → (act_on sizes plan me index c st message kept).epoch ≡ epoch_at sizes me st c.had
 unfolding act_on
 on-epoch sizes plan me index c st message kept = by (is_last sizes plan me st c.had) _ _ refl refl

@@ -29,7 +29,7 @@ run-ends = ends-hold
 
 -- Where no record comes, an event was due.
 
-none-last : {P : Type 0} (o : Option Record) → o ≡ None → is_last o ≡ true → P
+pub none-last : {P : Type 0} (o : Option Record) → o ≡ None → is_last o ≡ true → P
 none-last o none last = absurd (cc)
 
 none-some : {P : Type 0} (o : Option Record) (r : Record) → o ≡ None → o ≡ Some r → P
@@ -112,7 +112,7 @@ steps-count sc ties (suc n) s lawful reached quiet =
 
 -- Numbers.
 
-few-takes : (sc : Scenario) → IsLawful sc → most_takes sc < 2 ^ 63
+pub few-takes : (sc : Scenario) → IsLawful sc → most_takes sc < 2 ^ 63
 few-takes sc lawful =
     let nodes : nodes_of sc.sizes ≤ 32 = let b = lawful.sizes.most_bius in let r = lawful.sizes.most_rmus in omega (arith, b, r) in
     let says = lawful.few_says in

@@ -3,6 +3,7 @@ use Rattle.std.proofs.Common.{◌≡◌, ℕ, ◌+◌, ◌^◌, ◌<◌, ◌≤�
 use Rattle.std.specs.Prelude.{option_map, unwrap_or}
 use Rattle.std.proofs.lemmas.Bool.{le-ltb, lt-ltb}
 use Rattle.std.proofs.lemmas.List.Elements.{All-append, All-cons, All-nil}
+use Rattle.std.proofs.lemmas.Option.{same_Some}
 use Rattle.rb_base.specs.Nodes.{Side, other}
 use Rattle.rb_base.specs.Nodes.Side.{Biu, Rmu}
 use Rattle.rb_base.specs.declared.node.NodeName.{NodeName}
@@ -34,9 +35,6 @@ use Rattle.rb_world.proofs.Entering.{changed-there}
 use Rattle.rb_world.proofs.Sites.{at-id, at-same, at-twice, holds-one}
 use Rattle.rb_world.proofs.Passed.{passed-same}
 use Rattle.rb_world.specs.Trailing.{IsReachable, MaySweep, NoneBefore, Sweeps, TakesArrival, TakesTick, cleared, tick_from}
-
-pub some-same : {X : Type 0} (a b : X) → Some a ≡ Some b → a ≡ b
-some-same a b e = ap (λ o. unwrap_or o a) e
 
 -- One arrival.
 
@@ -127,7 +125,7 @@ pub record SweepsOn (sc : Scenario) (me : Side) (i until : ℕ) (site : KeptSite
   pub may : MaySweep sc me i until site lanes (at_node me i (λ _. now) sites) now
 
 pub at-itself : (me : Side) (i : ℕ) (sites : Each Site) (s : Site) → slice_get (of_kind me sites) i ≡ Some s → at_node me i (λ _. s) sites ≡ sites
-at-itself me i sites s there = at-same me i (λ _. s) (λ z. z) sites (λ z at. some-same s z (sym there ∙ at)) ∙ at-id me i sites
+at-itself me i sites s there = at-same me i (λ _. s) (λ z. z) sites (λ z at. same_Some s z (sym there ∙ at)) ∙ at-id me i sites
 
 unfoldable pub sweep-begins : (sc : Scenario) (me : Side) (i until : ℕ) (site : KeptSite) (lanes : Each Held) (sites : Each Site) (s : Site) → MaySweep sc me i until site lanes sites s
     → SweepsOn sc me i until site lanes sites s
@@ -202,7 +200,7 @@ sweep-goes sc me i until site after lanes new sites s c on takes lane rooms numb
 
 -- The end.
 
-kept-tick : (until : ℕ) (o : Option Timed) → ((a : Timed) → o ≡ Some a → until ≤ a.time) → tick_from until o ≡ o
+pub kept-tick : (until : ℕ) (o : Option Timed) → ((a : Timed) → o ≡ Some a → until ≤ a.time) → tick_from until o ≡ o
 kept-tick until None late = refl
 kept-tick until (Some a) late = ap (λ b. elim b as (λ _. Option Timed) [ true ↦ None | false ↦ Some a ]) (le-ltb a.time until (late a refl))
 
@@ -215,7 +213,7 @@ at-end : (sc : Scenario) (me : Side) (i until : ℕ) (sites : Each Site) (s z : 
 at-end sc me i until sites s z o there is tick =
     at-same me i (λ _. record z { ahead = o }) (cleared sc me i until) sites
     (λ x at.
-    let same : s ≡ x = some-same s x (sym there ∙ at) in
+    let same : s ≡ x = same_Some s x (sym there ∙ at) in
     subst (λ x. record z { ahead = o } ≡ cleared sc me i until x) same
     (sym (ap (λ (y : Site). record y { ahead = tick_from until s.ahead }) is ∙ ap (λ (t : Option Timed). record z { ahead = t }) tick)))
 

@@ -2,6 +2,7 @@
 use Rattle.std.proofs.Common.{◌≡◌, ℕ, ◌+◌, ◌<◌, ◌≤◌, ◌⊎◌, None, List, [], ◌∷◌, ◌++◌, append_assoc, refl, sym, ap, ◌∙◌, subst, arith, inl, inr}
 use Rattle.std.proofs.lemmas.Bool.{cases_lt}
 use Rattle.std.proofs.lemmas.List.{append-nil}
+use Rattle.std.proofs.lemmas.Option.{same_Some}
 use Rattle.rb_base.specs.Nodes.{Side, other}
 use Rattle.rb_base.specs.declared.node.NodeName.{NodeName}
 use Rattle.rb_rules.specs.Book.{Each}
@@ -19,9 +20,9 @@ use Rattle.rb_world_agenda.specs.Holding.{HoldsSites}
 use Rattle.rb_world.specs.Sites.{KeptSite, Stands as StandsFor, number_of}
 use Rattle.rb_laws_sweeps.specs.Sweeping.{swept}
 use Rattle.rb_laws_sweeps.specs.Told.{Told, heard, telling}
-use Rattle.rb_laws_sweeps.proofs.Firsts.{every-so}
 use Rattle.rb_laws_sweeps.proofs.Hearing.{hears-first, hears-none}
 use Rattle.rb_laws_sweeps.proofs.Sweeps.{all-every}
+use Rattle.rb_laws_events.proofs.DueEvents.{every-weaker}
 use Rattle.rb_world.specs.Observing.{WasTold}
 use Rattle.rb_world.specs.Steps.{CanHear}
 use Rattle.rb_world.specs.Trailing.{MaySweep, NoneBefore, Sweeps, TakesArrival, TakesTick, cleared, tick_from}
@@ -29,7 +30,7 @@ use Rattle.rb_world.specs.Worlds.{IsNode}
 use Rattle.rb_world.proofs.Observed.{was-more}
 use Rattle.rb_world.proofs.OneTaken.{ComesFirst, comes-first, first-dropped, none-first, takes-arrival, takes-tick, tick-first, tick-is, ticks-first}
 use Rattle.rb_world.proofs.Sites.{at-same, at-twice}
-use Rattle.rb_world.proofs.Swept.{SweepsOn, comes-in-time, may-come, some-same, sweep-begins, sweep-goes}
+use Rattle.rb_world.proofs.Swept.{SweepsOn, comes-in-time, may-come, sweep-begins, sweep-goes}
 use Rattle.rb_world.proofs.Taken.{lanes-taken, nothing-next, rooms-taken}
 
 -- One arrival.
@@ -114,7 +115,7 @@ none-left sc me i until site lanes sites s name on named has_lane most later = b
         let takes : TakesTick sc.sizes me i until left (at_node me i (λ _. on.now) sites) on.now =
         takes-tick sc me i until site lanes left sites s name (tick_time_of lane) (event_with name Ticks) on first refl refl in
         let reach = on.may.reachable.before takes.tick takes.pends in
-        every-so (λ c. takes.tick.time + 1 ≤ c.time) (λ c. until ≤ c.time) (λ c le. omega (arith, le, reach)) on.now.coming (all-every (λ c. takes.tick.time + 1 ≤ c.time) on.now.coming takes.later)
+        every-weaker (λ c. takes.tick.time + 1 ≤ c.time) (λ c. until ≤ c.time) (λ c le. omega (arith, le, reach)) on.now.coming (all-every (λ c. takes.tick.time + 1 ≤ c.time) on.now.coming takes.later)
     by (inr no_sooner) =
         let late : until ≤ key_of (lane_of lanes (name_of me i)) = subst (λ n. until ≤ key_of (lane_of lanes n)) named (none-first lane until most later no_sooner) in
         let none : NoneBefore until on.now = nothing-next sc.sizes lanes (at_node me i (λ _. on.now) sites) me i on.now until on.may.holds on.may.there late in
@@ -137,7 +138,7 @@ sweep-rest sc me i until site new lanes after sites s on is = record {
       (at-twice me i (cleared sc me i until) (λ _. on.now) sites
       ∙ at-same me i (λ _. cleared sc me i until on.now) (cleared sc me i until) sites
       (λ x at.
-      let same : s ≡ x = some-same s x (sym on.there ∙ at) in
+      let same : s ≡ x = same_Some s x (sym on.there ∙ at) in
       subst (λ x. cleared sc me i until on.now ≡ cleared sc me i until x) same
       (ap (λ (y : Site). record y { ahead = tick_from until on.now.ahead }) on.same ∙ ap (λ o. record (swept sc me i until s) { ahead = tick_from until o }) on.ahead)))
       is.holds;

@@ -1,6 +1,7 @@
 -- What comes first at a node is taken.
 use Rattle.std.proofs.Common.{◌≡◌, ℕ, zero, suc, List, [], ◌∷◌, remove, ◌+◌, ◌<◌, ◌≤◌, ◌⊎◌, Some, None, Option, All, length, slice_get, refl, sym, ap, ◌∙◌, subst, arith, inl, inr}
 use Rattle.std.specs.Prelude.{unwrap_or}
+use Rattle.std.proofs.lemmas.Option.{same_Some}
 use Rattle.rb_base.specs.Nodes.{Side, other}
 use Rattle.rb_base.specs.Nodes.Side.{Biu, Rmu}
 use Rattle.rb_base.specs.Sizes.{IsShape, Sizes}
@@ -13,23 +14,21 @@ use Rattle.rb_rules.specs.Links.{name_of}
 use Rattle.rb_rules.specs.Slots.{count_of}
 use Rattle.rb_rules.specs.WorldStep.{Site, at_node}
 use Rattle.rb_rules.specs.WorldStep.Pending.{Tick, Arrival}
-use Rattle.rb_queue.specs.Waiting.{HasLane, Held, Ready, head_of, lane_of, ready_event, ready_of, with_lane, without_found, without_place, without_ready}
-use Rattle.rb_queue.specs.Waiting.Ready.{Comes, Ticks}
+use Rattle.rb_queue.specs.Waiting.{HasLane, Held, head_of, lane_of, ready_event, ready_of, with_lane, without_place, without_ready}
 use Rattle.rb_world_agenda.specs.Agenda.{key_of}
 use Rattle.rb_world_agenda.specs.Holding.{HoldsSite, HoldsSites, coming_with, without_waiting}
 use Rattle.rb_world_agenda.proofs.Changes.{holds-at}
 use Rattle.rb_world_agenda.proofs.Keeping.{has-with, lane-with}
 use Rattle.rb_laws_sweeps.specs.Sweeping.{Placed}
-use Rattle.rb_laws_sweeps.proofs.Firsts.{every-stands, first-stands}
+use Rattle.rb_laws_sweeps.proofs.Firsts.{first-stands}
 use Rattle.rb_laws_sweeps.proofs.Sweeps.{all-every}
+use Rattle.rb_laws_events.proofs.Receiving.{every-stands}
 use Rattle.rb_world.specs.Buses.{HaveRooms}
 use Rattle.rb_world.proofs.Lanes.{lane-holds, rooms-with}
 use Rattle.rb_world.specs.Sweeping.{IsPending}
 use Rattle.rb_world.specs.Trailing.{NoneBefore, TakesArrival, TakesTick}
+use Rattle.rb_world.proofs.Chosen.{room-left}
 use Rattle.rb_world.proofs.Soonest.{ArrivalNext, TickNext, none-before, some-ready, what-next}
-
-some-same : {X : Type 0} (a b : X) → Some a ≡ Some b → a ≡ b
-some-same a b e = ap (λ o. unwrap_or o a) e
 
 few-others : (sizes : Sizes) (me : Side) → IsShape sizes → count_of (other me) sizes ≤ 256
 few-others sizes Biu shape = let most = shape.most_rmus in omega (arith, most)
@@ -78,14 +77,14 @@ left : (sizes : Sizes) (me : Side) (i until : ℕ) (lanes new : Each Held) (site
 left sizes me i until lanes new sites s time event change h holds =
     subst (λ x. HoldsSites sizes x (at_node me i change sites)) (sym h.after)
     (holds-at sizes lanes sites me i (without_ready 0 (lane_of lanes (name_of me i))) change h.held h.has_lane
-    (λ z there held. subst (λ z. HoldsSite sizes me (without_ready 0 (lane_of lanes (name_of me i))) (change z)) (some-same s z (sym h.there ∙ there)) holds))
+    (λ z there held. subst (λ z. HoldsSite sizes me (without_ready 0 (lane_of lanes (name_of me i))) (change z)) (same_Some s z (sym h.there ∙ there)) holds))
 
 pub arrival-taken : (sizes : Sizes) (me : Side) (i until : ℕ) (lanes new : Each Held) (sites : Each Site) (s : Site) (time : ℕ) (event : Event) (c : Coming)
     → IsTaken sizes me i until lanes new sites s time event → coming_with time event.kind ≡ Some c → TakesArrival sizes me i until new sites s c
 arrival-taken sizes me i until lanes new sites s time event c h is = elim (which sizes me i until lanes new sites s time event h) [
   | inl next ↦
       let p : Placed = next.first in
-      let same : p.coming ≡ c = some-same p.coming c (sym next.shown ∙ is) in
+      let same : p.coming ≡ c = same_Some p.coming c (sym next.shown ∙ is) in
       let placed : next.first ≡ record { place = p.place; coming = c } = ap (λ (x : Coming). let q : Placed = record { place = p.place; coming = x } in q) same in
       let at = next.at in
       let before = h.before in
@@ -118,14 +117,6 @@ tick-taken sizes me i until lanes new sites s time event h is = elim (which size
 ]
 
 -- Lanes.
-
-room-left : (place : ℕ) (lane : Held) → (without_ready place lane).room ≡ lane.room
-room-left place lane = by (slice_get (ready_of lane) place)
-  where
-    by : (o : Option Ready) → (without_found o lane).room ≡ lane.room
-    by None = refl
-    by (Some (Comes n c)) = refl
-    by (Some Ticks) = refl
 
 pub rooms-taken : (sc : Scenario) (lanes new : Each Held) (name : NodeName) (place : ℕ) → HasLane lanes name → new ≡ with_lane name (without_ready place (lane_of lanes name)) lanes
     → HaveRooms sc lanes → HaveRooms sc new

@@ -15,6 +15,7 @@ use Rattle.rb_laws_events.proofs.SameHeard.{Every}
 use Rattle.rb_world.specs.Sites.{taken_in}
 use Rattle.rb_laws_sweeps.specs.Brought.{BringsArrivals, BringsComings, due_from}
 use Rattle.rb_laws_sweeps.specs.Stamps.{restamped}
+use Rattle.rb_laws_events.proofs.FewThere.{length-mapped}
 use Rattle.rb_world.specs.Unstamped.{due_before, taken_all}
 
 -- an arrival with this stamp
@@ -144,10 +145,6 @@ pub data ShowAlike (a b : List Arrival) : Type 0 where
   none : a ≡ [] → b ≡ [] → ShowAlike a b
   one : (x : Arrival) → a ≡ x ∷ [] → b ≡ x ∷ [] → ShowAlike a b
   many : 1 < length a → 1 < length b → ShowAlike a b
-
-length-mapped : {X Y : Type 0} (f : X → Y) (xs : List X) → length (map f xs) ≡ length xs
-length-mapped f [] = refl
-length-mapped f (x ∷ xs) = ap suc (length-mapped f xs)
 
 -- where these came before and these were due
 pub shows-alike : (had : ℕ) (before : List Arrival) (due : List Coming) (after : List Arrival) → BringsArrivals before due after

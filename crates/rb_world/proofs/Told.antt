@@ -3,6 +3,7 @@ use Rattle.std.proofs.Common.{◌≡◌, ℕ, zero, suc, ◌<◌, ◌==◌, Bool
 use Rattle.std.specs.Prelude.{slice_set, unwrap_or}
 use Rattle.std.proofs.lemmas.Bool.Decides.{nat_tests}
 use Rattle.std.proofs.lemmas.List.{length-set}
+use Rattle.std.proofs.lemmas.Option.{slice_get-get_or}
 use Rattle.rb_base.specs.Nodes.{Side}
 use Rattle.rb_base.specs.Nodes.Side.{Biu, Rmu}
 use Rattle.rb_base.specs.declared.node.NodeName.{NodeName}
@@ -26,6 +27,7 @@ use Rattle.rb_world_book.specs.Holding.{Holds}
 use Rattle.rb_world_book.specs.declared.book.Book.{Book as KeptBook}
 use Rattle.rb_port.specs.Keeping.{HoldsPort, KeptPort}
 use Rattle.rb_world_traffic.specs.Arriving.{number_of}
+use Rattle.rb_laws_agreement.proofs.Exchanges.{trusted-either}
 use Rattle.rb_world.specs.declared.scene.Scene.{Scene}
 use Rattle.rb_world.specs.Steps.{closed_at, closed_if, moved}
 use Rattle.rb_world.specs.Worlds.{HoldsPorts, Surrounds}
@@ -124,12 +126,6 @@ pub changed-is : (name : NodeName) (change : Site → Site) (w : World) → chan
 changed-is (node.Biu i) change w = refl
 changed-is (node.Rmu i) change w = refl
 
-trusted-swap : (me side : Side) (st : NodeState) → trusted_of me side st ≡ trusted_of side me st
-trusted-swap Biu Biu st = refl
-trusted-swap Biu Rmu st = refl
-trusted-swap Rmu Biu st = refl
-trusted-swap Rmu Rmu st = refl
-
 -- what a node tells by what is kept of it
 pub close-is : (sc : Scenario) (scene after : Scene) (w : World) (name : NodeName) (me : Side) (closed : Bool) (c d : Closed) (times ts : List ℕ) (biu rmu : ℕ) (st : NodeState)
     → closed ≡ true → d ≡ c → ts ≡ times → biu ≡ trusted_of me Biu st → rmu ≡ trusted_of me Rmu st → after.agenda ≡ scene.agenda
@@ -142,8 +138,8 @@ close-is sc scene after w name me closed c d times ts biu rmu st is_closed shown
     subst (Holds sc after.book) (changed-is name (with_row d.place.stage (row_shown (number_in name) d ts biu rmu)) w) book in
     let row_is : row_shown (number_in name) d ts biu rmu ≡ row_at me (number_of name) st times d =
     ap (λ n. row_shown n d ts biu rmu) (number-is name) ∙ ap (λ l. row_shown (number_of name) d l biu rmu) times_are
-    ∙ ap (λ b. row_shown (number_of name) d times b rmu) (biu_is ∙ trusted-swap me Biu st)
-    ∙ ap (λ r. row_shown (number_of name) d times (trusted_of Biu me st) r) (rmu_is ∙ trusted-swap me Rmu st) in
+    ∙ ap (λ b. row_shown (number_of name) d times b rmu) (biu_is ∙ trusted-either me Biu st)
+    ∙ ap (λ r. row_shown (number_of name) d times (trusted_of Biu me st) r) (rmu_is ∙ trusted-either me Rmu st) in
     let done : Surrounds sc after (closed_at sc name d (row_at me (number_of name) st times d) w) =
     closes-then sc scene after w name d (row_at me (number_of name) st times d) agenda runs_biu runs_rmu
     (subst (λ r. Holds sc after.book (moved (kind_of name) (number_of name) (with_row d.place.stage r) w)) row_is book_moved) ports is in
@@ -151,11 +147,6 @@ close-is sc scene after w name me closed c d times ts biu rmu st is_closed shown
     (subst (λ (d : Closed). Surrounds sc after (closed_at sc name d (row_at me (number_of name) st times d) w)) shown done)
 
 -- Ports.
-
-pub get-is : {X : Type 0} (xs : List X) (i : ℕ) (d : X) → i < length xs → slice_get xs i ≡ Some (get_or xs i d)
-get-is [] i d h = absurd (omega arith)
-get-is (x ∷ xs) zero d h = refl
-get-is (x ∷ xs) (suc i) d h = get-is xs i d (omega arith)
 
 pub set-here : {X : Type 0} (xs : List X) (i : ℕ) (y z : X) → slice_get (slice_set xs i y) i ≡ Some z → y ≡ z
 set-here [] i y z e = cc
@@ -177,9 +168,9 @@ delivers sc kept states i k d inside step is =
     let port : PortState = port_at sc states i in
     let all : length states ≡ sc.sizes.bius = is.all in
     let many : length kept ≡ sc.sizes.bius = is.many in
-    let known : slice_get states i ≡ Some port = get-is states i (fresh_port (get_or sc.apps i 0) (get_or sc.words i 0)) (omega arith) in
+    let known : slice_get states i ≡ Some port = slice_get-get_or states i (fresh_port (get_or sc.apps i 0) (get_or sc.words i 0)) (omega arith) in
     let old : KeptPort = get_or kept i k in
-    let own : HoldsPort k (delivered_to port d.value) = step old port (get-is kept i k inside) (is.each i old port (get-is kept i k inside) known) in
+    let own : HoldsPort k (delivered_to port d.value) = step old port (slice_get-get_or kept i k inside) (is.each i old port (slice_get-get_or kept i k inside) known) in
     record {
       many = length-set kept i k ∙ is.many;
       all = length-set states i (delivered_to port d.value) ∙ is.all;
@@ -195,8 +186,3 @@ delivers sc kept states i k d inside step is =
         (subst (λ m. slice_get (slice_set states i (delivered_to (port_at sc states i) d.value)) m ≡ Some p) same ep)) own)
     by n a p ea ep false h own =
         is.each n a p (sym (set-there kept i n k h) ∙ ea) (sym (set-there states i n (delivered_to (port_at sc states i) d.value) h) ∙ ep)
-
-pub got-is : {X : Type 0} (xs : List X) (i : ℕ) (x d : X) → slice_get xs i ≡ Some x → get_or xs i d ≡ x
-got-is [] i x d e = cc
-got-is (y ∷ xs) zero x d e = ap (λ o. unwrap_or o d) e
-got-is (y ∷ xs) (suc i) x d e = got-is xs i x d e

@@ -27,6 +27,7 @@ use Rattle.rb_laws_sweeps.proofs.Calls.{at-any-time}
 use Rattle.rb_laws_sweeps.proofs.Hearing.{hears-none}
 use Rattle.rb_laws_sweeps.proofs.Telling.{named-itself}
 use Rattle.rb_world_traffic.specs.Arriving.{number_of}
+use Rattle.rb_laws_events.proofs.GivenAlone.{go-on-is}
 use Rattle.rb_world.specs.declared.scene.Scene.{Scene}
 use Rattle.rb_world.specs.declared.last.Last.{Last}
 use Rattle.rb_world.specs.declared.ties.Seeding.{Seeding}
@@ -38,7 +39,6 @@ use Rattle.rb_world.specs.Steps.{MayTick}
 use Rattle.rb_world.specs.Trailing.{GoesToTick, HasCaughtUp, MayRun, bare, until_from}
 use Rattle.rb_world.specs.Worlds.{KeptWorld, Stands, Surrounds, last_of}
 use Rattle.rb_world.proofs.Along.{along-begins, comes-by-itself, comes-by-tick, comes-next, comes-quiet, steps-on, takes-on}
-use Rattle.rb_world.proofs.GoingOn.{going-settles}
 use Rattle.rb_world.proofs.Observed.{was-both}
 use Rattle.rb_world.proofs.Running.{along-first, comes-to, run-ended, run-to, until-named}
 use Rattle.rb_world.proofs.NextRecord.{goes-on}
@@ -160,7 +160,7 @@ told-by-itself S step name a b sc kept scene until n w0 d book turn it free sett
     let s0 : Standing = record { world = w0; draws = d } in
     let idle : (w.book.ended || needs_no_event sc w.book.upcoming) ≡ true =
     ap (λ (x : World). x.book.ended || needs_no_event sc x.book.upcoming) on.trails.ahead ∙ ap (λ b. b || needs_no_event sc v.book.upcoming) on.going ∙ free in
-    let sites : (go_on sc v).sites ≡ v.sites = ap (λ (x : World). x.sites) (going-settles sc v on.going) ∙ settle-sites sc ByItself 2 v in
+    let sites : (go_on sc v).sites ≡ v.sites = ap (λ (x : World). x.sites) (go-on-is sc v on.going) ∙ settle-sites sc ByItself 2 v in
     record {
       on = comes-by-itself sc kept scene until n w0 d book turn on free settles;
       held = it.held;

@@ -35,7 +35,7 @@ reached-more sc w c reached = record {
 }
 
 -- what surrounds the nodes once something is settled
-surrounds-settled : (sc : Scenario) (way : Way) (v : World) (scene : Scene) (book : KeptBook) (turn : Turn) → Surrounds sc scene v → Settles sc way v book turn
+pub surrounds-settled : (sc : Scenario) (way : Way) (v : World) (scene : Scene) (book : KeptBook) (turn : Turn) → Surrounds sc scene v → Settles sc way v book turn
     → Surrounds sc (record scene { book = book }) (settle sc way 2 v)
 surrounds-settled sc way v scene book turn is settles =
     let sites = sym (settle-sites sc way 2 v) in

@@ -3,40 +3,42 @@ use Rattle.std.proofs.Common.{◌≡◌, ℕ, ◌+◌, ◌<◌, ◌≤◌, ◌^�
 use Rattle.std.specs.Prelude.{IfSome, length, unwrap_or}
 use Rattle.std.proofs.lemmas.Bool.Decides.{nat_tests}
 use Rattle.std.proofs.lemmas.List.Elements.{All-nil}
+use Rattle.std.proofs.lemmas.Option.{same_Some}
 use Rattle.rb_base.specs.Nodes.{Side, other}
 use Rattle.rb_base.specs.Nodes.Side.{Biu, Rmu}
 use Rattle.rb_base.specs.Sizes.{Sizes}
 use Rattle.rb_base.specs.declared.node.NodeName.{NodeName}
 use Rattle.rb_rules.specs.declared.closing.Closed.{Closed}
-use Rattle.rb_rules.specs.declared.message.Message.{Message}
 use Rattle.rb_rules.specs.declared.plan.Plan.{Plan}
 use Rattle.rb_rules.specs.declared.record.Epoch.{Epoch}
 use Rattle.rb_rules.specs.Book.{Row, of_kind}
-use Rattle.rb_rules.specs.Core.{Act, Core, act_at, act_on, epoch_at, is_last, is_spent, of_source, pass_to, tick, window_here}
-use Rattle.rb_rules.specs.ExactStage.{Outcome}
-use Rattle.rb_rules.specs.Goodness.{Scenario, is_good}
-use Rattle.rb_rules.specs.Hearing.{Coming, Span, close_window, row_of}
+use Rattle.rb_rules.specs.Core.{Act, Core, act_at, epoch_at, is_spent, of_source, pass_to, tick}
+use Rattle.rb_rules.specs.Goodness.{Scenario}
+use Rattle.rb_rules.specs.Hearing.{Coming, row_of}
 use Rattle.rb_rules.specs.Lawful.{kind_of}
 use Rattle.rb_rules.specs.Links.{name_of}
 use Rattle.rb_rules.specs.NodeState.{NodeState}
 use Rattle.rb_rules.specs.Ports.{PortState}
 use Rattle.rb_rules.specs.Slots.{count_of}
-use Rattle.rb_rules.specs.WorldStep.{Site, World, after_act, await, coming_from, enter, pass_and_tick, proceed, says_in, span_from, stop, wants_in, with_close, with_epoch, with_message, word_of}
+use Rattle.rb_rules.specs.WorldStep.{Site, World, after_act, coming_from, pass_and_tick, proceed, wants_in, with_close, with_epoch, with_message, word_of}
 use Rattle.rb_queue.specs.Waiting.{Held, empty_lane, lane_of, spare_of}
 use Rattle.rb_node.specs.Acts.{IsAct}
 use Rattle.rb_node.specs.declared.act.Step.{Step}
 use Rattle.rb_world.specs.Sites.{KeptSite, after_tick, number_of}
 use Rattle.rb_world.specs.Tells.{IsTicked, row_after, row_at}
 use Rattle.rb_world_traffic.specs.Arriving.{number_of as number_in}
+use Rattle.rb_world_traffic.proofs.Says.{number-of}
 use Rattle.rb_world.specs.declared.scene.Scene.{Scene}
 use Rattle.rb_world.specs.Steps.{HasRoomFor, MayProceed, MayTick, OthersStay, Proceeds, SeesOnlyNodes, SpansFit, Ticks, closed_if, moved}
 use Rattle.rb_base.specs.declared.values.See.TheVariants.{Nothing}
 use Rattle.rb_rules.specs.Hearing.{epoch_of}
+use Rattle.rb_laws_events.proofs.ToldSoFar.{proceed-core}
 use Rattle.rb_world.specs.Worlds.{IsNode, Surrounds}
 use Rattle.rb_world.proofs.Acting.{act-is, told-around, told_in}
 use Rattle.rb_world.proofs.Entering.{changed-there}
-use Rattle.rb_world.proofs.Lanes.{kind-named, number-named}
+use Rattle.rb_world.proofs.Lanes.{kind-named}
 use Rattle.rb_world.proofs.Seeing.{none-came, tick-sees}
+use Rattle.rb_world.proofs.Standing.{on-epoch}
 
 -- What a site keeps.
 
@@ -77,44 +79,11 @@ after_tick-got sc ports me i x s P all = begun x.epoch (closed x.closed)
     begun None h = h
     begun (Some e) h = h
 
-entered-core : (sc : Scenario) (me : Side) (i : ℕ) (o : Option Span) (s : Site) → (enter sc me i o s).core ≡ s.core
-entered-core sc me i None s = refl
-entered-core sc me i (Some span) s = by (is_good sc me i span.place.frame span.place.slot)
-  where
-    by : (b : Bool) → (elim b as (λ _. Site) [ true ↦ await sc me i (says_in sc me i span) s | false ↦ stop s ]).core ≡ s.core
-    by true = refl
-    by false = refl
-
-pub proceed-core : (sc : Scenario) (me : Side) (i : ℕ) (s : Site) → (proceed sc me i s).core ≡ s.core
-unfolding proceed
-proceed-core sc me i s = entered-core sc me i (span_from sc.sizes sc.plan me s.core.state s.core.had) s
-
 after-is : (sc : Scenario) (ports : List PortState) (me : Side) (i : ℕ) (x : Act) (s : Site) → proceed sc me i (after_tick sc ports me i x s) ≡ after_act sc ports me i x s
 unfolding after_act
 after-is sc ports me i x s = refl
 
 -- The tick of an epoch.
-
-epoch-on : (sizes : Sizes) (plan : Plan) (me : Side) (i : ℕ) (c : Core) (st : NodeState) (m : Option Message) (kept : NodeState)
-    → (act_on sizes plan me i c st m kept).epoch ≡ epoch_at sizes me st c.had
-unfolding act_on
-epoch-on sizes plan me i c st m kept = by (is_last sizes plan me st c.had)
-  where
-    closing : Outcome
-    closing = close_window sizes plan me i kept (window_here sizes plan me st c.had) (of_source c.inbox)
-
-    by : (b : Bool) → (elim b as (λ _. Act) [
-      | true ↦ record { core = record { state = closing.state; had = c.had + 1; inbox = [] }; epoch = epoch_at sizes me st c.had; message = m; closed = Some closing.closed }
-      | false ↦ record { core = record { state = kept; had = c.had + 1; inbox = c.inbox }; epoch = epoch_at sizes me st c.had; message = m; closed = None }
-    ]).epoch ≡ epoch_at sizes me st c.had
-    by true = refl
-    by false = refl
-
-pub some-same : {X : Type 0} (a b : X) → Some a ≡ Some b → a ≡ b
-some-same a b e = ap (λ o. unwrap_or o a) e
-
-pub none-some : {X : Type 0} (x : X) → None ≡ Some x → ⊥
-none-some x e = cc
 
 at-had : (sizes : Sizes) (me : Side) (st : NodeState) (k : ℕ) → IfSome (epoch_at sizes me st k) (λ e. e.tick ≤ k)
 at-had sizes me st k = by (st.epoch == k) refl
@@ -125,7 +94,7 @@ at-had sizes me st k = by (st.epoch == k) refl
 
 at-epoch : (sizes : Sizes) (plan : Plan) (me : Side) (i : ℕ) (c : Core) (word : ℕ) → IfSome (act_at sizes plan me i c word).epoch (λ e. e.tick ≤ c.had)
 unfolding act_at
-at-epoch sizes plan me i c word = subst (λ o. IfSome o (λ e. e.tick ≤ c.had)) (sym (epoch-on sizes plan me i c _ _ _)) (at-had sizes me _ c.had)
+at-epoch sizes plan me i c word = subst (λ o. IfSome o (λ e. e.tick ≤ c.had)) (sym (on-epoch sizes plan me i c _ _ _)) (at-had sizes me _ c.had)
 
 tick-epoch : (sizes : Sizes) (plan : Plan) (me : Side) (i : ℕ) (c : Core) (word : ℕ) → IfSome (tick sizes plan me i c word).epoch (λ e. e.tick ≤ c.had)
 unfolding tick
@@ -201,9 +170,9 @@ told-then sc me k name site after before scene w s step named same may ticked ar
     let shown : Closed = after.node.shown in
     told-around sc me i name scene w s x step shown (row_at me (number_in name) after.node.seat.state after.times shown) named may.at.there ticked.act
     (λ h stage.
-    some-same (row_of me i x.core.state (coming_from s.got) shown) (row_at me (number_of after) after.node.seat.state after.times shown)
+    same_Some (row_of me i x.core.state (coming_from s.got) shown) (row_at me (number_of after) after.node.seat.state after.times shown)
     (sym (row-told sc w.ports me i x s shown (closed-is step.closed shown x.closed ticked.act.closed h) stage) ∙ ticked.row ∙ row-kept me after step.closed s.row h stage)
-    ∙ ap (λ n. row_at me n after.node.seat.state after.times shown) (same ∙ sym (ap number_in named ∙ number-named me i))) around
+    ∙ ap (λ n. row_at me n after.node.seat.state after.times shown) (same ∙ sym (ap number_in named ∙ number-of me i))) around
 
 pub may-then : (sc : Scenario) (me : Side) (k : ℕ) (site after : KeptSite) (before scene : Scene) (w : World) (s : Site) (step : Step) → number_of after ≡ number_of site
     → MayTick sc me (number_of site) k site before w s → IsTicked sc w.ports me site after step k s → scene.agenda ≡ before.agenda
@@ -252,7 +221,7 @@ whole sc me i k name site before scene after w s x step frame named on frame_is 
     ap (λ (c : Core). c.state) (sym (proceed-core sc me i (after_tick sc w.ports me i x s) ∙ after_tick-core sc w.ports me i x s)) ∙ on.node.site.core.state in
     let frame_so : frame ≡ x.core.state.frame = frame_is ∙ ap (λ (st : NodeState). st.frame) (sym state) in
     let named_so : Surrounds sc after (record v { sites = with_message sc me i frame k step.message v.sites }) =
-    subst (λ j. Surrounds sc after (record v { sites = with_message sc me j frame k step.message v.sites })) (number-named me i)
+    subst (λ j. Surrounds sc after (record v { sites = with_message sc me j frame k step.message v.sites })) (number-of me i)
     (subst (λ m. Surrounds sc after (record v { sites = with_message sc m (number_in (name_of me i)) frame k step.message v.sites })) (kind-named me i)
     (subst (λ n. Surrounds sc after (record v { sites = with_message sc (kind_of n) (number_in n) frame k step.message v.sites })) named sent)) in
     let said : Surrounds sc after (record v { sites = with_message sc me i x.core.state.frame k x.message v.sites }) =

@@ -1,9 +1,10 @@
 -- What a node wants for its tick, and the word that it is handed.
-use Rattle.std.proofs.Common.{◌≡◌, ℕ, ◌+◌, ◌-◌, ◌<◌, ◌^◌, ◌==◌, ◌&&◌, nat_lt, Bool, true, false, Some, None, Option, List, [], refl, sym, ap, ◌∙◌, subst, arith, inl, inr, if◌then◌else◌}
+use Rattle.std.proofs.Common.{◌≡◌, ℕ, ◌-◌, ◌<◌, ◌^◌, ◌==◌, ◌&&◌, nat_lt, Bool, true, false, Some, None, Option, List, [], refl, sym, ap, ◌∙◌, subst, arith, inl, inr, if◌then◌else◌}
 use Rattle.std.specs.Prelude.{option_and_then, option_map}
 use Rattle.std.specs.Option.{option_or}
-use Rattle.std.proofs.lemmas.Bool.{cases_lt}
+use Rattle.std.proofs.lemmas.Bool.{and_parts, cases_lt}
 use Rattle.std.proofs.lemmas.Bool.Decides.{nat_tests}
+use Rattle.std.proofs.lemmas.Option.{none-some}
 use Rattle.rb_base.specs.Nodes.{Side}
 use Rattle.rb_base.specs.Nodes.Side.{Biu, Rmu}
 use Rattle.rb_base.specs.Sizes.{Sizes, sync_slot_of}
@@ -11,10 +12,10 @@ use Rattle.rb_rules.specs.declared.message.Message.{Message}
 use Rattle.rb_rules.specs.declared.plan.Plan.{Plan}
 use Rattle.rb_rules.specs.declared.role.Role.{Role}
 use Rattle.rb_rules.specs.declared.role.Role.TheVariants.{Schedule, Data, DiagBiu, DiagRmu, Sync}
-use Rattle.rb_rules.specs.Core.{Act, Core, act_at, act_on, epoch_at, is_last, of_source, if_at, said_at, slot_wanted, state_at, state_kept, tick, wants, window_here}
-use Rattle.rb_rules.specs.ExactStage.{Outcome, message_of, says, says_of}
+use Rattle.rb_rules.specs.Core.{Act, Core, act_at, if_at, said_at, slot_wanted, state_at, state_kept, tick, wants, window_here}
+use Rattle.rb_rules.specs.ExactStage.{message_of, says, says_of}
 use Rattle.rb_rules.specs.Goodness.{Scenario}
-use Rattle.rb_rules.specs.Hearing.{Sending, close_window, port_at, sending, word_for}
+use Rattle.rb_rules.specs.Hearing.{Sending, port_at, sending, word_for}
 use Rattle.rb_rules.specs.NodeState.{NodeState, sender_at}
 use Rattle.rb_rules.specs.NodeSteps.{message_said}
 use Rattle.rb_rules.specs.Ports.{PortState, offered_at}
@@ -27,6 +28,7 @@ use Rattle.rb_node.specs.declared.act.Want.TheVariants as want
 use Rattle.rb_node.proofs.Cores.{tick-now, tick-spent}
 use Rattle.rb_laws_events.proofs.NodeTicks.{sent-place}
 use Rattle.rb_laws_events.proofs.NodeWords.{HasPlace}
+use Rattle.rb_laws_events.proofs.NodeActs.{act-message}
 use Rattle.rb_world.specs.Steps.{CanWant, IsWordSlot}
 
 -- RMUs want nothing.
@@ -70,13 +72,6 @@ unfolding sending
 rmu-sending sizes plan i st slot word h =
     ap (option_and_then (λ m. option_map (λ tick. let x : Sending = record { tick = tick; message = m } in x) (send_tick_of sizes plan st slot 1))) (rmu-message sizes i st slot word h)
 
-and-both : (a b : Bool) → (a && b) ≡ true → (a ≡ true) × (b ≡ true)
-and-both true b h = (refl, h)
-and-both false b h = cc
-
-none-some : {X : Type 0} (x : X) → None ≡ Some x → ⊥
-none-some x e = cc
-
 wants-sent : (sizes : Sizes) (plan : Plan) (i : ℕ) (st : NodeState) (slot stage word : ℕ) (s : Sending) → sending sizes plan Rmu i st slot stage word ≡ Some s
     → slot_wanted sizes (Some s.message) ≡ None
 wants-sent sizes plan i st slot stage word s e = by ((s.message.stage == 1) && nat_lt s.message.slot (first_diagnosis_of Biu sizes)) refl
@@ -88,7 +83,7 @@ wants-sent sizes plan i st slot stage word s e = by ((s.message.stage == 1) && n
         → (elim b as (λ _. Option ℕ) [ true ↦ Some s.message.slot | false ↦ None ]) ≡ None
     by false h = refl
     by true h =
-        let both = and-both (s.message.stage == 1) (nat_lt s.message.slot (first_diagnosis_of Biu sizes)) h in
+        let both = and_parts (s.message.stage == 1) (nat_lt s.message.slot (first_diagnosis_of Biu sizes)) h in
         let first : (s.message.stage == 1) ≡ true = both.0 in
         let one : s.message.stage ≡ 1 = grind (arith, nat_tests) in
         let stage_one : stage ≡ 1 = sym place.stage_is ∙ one in
@@ -122,37 +117,12 @@ said-wants sizes plan i st word k =
     (wants-or sizes (if_at k (sending sizes plan Rmu i st slot 2 word)) (if_at k (sending sizes plan Rmu i st slot 3 word))
     (wants-if sizes plan i st slot 2 word k) (wants-if sizes plan i st slot 3 word k))
 
-act-says : (sizes : Sizes) (plan : Plan) (me : Side) (i : ℕ) (c : Core) (st : NodeState) (m : Option Message) (kept : NodeState)
-    → (act_on sizes plan me i c st m kept).message ≡ m
-unfolding act_on
-act-says sizes plan me i c st m kept = by (is_last sizes plan me st c.had)
-  where
-    closing : Outcome
-    closing = close_window sizes plan me i kept (window_here sizes plan me st c.had) (of_source c.inbox)
-
-    by : (b : Bool) → (elim b as (λ _. Act) [
-      | true ↦ record {
-        core = record { state = closing.state; had = c.had + 1; inbox = [] };
-        epoch = epoch_at sizes me st c.had;
-        message = m;
-        closed = Some closing.closed;
-      }
-      | false ↦ record {
-        core = record { state = kept; had = c.had + 1; inbox = c.inbox };
-        epoch = epoch_at sizes me st c.had;
-        message = m;
-        closed = None;
-      }
-    ]).message ≡ m
-    by true = refl
-    by false = refl
-
 act-wants : (sizes : Sizes) (plan : Plan) (i : ℕ) (c : Core) → slot_wanted sizes (act_at sizes plan Rmu i c 0).message ≡ None
 unfolding act_at
 act-wants sizes plan i c =
     let st : NodeState = state_at sizes plan Rmu c.state c.had in
     let m : Option Message = said_at sizes plan Rmu i st 0 c.had in
-    ap (slot_wanted sizes) (act-says sizes plan Rmu i c st m (state_kept sizes Rmu i st 0 m)) ∙ said-wants sizes plan i st 0 c.had
+    ap (slot_wanted sizes) (act-message sizes plan Rmu i c st m (state_kept sizes Rmu i st 0 m)) ∙ said-wants sizes plan i st 0 c.had
 
 pub rmu-wants : (sizes : Sizes) (plan : Plan) (i : ℕ) (c : Core) → wants sizes plan Rmu i c ≡ None
 unfolding wants
@@ -171,7 +141,7 @@ wanted-slot sizes (Some m) = by ((m.stage == 1) && nat_lt m.slot (first_diagnosi
         → IsWordSlot sizes (elim b as (λ _. Option ℕ) [ true ↦ Some m.slot | false ↦ None ])
     by false h = tt
     by true h =
-        let low : nat_lt m.slot (first_diagnosis_of Biu sizes) ≡ true = (and-both (m.stage == 1) (nat_lt m.slot (first_diagnosis_of Biu sizes)) h).1 in
+        let low : nat_lt m.slot (first_diagnosis_of Biu sizes) ≡ true = (and_parts (m.stage == 1) (nat_lt m.slot (first_diagnosis_of Biu sizes)) h).1 in
         let lt : m.slot < first_diagnosis_of Biu sizes = grind (arith, nat_tests) in lt
 
 pub wants-words : (sizes : Sizes) (plan : Plan) (me : Side) (i : ℕ) (c : Core) → IsWordSlot sizes (wants sizes plan me i c)

@@ -6,6 +6,7 @@ use Rattle.std.proofs.lemmas.List.Elements.{All-append, All-cons, All-nil}
 use Rattle.rb_base.specs.Nodes.{Side, other}
 use Rattle.rb_base.specs.Nodes.Side.{Biu, Rmu}
 use Rattle.rb_base.specs.Sizes.{Sizes}
+use Rattle.rb_base.proofs.Plain.{eq_self, more-differs}
 use Rattle.rb_rules.specs.Book.{Each, map_from, of_kind}
 use Rattle.rb_rules.specs.Links.{name_of}
 use Rattle.rb_rules.specs.WorldStep.{Site, Timed, at_node}
@@ -22,16 +23,10 @@ other-kind : (n i : ℕ) (change : Site → Site) (ss : List Site) → map_from 
 other-kind n i change [] = refl
 other-kind n i change (s ∷ ss) = ap (λ l. s ∷ l) (other-kind n (i + 1) change ss)
 
-not-this : (m n : ℕ) → n < m → (m == n) ≡ false
-not-this m n h = grind (arith, nat_tests)
-
-this : (n : ℕ) → (n == n) ≡ true
-this n = grind (arith, nat_tests)
-
 others : (n i : ℕ) (change : Site → Site) (ss : List Site) → n < i → map_from i (changed true n change) ss ≡ ss
 others n i change [] h = refl
 others n i change (s ∷ ss) h =
-    ap (λ b. elim b as (λ _. Site) [ true ↦ change s | false ↦ s ] ∷ map_from (i + 1) (changed true n change) ss) (not-this i n h)
+    ap (λ b. elim b as (λ _. Site) [ true ↦ change s | false ↦ s ] ∷ map_from (i + 1) (changed true n change) ss) (more-differs i n h)
     ∙ ap (λ l. s ∷ l) (others n (i + 1) change ss (omega arith))
 
 -- the site at place n of those from number i on
@@ -44,7 +39,7 @@ holds-list sizes me new change (l ∷ ls) [] i n m at holds h step = absurd hold
 holds-list sizes me new change (l ∷ ls) (s ∷ ss) i zero m at holds h step =
     let same : i ≡ m = omega arith in
     let head : ◌≡◌ {A = Site} (elim (i == m) as (λ _. Site) [ true ↦ change s | false ↦ s ]) (change s) =
-    ap (λ j. elim (j == m) as (λ _. Site) [ true ↦ change s | false ↦ s ]) same ∙ ap (λ b. elim b as (λ _. Site) [ true ↦ change s | false ↦ s ]) (this m) in
+    ap (λ j. elim (j == m) as (λ _. Site) [ true ↦ change s | false ↦ s ]) same ∙ ap (λ b. elim b as (λ _. Site) [ true ↦ change s | false ↦ s ]) (eq_self m) in
     (subst (HoldsSite sizes me new) (sym head) (step s refl holds.0), subst (HoldsAll sizes me ls) (sym (others m (i + 1) change ss (omega arith))) holds.1)
 holds-list sizes me new change (l ∷ ls) (s ∷ ss) i (suc n) m at holds h step =
     let apart : (i == m) ≡ false = grind (arith, nat_tests) in

@@ -1,5 +1,5 @@
 -- The least of 32 marks is read off the least of each four.
-use Rattle.std.proofs.Common.{◌≡◌, ℕ, ◌+◌, ◌*◌, ◌/◌, ◌<◌, ◌≤◌, nat_le, Bool, true, false, if◌then◌else◌, min, List, [], ◌∷◌, length, take, get_or, inl, inr, refl, sym, ap, ◌∙◌, subst, arith}
+use Rattle.std.proofs.Common.{◌≡◌, ℕ, ◌+◌, ◌*◌, ◌/◌, ◌<◌, ◌≤◌, nat_le, Bool, true, false, if◌then◌else◌, min, List, [], length, take, get_or, inl, inr, refl, sym, ap, ◌∙◌, subst, arith}
 use Rattle.std.specs.Prelude.{slice_set}
 use Rattle.std.proofs.Math.Path.{ap₂}
 use Rattle.std.proofs.lemmas.Bool.{cases_eq, cases_lt}
@@ -7,7 +7,7 @@ use Rattle.std.proofs.lemmas.Bool.Decides.{nat_tests}
 use Rattle.std.proofs.lemmas.List.{length-set, get_or-set_same, get_or-set_other, get_or-take, length-take, take_all}
 use Rattle.rb_world_agenda.specs.Agenda.{least_key}
 use Rattle.rb_world_agenda.specs.Fours.{AreFours, four_at}
-use Rattle.rb_world_agenda.proofs.Fronts.{least-above, least-low}
+use Rattle.rb_world_agenda.proofs.Fronts.{least-above, least-low, least-most}
 
 four-same : (xs ys : List ℕ) (i : ℕ) → get_or xs i 0 ≡ get_or ys i 0 → get_or xs (i + 1) 0 ≡ get_or ys (i + 1) 0 → get_or xs (i + 2) 0 ≡ get_or ys (i + 2) 0
     → get_or xs (i + 3) 0 ≡ get_or ys (i + 3) 0 → four_at xs i ≡ four_at ys i
@@ -79,11 +79,6 @@ four-low xs i k low high = elim (cases_eq k i) [
   ]
 ]
 
-least-top : (ks : List ℕ) → least_key ks ≤ 18446744073709551615
-unfolding least_key
-least-top [] = omega arith
-least-top (x ∷ ks) = omega (arith, least-top ks)
-
 -- each four is no lower than the least
 four-high : (all : List ℕ) (i : ℕ) → i + 4 ≤ length all → least_key all ≤ four_at all i
 four-high all i h =
@@ -97,7 +92,7 @@ kept-high : (all leasts : List ℕ) (opened at j : ℕ) → AreFours all leasts 
 kept-high all leasts opened at j h few =
     let marks = h.marks in
     elim (cases_eq j opened) as (λ _. least_key all ≤ get_or leasts j 0) [
-      | inl e ↦ subst (λ n. least_key all ≤ n) (sym (ap (λ k. get_or leasts k 0) e ∙ h.none)) (least-top all)
+      | inl e ↦ subst (λ n. least_key all ≤ n) (sym (ap (λ k. get_or leasts k 0) e ∙ h.none)) (least-most all)
       | inr n ↦ subst (λ n. least_key all ≤ n) (sym (h.others j few n)) (four-high all (j * 4) (omega (arith, few, marks)))
     ]
 

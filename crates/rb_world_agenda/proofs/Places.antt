@@ -4,6 +4,7 @@ use Rattle.std.specs.Prelude.{remove, unwrap_or}
 use Rattle.std.specs.List.{enumerate_from}
 use Rattle.std.proofs.lemmas.Bool.Decides.{nat_tests}
 use Rattle.std.proofs.lemmas.List.Elements.{All-cons, All-head, All-tail}
+use Rattle.std.proofs.lemmas.Option.{same_Some}
 use Rattle.rb_base.specs.Nodes.{Side, other}
 use Rattle.rb_base.specs.Sizes.{Sizes}
 use Rattle.rb_rules.specs.Hearing.{Coming}
@@ -68,12 +69,9 @@ abbrev pub IsOf : ℕ → Held → Ready → Type 0
 IsOf t lane (Comes place c) = (c.time ≡ t) × (slice_get lane.arrivals place ≡ Some c)
 IsOf t lane Ticks = lane.tick ≡ Some t
 
-some-same : {X : Type 0} (a b : X) → Some a ≡ Some b → a ≡ b
-some-same a b e = ap (λ o. unwrap_or o a) e
-
 of-comes : (t : ℕ) (lane : Held) (cs : List (ℕ × Coming)) → AreAt t lane.arrivals cs → (n : ℕ) (r : Ready) → slice_get (map (λ c. Comes c.0 c.1) cs) n ≡ Some r → IsOf t lane r
 of-comes t lane [] all n r e = absurd (let never : ◌≡◌ {A = Option Ready} None (Some r) = e in cc)
-of-comes t lane (c ∷ cs) all zero r e = subst (IsOf t lane) (some-same (Comes c.0 c.1) r e) (all 0 c refl)
+of-comes t lane (c ∷ cs) all zero r e = subst (IsOf t lane) (same_Some (Comes c.0 c.1) r e) (all 0 c refl)
 of-comes t lane (c ∷ cs) all (suc n) r e = of-comes t lane cs (λ n. all (suc n)) n r e
 
 of-tick : (t : ℕ) (lane : Held) (o : Option ℕ) → lane.tick ≡ o → (n : ℕ) (r : Ready) → slice_get (tick_in t o) n ≡ Some r → IsOf t lane r
@@ -81,7 +79,7 @@ of-tick t lane None is n r e = absurd (let never : ◌≡◌ {A = Option Ready} 
 of-tick t lane (Some u) is n r e = go (u == t) refl n e
   where
     go : (b : Bool) → (u == t) ≡ b → (n : ℕ) → slice_get (elim b as (λ _. List Ready) [ true ↦ Ticks ∷ [] | false ↦ [] ]) n ≡ Some r → IsOf t lane r
-    go true f zero e = subst (IsOf t lane) (some-same Ticks r e) (is ∙ ap (λ n. Some n) (let same : u ≡ t = grind (arith, nat_tests) in same))
+    go true f zero e = subst (IsOf t lane) (same_Some Ticks r e) (is ∙ ap (λ n. Some n) (let same : u ≡ t = grind (arith, nat_tests) in same))
     go true f (suc n) e = absurd (let never : ◌≡◌ {A = Option Ready} None (Some r) = e in cc)
     go false f n e = absurd (let never : ◌≡◌ {A = Option Ready} None (Some r) = e in cc)
 

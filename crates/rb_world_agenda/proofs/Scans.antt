@@ -4,6 +4,7 @@ use Rattle.std.specs.Prelude.{unwrap_or}
 use Rattle.std.proofs.lemmas.List.{length-map, get_or-map, take_more}
 use Rattle.std.proofs.lemmas.Option.{unwrap_or-slice_get}
 use Rattle.rb_base.specs.declared.node.NodeName.{NodeName}
+use Rattle.rb_base.proofs.Plain.{take-all}
 use Rattle.rb_rules.specs.Book.{Each, in_order}
 use Rattle.rb_queue.specs.Waiting.{HasLane, Held, Ready, empty_lane, lane_of, ready_of}
 use Rattle.rb_world_agenda.specs.Agenda.{AreFew, AreKept, StandsAt, due_count, due_in, key_of, keys_of, least_key, node_at}
@@ -79,10 +80,6 @@ count-more lanes bius position key t here =
     ∙ ap (λ l. due_count t (take position (in_order lanes) ++ l ∷ [])) there
     ∙ count-append t (take position (in_order lanes)) (lane_of lanes name ∷ [])
     ∙ ap (λ n. due_count t (take position (in_order lanes)) + n) (one t (lane_of lanes name))
-
-take-all : {X : Type 0} (xs : List X) (n : ℕ) → n ≡ length xs → take n xs ≡ xs
-take-all [] n e = ap (λ n. take n []) e
-take-all (x ∷ xs) n e = ap (λ n. take n (x ∷ xs)) e ∙ ap (λ l. x ∷ l) (take-all xs (length xs) refl)
 
 -- after the last
 pub count-all : (lanes : Each Held) (keys : List ℕ) (bius position t : ℕ) → AreKept lanes keys bius → position ≡ length keys

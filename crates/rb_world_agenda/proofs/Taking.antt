@@ -1,6 +1,7 @@
 -- A due event is taken.
 use Rattle.std.proofs.Common.{◌≡◌, ℕ, ◌==◌, true, Option, Some, slice_get, refl, sym, ap, ◌∙◌, subst, arith}
 use Rattle.std.proofs.lemmas.Bool.Decides.{nat_tests}
+use Rattle.std.proofs.lemmas.Option.{same_Some}
 use Rattle.std.specs.Prelude.{option_map, unwrap_or}
 use Rattle.rb_base.specs.declared.event.Event.{Event}
 use Rattle.rb_base.specs.declared.node.NodeName.{NodeName}
@@ -18,16 +19,13 @@ use Rattle.rb_world_agenda.proofs.Places.{IsAtHead, IsOf, holds-without, ready-a
 use Rattle.rb_world_agenda.proofs.Which.{is-due}
 
 -- an event shows what waits
-shows-own : (ahead : Option Timed) (r : Ready) → Shows (waits_with ahead r) (kind_with r)
+pub shows-own : (ahead : Option Timed) (r : Ready) → Shows (waits_with ahead r) (kind_with r)
 shows-own ahead (Comes place c) = (refl, refl)
 shows-own ahead Ticks = tt
 
 at-time : (lane : Held) (ahead : Option Timed) (t : ℕ) (r : Ready) → IsOf t lane r → IsAtTime t (waits_with ahead r)
 at-time lane ahead t (Comes place c) is = is.0
 at-time lane ahead t Ticks is = tt
-
-some-same : {X : Type 0} (a b : X) → Some a ≡ Some b → a ≡ b
-some-same a b e = ap (λ o. unwrap_or o a) e
 
 -- what is ready is of the least time
 ready-first : (lanes : Each Held) (l : Held) (place : ℕ) (r : Ready) → slice_get (ready_of l) place ≡ Some r → (key_of l == first_time lanes) ≡ true
@@ -45,13 +43,13 @@ takes-due sc w lanes new i event name place holds times at shown after =
     let d = is-due sc w lanes i name place holds times at in
     let l : Held = lane_of lanes name in
     let waits : Waits = waits_with d.site.ahead d.event in
-    let its : event_with name d.event ≡ event = some-same (event_with name d.event) event (sym (ap (option_map (event_with name)) d.ready) ∙ shown) in
+    let its : event_with name d.event ≡ event = same_Some (event_with name d.event) event (sym (ap (option_map (event_with name)) d.ready) ∙ shown) in
     let lane : lane_of lanes (name_of d.side d.number) ≡ l = ap (lane_of lanes) (sym d.named) in
     let change : Site → Site = without_waiting waits in
     let step : (s : Site) → slice_get (of_kind d.side w.sites) d.number ≡ Some s → HoldsSite sc.sizes d.side (lane_of lanes (name_of d.side d.number)) s
     → HoldsSite sc.sizes d.side (without_ready place l) (change s) =
     λ s e h.
-    let same : d.site ≡ s = some-same d.site s (sym d.there ∙ e) in
+    let same : d.site ≡ s = same_Some d.site s (sym d.there ∙ e) in
     subst (λ x. HoldsSite sc.sizes d.side (without_ready place l) (change x)) same
     (holds-without sc.sizes d.side l d.site place d.event
     (subst (HoldsSite sc.sizes d.side l) (sym same) (subst (λ x. HoldsSite sc.sizes d.side x s) lane h)) d.ready) in

@@ -6,7 +6,7 @@ use Rattle.std.proofs.lemmas.Bool.{cases_lt}
 use Rattle.std.proofs.lemmas.Bool.Decides.{nat_tests}
 use Rattle.std.proofs.lemmas.List.{get_or-map, get_or_append_left, length-map, length-replicate, map-append, map-set, replicate-append-replicate, set-get_or}
 use Rattle.std.proofs.lemmas.List.FromFn.{length-range_with_len}
-use Rattle.std.proofs.lemmas.Option.{unwrap_or-slice_get}
+use Rattle.std.proofs.lemmas.Option.{same_Some, slice_get_within, unwrap_or-slice_get}
 use Rattle.rb_base.specs.Counting.{numbers}
 use Rattle.rb_base.specs.Nodes.{Side}
 use Rattle.rb_base.specs.Nodes.Side.{Biu, Rmu}
@@ -14,12 +14,12 @@ use Rattle.rb_base.specs.Sizes.{Sizes}
 use Rattle.rb_base.specs.declared.event.Event.{Event}
 use Rattle.rb_base.specs.declared.node.NodeName.{NodeName}
 use Rattle.rb_base.specs.declared.node.NodeName.TheVariants as node
+use Rattle.rb_base.proofs.Plain.{slice_get-back, slice_get-front}
 use Rattle.rb_rules.specs.Book.{Each, each_of, in_order, of_kind}
 use Rattle.rb_rules.specs.Links.{name_of}
 use Rattle.rb_rules.specs.WorldStep.{Site, Timed}
 use Rattle.rb_queue.specs.Waiting.{HasLane, Held, Ready, empty_lane, event_with, kind_with, lane_of, ready_event, ready_of, tick_time_of, with_lane, without_events, without_found, without_ready}
 use Rattle.rb_queue.specs.Waiting.Ready.{Comes, Ticks}
-use Rattle.rb_queue.proofs.Sources.{get-left, get-right, is_within}
 use Rattle.rb_world_agenda.specs.declared.scan.Front.{Front}
 use Rattle.rb_world_agenda.specs.Agenda.{AreFew, AreTicks, IsFirstAhead, filled, key_of, keys_of, mark_of, marks_from, node_at, position_of, tick_times, ticks_after}
 use Rattle.rb_world_agenda.specs.Fronts.{IsFront}
@@ -38,12 +38,12 @@ name-lane : (lanes : Each Held) (name : NodeName) → HasLane lanes name
 name-lane lanes (node.Biu i) h =
     let all : length (in_order lanes) ≡ length lanes.bius + length lanes.rmus = length-append lanes.bius lanes.rmus in (
       omega (arith, h, all),
-      sym (unwrap_or-slice_get (in_order lanes) i (empty_lane 0)) ∙ ap (λ o. unwrap_or o (empty_lane 0)) (get-left lanes.bius lanes.rmus i h),
+      sym (unwrap_or-slice_get (in_order lanes) i (empty_lane 0)) ∙ ap (λ o. unwrap_or o (empty_lane 0)) (slice_get-front lanes.bius lanes.rmus i h),
     )
 name-lane lanes (node.Rmu i) h =
     let all : length (in_order lanes) ≡ length lanes.bius + length lanes.rmus = length-append lanes.bius lanes.rmus in (
       omega (arith, h, all),
-      sym (unwrap_or-slice_get (in_order lanes) (length lanes.bius + i) (empty_lane 0)) ∙ ap (λ o. unwrap_or o (empty_lane 0)) (get-right lanes.bius lanes.rmus i),
+      sym (unwrap_or-slice_get (in_order lanes) (length lanes.bius + i) (empty_lane 0)) ∙ ap (λ o. unwrap_or o (empty_lane 0)) (slice_get-back lanes.bius lanes.rmus i),
     )
 
 pub ticks-with : (lanes new : Each Held) (ticks : List ℕ) (bius place : ℕ) (name : NodeName) (lane : Held) (tick : ℕ) → bius ≡ length lanes.bius → place ≡ position_of bius name
@@ -96,9 +96,6 @@ ticks-same lanes new ticks bius name lane split kept h after same =
     (ap (mark_of place) same ∙ sym (tick-place lanes ticks bius name split kept h))
     (ticks-with lanes new ticks bius place name lane (tick_time_of lane) split refl kept h after refl))
 
-some-same : {X : Type 0} (a b : X) → Some a ≡ Some b → a ≡ b
-some-same a b e = ap (λ o. unwrap_or o a) e
-
 -- one that is ready is taken
 pub ticks-taken : (lanes new : Each Held) (ticks : List ℕ) (bius place : ℕ) (name : NodeName) (i : ℕ) (event : Event) → bius ≡ length lanes.bius → place ≡ position_of bius name
     → AreTicks lanes ticks → HasLane lanes name → ready_event name i (lane_of lanes name) ≡ Some event → new ≡ with_lane name (without_ready i (lane_of lanes name)) lanes
@@ -115,7 +112,7 @@ ticks-taken lanes new ticks bius place name i event split at kept h shown after 
     by : (o : Option Ready) → slice_get (ready_of lane) i ≡ o → AreTicks new (ticks_after event.kind place ticks)
     by None e = absurd (let never : ◌≡◌ {A = Option Event} None (Some event) = sym (ap (option_map (event_with name)) e) ∙ shown in cc)
     by (Some r) e =
-        let same : event_with name r ≡ event = some-same (event_with name r) event (sym (ap (option_map (event_with name)) e) ∙ shown) in
+        let same : event_with name r ≡ event = same_Some (event_with name r) event (sym (ap (option_map (event_with name)) e) ∙ shown) in
         subst (λ (x : Event). AreTicks new (ticks_after x.kind place ticks)) same
         (kinds r (after ∙ ap (λ o. with_lane name (without_found o lane) lanes) e))
 
@@ -204,15 +201,15 @@ first-is sizes lanes sites ticks bius front holds kept split is me i time first 
 
     at-item : (k : ℕ) (z : Site) → slice_get zs k ≡ Some z → (k < length ticks) × (get_or ticks k 0 ≡ key z)
     at-item k z e =
-        let within = is_within zs k z e in
+        let within = slice_get_within zs k z e in
         let long : length ticks ≡ length zs = ap length all ∙ length-map zs key in (
           omega (arith, within, long),
           ap (λ ts. get_or ts k 0) all ∙ get_or-map key zs k z 0 within ∙ ap key (sym (unwrap_or-slice_get zs k z) ∙ ap (λ o. unwrap_or o z) e),
         )
 
     place : (me : Side) (s : Site) → slice_get (of_kind me sites) i ≡ Some s → slice_get zs (position_of n (name_of me i)) ≡ Some s
-    place Biu s e = get-left sites.bius sites.rmus i (is_within sites.bius i s e) ∙ e
-    place Rmu s e = get-right sites.bius sites.rmus i ∙ e
+    place Biu s e = slice_get-front sites.bius sites.rmus i (slice_get_within sites.bius i s e) ∙ e
+    place Rmu s e = slice_get-back sites.bius sites.rmus i ∙ e
 
     there : (p < length ticks) × (get_or ticks p 0 ≡ time)
     there =
@@ -221,7 +218,7 @@ first-is sizes lanes sites ticks bius front holds kept split is me i time first 
       where
         by : (o : Option Timed) → option_map (λ (a : Timed). a.time) o ≡ Some time → ahead_key o ≡ time
         by None e = absurd (let never : ◌≡◌ {A = Option ℕ} None (Some time) = e in cc)
-        by (Some a) e = let same : a.time ≡ time = some-same a.time time e in let small = first.small in omega (arith, same, small)
+        by (Some a) e = let same : a.time ≡ time = same_Some a.time time e in let small = first.small in omega (arith, same, small)
 
     one : (side : Side) (j : ℕ) (z : Site) → slice_get (of_kind side sites) j ≡ Some z
         → (time ≤ key z) × (position_of n (name_of side j) < p → time < key z)
@@ -243,12 +240,12 @@ first-is sizes lanes sites ticks bius front holds kept split is me i time first 
         let value = (at-item k c.item c.is).1 in
         elim (cases_lt k n) [
           | inl less ↦
-              let its = one Biu k c.item (sym (get-left sites.bius sites.rmus k less) ∙ c.is) in
+              let its = one Biu k c.item (sym (slice_get-front sites.bius sites.rmus k less) ∙ c.is) in
               let low = its.0 in
               (omega (arith, low, value), λ before. let later = its.1 before in omega (arith, later, value))
           | inr ge ↦
               let same : n + (k - n) ≡ k = omega (arith, ge) in
-              let its = one Rmu (k - n) c.item (sym (get-right sites.bius sites.rmus (k - n)) ∙ ap (slice_get zs) same ∙ c.is) in
+              let its = one Rmu (k - n) c.item (sym (slice_get-back sites.bius sites.rmus (k - n)) ∙ ap (slice_get zs) same ∙ c.is) in
               let low = its.0 in
               (omega (arith, low, value), λ before. let later = its.1 (omega (arith, before, same)) in omega (arith, later, value))
         ]
@@ -302,7 +299,7 @@ pub name-there : (sizes : Sizes) (lanes : Each Held) (sites : Each Site) (bius p
     → IsFirstAhead sites me i time → position ≡ position_of bius (name_of me i) → node_at bius position ≡ name_of me i
 name-there sizes lanes sites bius position holds split Biu i time first at =
     let many = (ticks-sites sizes Biu lanes.bius sites.bius holds.bius).0 in
-    let within = is_within sites.bius i first.site first.there in
+    let within = slice_get_within sites.bius i first.site first.there in
     let low : nat_lt position bius ≡ true = (let less : position < bius = omega (arith, at, within, many, split) in grind (arith, nat_tests)) in
     ap (λ b. if b then node.Biu position else node.Rmu (position - bius)) low ∙ ap (λ n. node.Biu n) at
 name-there sizes lanes sites bius position holds split Rmu i time first at =

@@ -4,17 +4,17 @@ use Rattle.std.specs.Prelude.{option_map, unwrap_or}
 use Rattle.std.proofs.lemmas.Bool.Decides.{nat_tests}
 use Rattle.std.proofs.Math.Seq.{take-append-add}
 use Rattle.std.proofs.lemmas.List.{length-map, take-append-le}
-use Rattle.std.proofs.lemmas.Option.{slice_get-map}
+use Rattle.std.proofs.lemmas.Option.{same_Some, slice_get-map, slice_get_within}
 use Rattle.rb_base.specs.Nodes.{Side}
 use Rattle.rb_base.specs.Nodes.Side.{Biu, Rmu}
 use Rattle.rb_base.specs.Sizes.{Sizes}
 use Rattle.rb_base.specs.declared.node.NodeName.{NodeName}
 use Rattle.rb_base.specs.declared.node.NodeName.TheVariants as node
+use Rattle.rb_base.proofs.Plain.{slice_get-back, slice_get-front}
 use Rattle.rb_rules.specs.Book.{Each, in_order}
 use Rattle.rb_rules.specs.Goodness.{Scenario}
 use Rattle.rb_rules.specs.WorldStep.{Due, Site, World}
 use Rattle.rb_queue.specs.Waiting.{Held, Ready, empty_lane, lane_of, ready_of}
-use Rattle.rb_queue.proofs.Sources.{get-left, get-right, is_within}
 use Rattle.rb_world_agenda.specs.Agenda.{IsDue, StandsAt, due_count, due_in, first_time, key_of}
 use Rattle.rb_world_agenda.specs.Holding.{HoldsAll, HoldsSites, due_with}
 use Rattle.rb_world_agenda.proofs.Dues.{count-append, due-lanes, dues_from, length-dues}
@@ -46,10 +46,7 @@ here-due t me i l s rest n place is at h c =
     let got : slice_get (map (due_with me i s) (ready_of l)) place ≡ Some (due_with me i s c.item) =
     slice_get-map (due_with me i s) (ready_of l) place ∙ ap (option_map (due_with me i s)) c.is in
     ap (λ d. slice_get (map (due_with me i s) d ++ rest) n) all ∙ ap (slice_get (map (due_with me i s) (ready_of l) ++ rest)) at
-    ∙ get-left (map (due_with me i s) (ready_of l)) rest place (is_within (map (due_with me i s) (ready_of l)) place _ got) ∙ got
-
-some-same : {X : Type 0} (a b : X) → Some a ≡ Some b → a ≡ b
-some-same a b e = ap (λ o. unwrap_or o a) e
+    ∙ slice_get-front (map (due_with me i s) (ready_of l)) rest place (slice_get_within (map (due_with me i s) (ready_of l)) place _ got) ∙ got
 
 due-in : (sizes : Sizes) (t : ℕ) (me : Side) (i : ℕ) (ls : List Held) (ss : List Site) → HoldsAll sizes me ls ss → (n p : ℕ) (l : Held) (place : ℕ)
     → slice_get ls p ≡ Some l → (key_of l == t) ≡ true → n ≡ due_count t (take p ls) + place → place < length (ready_of l) → IsDueIn t me i ls ss n p l place
@@ -57,7 +54,7 @@ unfolding dues_from due_count
 due-in sizes t me i [] ss holds n p l place at is before h = let never : ◌≡◌ {A = Option Held} None (Some l) = at in cc
 due-in sizes t me i (k ∷ ls) [] holds n p l place at is before h = absurd holds
 due-in sizes t me i (k ∷ ls) (s ∷ ss) holds n zero l place at is before h =
-    let same : k ≡ l = some-same k l at in
+    let same : k ≡ l = same_Some k l at in
     let c = has-item (ready_of l) place h in
     let e : i + 0 ≡ i = omega arith in
     let f : n ≡ place = omega arith in
@@ -81,7 +78,7 @@ due-in sizes t me i (k ∷ ls) (s ∷ ss) holds n (suc p) l place at is before h
       there = more.there;
       event = more.event;
       ready = more.ready;
-      due = ap (slice_get (front ++ dues_from t me (i + 1) ls ss)) f ∙ get-right front (dues_from t me (i + 1) ls ss) m ∙ more.due
+      due = ap (slice_get (front ++ dues_from t me (i + 1) ls ss)) f ∙ slice_get-back front (dues_from t me (i + 1) ls ss) m ∙ more.due
           ∙ ap (λ m. Some (due_with me m more.site more.event)) e;
     }
 
@@ -110,7 +107,7 @@ of-biu sc w lanes i p place holds times h is ready before =
       event = got.event;
       ready = got.ready;
       due = ap (λ d. slice_get d i) (due-lanes sc w lanes holds times)
-          ∙ get-left front (dues_from t Rmu 0 lanes.rmus w.sites.rmus) i (is_within front i _ got.due) ∙ got.due
+          ∙ slice_get-front front (dues_from t Rmu 0 lanes.rmus w.sites.rmus) i (slice_get_within front i _ got.due) ∙ got.due
           ∙ ap (λ m. Some (due_with Biu m got.site got.event)) f;
     }
 
@@ -137,7 +134,7 @@ of-rmu sc w lanes i p place holds times h is ready before =
       there = got.there;
       event = got.event;
       ready = got.ready;
-      due = ap (λ d. slice_get d i) (due-lanes sc w lanes holds times) ∙ ap (slice_get (front ++ back)) at ∙ get-right front back m ∙ got.due
+      due = ap (λ d. slice_get d i) (due-lanes sc w lanes holds times) ∙ ap (slice_get (front ++ back)) at ∙ slice_get-back front back m ∙ got.due
           ∙ ap (λ m. Some (due_with Rmu m got.site got.event)) f;
     }
 

@@ -2,19 +2,19 @@
 use Rattle.std.proofs.Common.{◌≡◌, ℕ, zero, suc, ◌+◌, ◌<◌, ◌≤◌, ◌==◌, ◌&&◌, ◌||◌, not, nat_lt, Bool, true, false, List, [], ◌∷◌, ◌++◌, length, take, Option, Some, None, refl, sym, ◌∙◌, ap, subst, arith, if◌then◌else◌}
 use Rattle.std.specs.Prelude.{is_some, is_none, option_map}
 use Rattle.std.specs.List.{list_all}
+use Rattle.std.proofs.lemmas.Bool.{lt-ltb}
 use Rattle.std.proofs.lemmas.Bool.Decides.{nat_tests}
 use Rattle.std.proofs.lemmas.List.{length-take, get_or-take}
-use Rattle.std.proofs.lemmas.Option.{slice_get_past}
 use Rattle.rb_base.specs.Nodes.{Side, has, set_of}
 use Rattle.rb_base.specs.Nodes.Side.{Biu, Rmu}
 use Rattle.rb_base.specs.declared.values.Place.{Place}
-use Rattle.rb_base.proofs.Sets.{has-set_of, has_none, is_set_of, lt_true}
-use Rattle.rb_judge.proofs.SomeNode.{same_bool}
+use Rattle.rb_base.proofs.Sets.{has-set_of, has_none, is_set_of}
 use Rattle.rb_rules.specs.Book.{Begun, Book, Each, Record, Row, map_each, map_from, of_kind, with_frame, with_stage}
 use Rattle.rb_rules.specs.Book.{Milestone as Mile}
 use Rattle.rb_rules.specs.Goodness.{Scenario, good_at, is_good}
 use Rattle.rb_rules.specs.Slots.{count_of}
 use Rattle.rb_rules.specs.WorldStep.{Site, Way, World, begun_for, book_with, comes_so, is_complete, needs_no_event, record_since, row_for, same_place, settle, settle_next}
+use Rattle.rb_rules.proofs.Books.{record-same}
 use Rattle.rb_world_book.specs.declared.group.Group.{Group}
 use Rattle.rb_world_book.specs.declared.book.Book.{Book as KeptBook}
 use Rattle.rb_world_book.specs.declared.milestone.Milestone.{Milestone}
@@ -29,6 +29,7 @@ use Rattle.rb_world_book.specs.Holding.{Holds, HoldsKind, Passes, passed}
 use Rattle.rb_world_book.specs.Records.{milestone_of, record_of, way_of}
 use Rattle.rb_world_book.specs.Settling.{Settles, comes_when, is_due, is_free}
 use Rattle.rb_base.specs.declared.values.See.{See}
+use Rattle.rb_base.proofs.Plain.{same_bool}
 use Rattle.rb_world_book.specs.Telling.{begun_in, begun_told, has_told, latest_seeing, no_told, row_seeing, see_of, told_at}
 use Rattle.rb_world_book.specs.Waiting.{waiting_for}
 use Rattle.rb_world_book.proofs.Rows.{from-from, from-map, from-same, good-is}
@@ -107,7 +108,7 @@ all-told n good m told most len =
         let start : 0 + i ≡ i = omega arith in
         let out : p i ≡ false = sym (has-set_of i p (omega arith)) ∙ ap (λ s. has s i) e ∙ has_none i in
         ap (λ k. not (has good k) || has_told m (told_at (take n told) i)) start ∙ ap (λ t. not (has good i) || has_told m t) (get_or-take n told i no_told h)
-        ∙ flop (has good i) (has_told m (told_at told i)) (sym (ap (λ b. b && (has good i && not (has_told m (told_at told i)))) (lt_true i n h)) ∙ out)
+        ∙ flop (has good i) (has_told m (told_at told i)) (sym (ap (λ b. b && (has good i && not (has_told m (told_at told i)))) (lt-ltb i n h)) ∙ out)
 
 -- What a kind has told.
 
@@ -263,9 +264,6 @@ next-not sc k l w h e =
 
 -- Two steps.
 
-since-same : (w : World) → record_since w w ≡ None
-since-same w = slice_get_past w.book.given (length w.book.given) (omega arith)
-
 abbrev rest_of : Scenario → Way → ℕ → World → Option Record → World
 rest_of sc way n next r = elim r [ None ↦ settle sc way n next | Some r ↦ record next { turn = Some r } ]
 
@@ -274,7 +272,7 @@ pub settle-more : (sc : Scenario) (way : Way) (n : ℕ) (w next : World) (r : Op
 settle-more sc way n w next r is record_is = ap (λ x. rest_of sc way n x (record_since w x)) is ∙ ap (rest_of sc way n next) record_is
 
 settle-not : (sc : Scenario) (way : Way) (n : ℕ) (w : World) → settle_next sc way w ≡ w → settle sc way (suc n) w ≡ settle sc way n w
-settle-not sc way n w is = settle-more sc way n w w None is (since-same w)
+settle-not sc way n w is = settle-more sc way n w w None is (record-same w)
 
 settle-one : (sc : Scenario) (way : Way) (w next : World) (r : Option Record) → settle_next sc way w ≡ next → record_since w next ≡ r → settle sc way 1 w ≡ record next { turn = r }
 settle-one sc way w next None is e = settle-more sc way 0 w next None is e

@@ -17,6 +17,7 @@ use Rattle.rb_rules.specs.Goodness.{Scenario, good_at, is_good}
 use Rattle.rb_rules.specs.Judging.{are_alike, is_something, was_taken as taken_in, was_unlike as unlike_in}
 use Rattle.rb_rules.specs.Slots.{count_of}
 use Rattle.rb_rules.specs.WorldStep.{Site, row_for, same_place, told_by_good}
+use Rattle.rb_rules.proofs.Slots.{other_twice}
 use Rattle.rb_judge.specs.Kinds.{AreSetsOf}
 use Rattle.rb_judge.specs.Sights.{some_node}
 use Rattle.rb_judge.specs.declared.stage_sets.StageSets.{StageSets}
@@ -53,10 +54,6 @@ unlike-form : (sc : Scenario) (place : Place) (rows : Each (Option Row)) (kind :
 unfolding some_node
 unlike-form sc place rows kind j = refl
 
-back : (kind : Side) → other (other kind) ≡ kind
-back Biu = refl
-back Rmu = refl
-
 -- what is kept of receivers of which nobody is awaited
 have-seen : {R : Type 0} (sc : Scenario) (place : Place) (kind : Side) (o : Group R) (sites : Each Site) (j : ℕ) → count_of (other kind) sc.sizes ≤ 16
     → (holds : HoldsKind sc (other kind) (Stage place) o sites) → o.waiting ≡ 0
@@ -69,10 +66,10 @@ have-seen sc place kind o sites j most holds none =
     record {
       there = there;
       told_it = told_it;
-      nobody = λ i past. holds.within i j (subst (λ k. count_of k sc.sizes ≤ j) (sym (back kind)) past);
+      nobody = λ i past. holds.within i j (subst (λ k. count_of k sc.sizes ≤ j) (sym (other_twice kind)) past);
       sights = λ i h e bad. holds.sights i j
           (ap (λ f. is_good sc (other (other kind)) j f (sync_slot_of sc.sizes)) (same-frame (told_at o.told i).place place (told-there place (told_at o.told i) (told_it i h e)))
-          ∙ ap (λ k. is_good sc k j place.frame (sync_slot_of sc.sizes)) (back kind) ∙ bad);
+          ∙ ap (λ k. is_good sc k j place.frame (sync_slot_of sc.sizes)) (other_twice kind) ∙ bad);
     }
   where
     front : (a b : Bool) → (a && b) ≡ true → a ≡ true
@@ -97,7 +94,7 @@ sets-are sc place kind g o sites sets most most_others holds holds_others none g
     let lasting : (j : ℕ) → has g.lasting j ≡ lasts j =
     λ j. ap (λ s. has s j) (holds.lasting place refl) ∙ good-is sc kind place.frame (sync_slot_of sc.sizes) j most in
     let lasts_is : (j : ℕ) → is_good sc (other (other kind)) j place.frame (sync_slot_of sc.sizes) ≡ lasts j =
-    λ j. ap (λ k. is_good sc k j place.frame (sync_slot_of sc.sizes)) (back kind) in
+    λ j. ap (λ k. is_good sc k j place.frame (sync_slot_of sc.sizes)) (other_twice kind) in
     let rows_is = rows-kept sc (other kind) (Stage place) place o sites most_others holds_others holds_others.good in
     let eps : ℕ = sc.plan.dmax - sc.plan.dmin in
     let others : ℕ = count_of (other kind) sc.sizes in

@@ -4,9 +4,10 @@ use Rattle.std.proofs.lemmas.Bool.{cases_eq}
 use Rattle.std.proofs.lemmas.List.{ext_get_or, get_or_default, get_or-set_same, get_or-set_other}
 use Rattle.std.proofs.lemmas.List.FromFn.{get_or-map-range_with_len}
 use Rattle.rb_base.specs.Nodes.{has, set_of}
-use Rattle.rb_base.proofs.Sets.{eq_other, eq_self, has-is, has_none}
+use Rattle.rb_base.proofs.Sets.{eq_other, has-is, has_none}
 use Rattle.rb_base.specs.declared.values.See.{See}
 use Rattle.rb_base.specs.declared.values.See.TheVariants.{Nothing}
+use Rattle.rb_base.proofs.Plain.{and-not_true, eq_self}
 use Rattle.rb_rules.specs.Hearing.{judged_see}
 use Rattle.rb_world_book.specs.Telling.{kept_of, timed_in}
 
@@ -29,10 +30,6 @@ is-new false b x y ha hb = absurd (cc)
 but-none : (b : Bool) → (b && not false) ≡ b
 but-none true = refl
 but-none false = refl
-
-but-all : (b : Bool) → (b && not true) ≡ false
-but-all true = refl
-but-all false = refl
 
 pub length-kept : {X : Type 0} (counted : ℕ) (d : X) (new : ℕ → X) (before : List X) → length (kept_of counted d new before) ≡ 16
 unfolding kept_of
@@ -67,7 +64,7 @@ kept-next {X} counted left left' k d v new before kept small long is within remo
     Keeps i = get_or (set kept k v) i d ≡ kept_but counted left' d new before i
 
     gone : has left' k ≡ false
-    gone = has-is left' k (λ i. has left i && not (i == k)) removed small ∙ ap (λ b. has left k && not b) (eq_self k) ∙ but-all (has left k)
+    gone = has-is left' k (λ i. has left i && not (i == k)) removed small ∙ ap (λ b. has left k && not b) (eq_self k) ∙ and-not_true (has left k)
 
     stays : j ≢ k → has left' j ≡ has left j
     stays apart = has-is left' j (λ i. has left i && not (i == k)) removed h ∙ ap (λ b. has left j && not b) (eq_other j k apart) ∙ but-none (has left j)

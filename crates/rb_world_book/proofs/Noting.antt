@@ -1,13 +1,14 @@
 -- A node tells something more: its site in the world, and what is kept.
 use Rattle.std.proofs.Common.{◌≡◌, ◌≢◌, ℕ, zero, suc, ◌+◌, ◌<◌, ◌≤◌, ◌==◌, ◌&&◌, not, nat_lt, Bool, true, false, List, [], ◌∷◌, length, map, take, get_or, set, Some, refl, sym, ◌∙◌, ap, subst, arith, if◌then◌else◌, get_or-set_same, get_or-set_other}
 use Rattle.std.specs.Prelude.{Option, option_map, slice_index}
+use Rattle.std.proofs.lemmas.Bool.{lt-ltb}
 use Rattle.std.proofs.lemmas.Bool.Decides.{nat_tests}
 use Rattle.std.proofs.lemmas.List.{get_or_past, get_or-take, length-set, length-take, map-set}
 use Rattle.std.proofs.Math.Seq.{map-set_same, take-set-lt}
 use Rattle.rb_base.specs.Nodes.{Side, has, other, set_of}
 use Rattle.rb_base.specs.Nodes.Side.{Biu, Rmu}
 use Rattle.rb_base.specs.declared.values.See.TheVariants.{Nothing}
-use Rattle.rb_base.proofs.Sets.{eq_other, eq_self, has-is, lt_true, same_set_of}
+use Rattle.rb_base.proofs.Sets.{eq_other, has-is, same_set_of}
 use Rattle.rb_base.specs.declared.kind.Biu.{Biu as BiuKind}
 use Rattle.rb_base.specs.declared.kind.Rmu.{Rmu as RmuKind}
 use Rattle.rb_judge.specs.Stages.{Knows}
@@ -25,11 +26,13 @@ use Rattle.rb_world_book.specs.Holding.{OthersLast, HoldsKind}
 use Rattle.rb_base.specs.Sizes.{sync_slot_of}
 use Rattle.rb_base.specs.declared.values.Place.{Place}
 use Rattle.rb_base.specs.declared.values.See.{See}
+use Rattle.rb_base.proofs.Plain.{eq_self}
 use Rattle.rb_world_book.specs.Telling.{begun_in, begun_told, has_told, kept_of, no_told, row_seeing, see_of, timed_in, told_at, told_closed}
 use Rattle.rb_world_book.proofs.Kept.{kept-at, length-kept}
 use Rattle.rb_rules.specs.declared.closing.Closed.{Closed}
 use Rattle.rb_rules.specs.declared.record.SlotLine.{SlotLine}
 use Rattle.rb_rules.specs.Hearing.{judged_see}
+use Rattle.rb_rules.proofs.Slots.{same_side_self}
 use Rattle.rb_world_book.proofs.Rows.{good-is}
 use Rattle.rb_world_book.specs.Waiting.{all_but, waiting_for}
 
@@ -74,14 +77,10 @@ pub shows-same : {Y : Type 0} (h : Site → Y) (kind me : Side) (i : ℕ) (chang
     → map h (of_kind kind (at_node me i change sites)) ≡ map h (of_kind kind sites)
 shows-same h kind me i change sites same = ap (map h) (at-kind kind me i change sites) ∙ none-changes h 0 (λ n. same_side kind me && (n == i)) change (of_kind kind sites) same
 
-self-side : (kind : Side) → same_side kind kind ≡ true
-self-side Biu = refl
-self-side Rmu = refl
-
 pub shows-changed : {Y : Type 0} (h : Site → Y) (kind : Side) (i : ℕ) (change : Site → Site) (v : Y) (sites : Each Site) → ((s : Site) → h (change s) ≡ v)
     → map h (of_kind kind (at_node kind i change sites)) ≡ set (map h (of_kind kind sites)) i v
 shows-changed h kind i change v sites shows =
-    ap (map h) (at-kind kind kind i change sites ∙ ap (λ b. map_from 0 (λ n s. elim (b && (n == i)) as (λ _. Site) [ true ↦ change s | false ↦ s ]) (of_kind kind sites)) (self-side kind))
+    ap (map h) (at-kind kind kind i change sites ∙ ap (λ b. map_from 0 (λ n s. elim (b && (n == i)) as (λ _. Site) [ true ↦ change s | false ↦ s ]) (of_kind kind sites)) (same_side_self kind))
     ∙ one-changes h 0 i i change v (of_kind kind sites) (let e : i ≡ 0 + i = omega arith in e) shows
 
 -- the nodes of the other kind
@@ -168,7 +167,7 @@ still-waits count good waiting node m told t within there is = same_set_of _ _ (
     by i h true e =
         let same : i ≡ node = grind (arith, nat_tests) in
         let now : told_at (set told node t) i ≡ t = told-then told node i t there ∙ ap (λ b. if b then t else told_at told i) e in
-        sym (ap (λ x. nat_lt i count && (has good i && not (has_told m x))) now ∙ ap (λ b. b && (has good i && not (has_told m t))) (lt_true i count (omega arith))
+        sym (ap (λ x. nat_lt i count && (has good i && not (has_told m x))) now ∙ ap (λ b. b && (has good i && not (has_told m t))) (lt-ltb i count (omega arith))
         ∙ ap (λ k. has good k && not (has_told m t)) same)
     by i h false e =
         let now : told_at (set told node t) i ≡ told_at told i = told-then told node i t there ∙ ap (λ b. if b then t else told_at told i) e in

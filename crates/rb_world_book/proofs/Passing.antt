@@ -17,7 +17,6 @@ use Rattle.rb_rules.specs.Goodness.{Scenario, good_at, is_good}
 use Rattle.rb_rules.specs.Judging.{JudgedStage, verdict_of}
 use Rattle.rb_rules.specs.Slots.{count_of}
 use Rattle.rb_rules.specs.WorldStep.{Site, World, begun_for, book_with, told_by_good}
-use Rattle.rb_rules.proofs.WindowNumbers.{get-back}
 use Rattle.rb_world_book.specs.declared.group.Group.{Group}
 use Rattle.rb_world_book.specs.declared.book.Book.{Book as KeptBook}
 use Rattle.rb_world_book.specs.declared.milestone.Milestone.{Milestone as Kept}
@@ -28,6 +27,7 @@ use Rattle.rb_world_book.specs.Records.{milestone_of, record_of}
 use Rattle.rb_world_book.specs.Settling.{after_begin}
 use Rattle.rb_world_book.specs.Waiting.{all_but, begun_at, found_of, line_of, node_line_of, port_line_of, waiting_for}
 use Rattle.rb_base.specs.declared.values.See.TheVariants.{Nothing}
+use Rattle.rb_base.proofs.Plain.{slice_get-back}
 use Rattle.rb_world_book.specs.Telling.{begun_told, row_seeing, see_of, told_at}
 use Rattle.rb_world_book.proofs.Judged.{rows_of}
 use Rattle.rb_world_book.proofs.Rows.{begins-kept, no-ports, node-lines, port-lines, rows-kept, slot-lines}
@@ -35,7 +35,7 @@ use Rattle.rb_world_book.proofs.Rows.{begins-kept, no-ports, node-lines, port-li
 -- The record that comes.
 
 since-is : (xs ys : List Record) → slice_get (xs ++ ys) (length xs) ≡ slice_get ys 0
-since-is xs ys = let e : length xs ≡ length xs + 0 = omega arith in ap (slice_get (xs ++ ys)) e ∙ get-back xs ys 0
+since-is xs ys = let e : length xs ≡ length xs + 0 = omega arith in ap (slice_get (xs ++ ys)) e ∙ slice_get-back xs ys 0
 
 -- what is kept stands for the world with this book
 pub passes-by : (sc : Scenario) (w : World) (after : KeptBook) (turn : Turn) (b : Book) (records : List Record)

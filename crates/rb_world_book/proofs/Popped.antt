@@ -1,13 +1,12 @@
 -- Walks over the members of a set, of which the first is taken out until none is left.
 use Rattle.std.proofs.Common.{◌≡◌, ℕ, zero, suc, ◌+◌, ◌-◌, ◌<◌, ◌≤◌, ◌⊎◌, ◌&&◌, ◌==◌, not, nat_lt, Bool, true, false, List, [], ◌++◌, length, Option, Some, None, inl, inr, refl, sym, ◌∙◌, ap, subst, arith, if◌then◌else◌}
 use Rattle.std.specs.Prelude.{is_some, option_to_list}
-use Rattle.std.proofs.lemmas.Bool.{cases_lt, cases_order}
+use Rattle.std.proofs.lemmas.Bool.{and_parts, cases_lt, cases_order, lt-ltb, ltb-true}
 use Rattle.std.proofs.lemmas.List.{append-nil}
-use Rattle.std.proofs.lemmas.Bool.Decides.{nat_tests}
 use Rattle.rb_base.specs.Nodes.{TakesFirst, has, set_of}
-use Rattle.rb_base.proofs.Sets.{eq_other, eq_self, has-is, has_none, is_set_of, lt_true, same_set_of}
-use Rattle.rb_judge.proofs.SomeNode.{and_all, and_none, and_parts}
+use Rattle.rb_base.proofs.Sets.{eq_other, first_gone, has-is, has_none, is_set_of, same_set_of}
 use Rattle.rb_base.specs.declared.values.Place.{Place}
+use Rattle.rb_base.proofs.Plain.{and-true, eq_self}
 use Rattle.rb_rules.specs.Book.{Row}
 use Rattle.rb_rules.specs.WorldStep.{row_for}
 use Rattle.rb_world_book.specs.declared.milestone.Milestone.TheVariants.{Stage}
@@ -29,24 +28,16 @@ those_are count set first is = same_set_of _ _ (λ i h. ap (λ b. b && has set i
 
 -- One node less.
 
-below : (i count : ℕ) → nat_lt i count ≡ true → i < count
-below i count e = grind (arith, nat_tests)
-
 pub same_or_not : (j k : ℕ) → (j ≡ k) ⊎ ((j == k) ≡ false)
 same_or_not j k = elim (cases_order j k) [
   | inl same ↦ inl same
   | inr order ↦ inr (elim order as (λ _. (j == k) ≡ false) [ inl less ↦ eq_other j k (omega arith) | inr more ↦ eq_other j k (omega arith) ])
 ]
 
--- the node that is taken out is no more left
-pub gone : (before after k : ℕ) → k < 16 → TakesFirst before after k → has after k ≡ false
-gone before after k h takes =
-    has-is after k (λ i. has before i && not (i == k)) takes.rest h ∙ ap (λ b. has before k && not b) (eq_self k) ∙ and_none (has before k)
-
 -- all others stay
 pub stays : (before after k j : ℕ) → j < 16 → TakesFirst before after k → (j == k) ≡ false → has after j ≡ has before j
 stays before after k j h takes apart =
-    has-is after j (λ i. has before i && not (i == k)) takes.rest h ∙ ap (λ b. has before j && not b) apart ∙ and_all (has before j)
+    has-is after j (λ i. has before i && not (i == k)) takes.rest h ∙ ap (λ b. has before j && not b) apart ∙ and-true (has before j)
 
 -- what is asked of each member holds after one more, where it holds of this one
 each-next : (before after k : ℕ) (P : ℕ → Type 0) → TakesFirst before after k → P k → ((j : ℕ) → j < 16 → has before j ≡ false → P j)
@@ -107,7 +98,7 @@ one_more these before after k set more passes member so_far takes hk is joined =
     at j h = elim (same_or_not j k) [
       | inl same ↦ ap (λ b. if b then member else has set j) (ap (λ n. n == k) same ∙ eq_self k) ∙ is ∙ ap passes (sym same)
           ∙ sym (ap (λ b. b && (not (has after j) && passes j)) (ap these same ∙ so_far.within k hk takes.inside)
-          ∙ ap (λ b. true && (not b && passes j)) (ap (has after) same ∙ gone before after k hk takes))
+          ∙ ap (λ b. true && (not b && passes j)) (ap (has after) same ∙ first_gone before after k hk takes))
       | inr apart ↦ ap (λ b. if b then member else has set j) apart ∙ has-is set j (λ j. these j && (not (has before j) && passes j)) so_far.is h
           ∙ ap (λ b. these j && (not b && passes j)) (sym (stays before after k j h takes apart))
     ]
@@ -153,11 +144,11 @@ pub first_told : (place : Place) (count good before after k : ℕ) (told : List 
     → trusted ≡ first_trusted (found_of (row_at good place) count told)
 first_told place count good before after k told trusted most within so_far takes h is some =
     let both : (nat_lt k count ≡ true) × (has good k ≡ true) = and_parts _ _ (so_far.within k h takes.inside) in
-    let less : k < count = below k count both.0 in
+    let less : k < count = ltb-true k count both.0 in
     let earlier : found_of (row_at good place) k told ≡ [] =
     found_nothing (row_at good place) told k (omega arith)
     (λ j lower. no_row place good j (told_at told j) (λ e.
-    so_far.none j (omega arith) (takes.first j lower) (ap (λ b. b && has good j) (lt_true j count (omega arith)) ∙ e))) in
+    so_far.none j (omega arith) (takes.first j lower) (ap (λ b. b && has good j) (lt-ltb j count (omega arith)) ∙ e))) in
     found_first (row_at good place) told k count trusted less (omega arith) earlier
     (is ∙ ap (λ b. first_trusted (option_to_list (row_if place b (told_at told k)))) (sym both.1)) some
 
@@ -175,7 +166,7 @@ nobody_told place count good left told most within so_far none =
     ap first_trusted
     (found_nothing (row_at good place) told count within
     (λ j lower. no_row place good j (told_at told j) (λ e.
-    so_far.none j (omega arith) (ap (λ s. has s j) none ∙ has_none j) (ap (λ b. b && has good j) (lt_true j count lower) ∙ e))))
+    so_far.none j (omega arith) (ap (λ s. has s j) none ∙ has_none j) (ap (λ b. b && has good j) (lt-ltb j count lower) ∙ e))))
 
 -- Lists of what is found.
 
@@ -194,8 +185,8 @@ follows_none find count good left told before now most is same = record {
   from = 0;
   most = omega arith;
   gone = λ j h. absurd (omega arith);
-  rest = λ j low h. has-is left j (is_below count good) is (omega arith) ∙ ap (λ b. b && has good j) (lt_true j count h);
-  within = λ j h e. below j count (and_parts _ _ (sym (has-is left j (is_below count good) is h) ∙ e)).0;
+  rest = λ j low h. has-is left j (is_below count good) is (omega arith) ∙ ap (λ b. b && has good j) (lt-ltb j count h);
+  within = λ j h e. ltb-true j count (and_parts _ _ (sym (has-is left j (is_below count good) is h) ∙ e)).0;
   added = record {
     is = same ∙ sym (ap (λ l. before ++ l) (found_none find told) ∙ append-nil before);
     most = omega (arith, ap length same);
@@ -246,7 +237,7 @@ one_follows find count good left after k told before now longer o good_only most
     gone_to : (j : ℕ) → j < k + 1 → has after j ≡ false
     gone_to j lower = elim (cases_lt j k) [
       | inl less ↦ stays left after k j (omega arith) takes (eq_other j k (omega arith)) ∙ takes.first j less
-      | inr more ↦ let same : j ≡ k = omega arith in ap (has after) same ∙ gone left after k h takes
+      | inr more ↦ let same : j ≡ k = omega arith in ap (has after) same ∙ first_gone left after k h takes
     ]
 
 pub all_followed : {X : Type 0} (find : ℕ → Told → Option X) (count good left : ℕ) (told : List Told) (before now : List X) → ((j : ℕ) (t : Told) → has good j ≡ false → find j t ≡ None)

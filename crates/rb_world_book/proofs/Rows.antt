@@ -2,10 +2,11 @@
 use Rattle.std.proofs.Common.{◌≡◌, ℕ, ◌+◌, ◌≤◌, ◌==◌, ◌&&◌, nat_lt, if◌then◌else◌, Bool, true, false, List, [], ◌∷◌, map, take, get_or, Option, Some, None, refl, sym, ◌∙◌, ap, arith}
 use Rattle.std.specs.Prelude.{option_map, option_and_then}
 use Rattle.std.specs.List.{cons_option, filter_map}
+use Rattle.std.proofs.lemmas.Bool.{le-ltb}
 use Rattle.std.proofs.lemmas.Bool.Decides.{nat_tests}
 use Rattle.rb_base.specs.Nodes.{Side, has, set_of}
 use Rattle.rb_base.specs.Nodes.Side.{Biu, Rmu}
-use Rattle.rb_base.proofs.Sets.{has-set_of, has_above, set_of-lt, lt_false}
+use Rattle.rb_base.proofs.Sets.{has-set_of, has_above, set_of-lt}
 use Rattle.rb_base.specs.declared.values.Place.{Place}
 use Rattle.rb_base.specs.declared.values.See.{See}
 use Rattle.rb_rules.specs.declared.record.NodeLine.{NodeLine}
@@ -73,7 +74,7 @@ good-is sc kind frame slot i most = by (nat_lt i 16) refl
     by true e = has-set_of i p (grind (arith, nat_tests))
     by false e =
         has_above (set_of p) i (set_of-lt p) (grind (arith, nat_tests))
-        ∙ sym (ap (λ b. b && is_before (get_or (onsets_of kind sc) i None) frame slot) (lt_false i (count_of kind sc.sizes) (let h : 16 ≤ i = grind (arith, nat_tests) in omega arith)))
+        ∙ sym (ap (λ b. b && is_before (get_or (onsets_of kind sc) i None) frame slot) (le-ltb i (count_of kind sc.sizes) (let h : 16 ≤ i = grind (arith, nat_tests) in omega arith)))
 
 -- Rows and begins.
 

@@ -4,16 +4,16 @@ use Rattle.std.proofs.lemmas.Bool.{cases_lt}
 use Rattle.rb_base.specs.Nodes.{TakesFirst, has, set_of}
 use Rattle.rb_base.specs.declared.values.See.{See}
 use Rattle.rb_base.specs.declared.values.See.TheVariants.{Nothing}
-use Rattle.rb_base.proofs.Sets.{eq_self, has-is, has_above, has_none}
+use Rattle.rb_base.proofs.Plain.{and-false, and-same, eq_self}
+use Rattle.rb_base.proofs.Sets.{first_gone, has-is, has_above, has_none}
 use Rattle.rb_rules.specs.Judging.{are_alike, is_something}
 use Rattle.rb_judge.specs.Sights.{ShowsSource, some_node}
 use Rattle.rb_judge.specs.declared.seen.SourceSights.{SourceSights}
-use Rattle.rb_judge.proofs.SameVerdicts.{under}
 use Rattle.rb_judge.proofs.Sides.{heard_is}
 use Rattle.rb_judge.proofs.Sights.{same_sights}
-use Rattle.rb_judge.proofs.SomeNode.{and_none, some_same}
+use Rattle.rb_judge.proofs.SomeNode.{some_same}
 use Rattle.rb_world_book.specs.Waiting.{some_good}
-use Rattle.rb_world_book.proofs.Popped.{gone, is_below, joined, left-before, same_or_not, stays}
+use Rattle.rb_world_book.proofs.Popped.{is_below, joined, left-before, same_or_not, stays}
 
 -- what those of these receivers saw that are not left
 abbrev pub seen_so_far : ℕ → ℕ → (ℕ → See) → ℕ → See
@@ -37,7 +37,7 @@ all_are_left eps among sight kept none = record {
 pub not_yet : (eps among left i : ℕ) (sight : ℕ → See) (kept : SourceSights) → KeptSoFar eps among left sight kept → i < 16 → has left i ≡ true → has kept.by i ≡ false
 not_yet eps among left i sight kept so_far h e =
     so_far.shows.by i h ∙ ap (λ b. is_something (if has among i && not b then sight i else Nothing)) e
-    ∙ ap (λ b. is_something (if b then sight i else Nothing)) (and_none (has among i))
+    ∙ ap (λ b. is_something (if b then sight i else Nothing)) (and-false (has among i))
 
 pub one_noted : (eps among before after r : ℕ) (x : See) (sight : ℕ → See) (kept more : SourceSights) → among < 2 ^ 16 → KeptSoFar eps among before sight kept
     → TakesFirst before after r → r < 16 → x ≡ sight r
@@ -59,7 +59,7 @@ one_noted eps among before after r x sight kept more few so_far takes hr seen st
     at : (i : ℕ) → seen_so_far among after sight i ≡ (if i == r then x else seen_so_far among before sight i)
     at i = elim (same_or_not i r) [
       | inl here ↦ ap (λ b. if b && not (has after i) then sight i else Nothing) (ap (has among) here ∙ so_far.within r hr takes.inside)
-          ∙ ap (λ b. if true && not b then sight i else Nothing) (ap (has after) here ∙ gone before after r hr takes) ∙ ap sight here ∙ sym seen
+          ∙ ap (λ b. if true && not b then sight i else Nothing) (ap (has after) here ∙ first_gone before after r hr takes) ∙ ap sight here ∙ sym seen
           ∙ sym (ap (λ b. if b then x else seen_so_far among before sight i) (ap (λ n. n == r) here ∙ eq_self r))
       | inr apart ↦ same i apart ∙ sym (ap (λ b. if b then x else seen_so_far among before sight i) apart)
     ]
@@ -76,7 +76,7 @@ among_good : (count good among : ℕ) (p q : ℕ → Bool) → among ≡ set_of 
     → some_node (λ i. has among i && p i) ≡ some_good count good q
 unfolding some_good
 among_good count good among p q is same =
-    some_same _ _ (λ i h. under (has among i) (p i) (q i) (same i) ∙ ap (λ b. b && q i) (has-is among i (is_below count good) is h) ∙ joined (nat_lt i count) (has good i) (q i))
+    some_same _ _ (λ i h. and-same (has among i) (p i) (q i) (same i) ∙ ap (λ b. b && q i) (has-is among i (is_below count good) is h) ∙ joined (nat_lt i count) (has good i) (q i))
 
 pub heard_all : (eps count good among left : ℕ) (sight : ℕ → See) (kept : SourceSights) → among ≡ set_of (is_below count good) → KeptSoFar eps among left sight kept → left ≡ 0
     → kept.heard ≡ some_good count good (λ i. is_something (sight i))

@@ -13,6 +13,7 @@ use Rattle.rb_rules.specs.Book.{Each, Row, judged_of}
 use Rattle.rb_rules.specs.Goodness.{Scenario, is_before, is_good, onsets_of}
 use Rattle.rb_rules.specs.Judging.{JudgedStage, are_alike, is_something, is_suspect, verdict_of, was_taken, was_unlike}
 use Rattle.rb_rules.specs.Slots.{count_of}
+use Rattle.rb_rules.proofs.Slots.{other_twice}
 use Rattle.rb_judge.proofs.SameVerdicts.{AgreeOnSuspects, same_verdict}
 use Rattle.rb_world_book.specs.Holding.{without_lasting}
 use Rattle.rb_world_book.proofs.Rows.{good-is}
@@ -21,15 +22,11 @@ any-same : (p q : ℕ → Bool) (xs : List ℕ) → ((i : ℕ) → p i ≡ q i) 
 any-same p q [] same = refl
 any-same p q (x ∷ xs) same = ap (λ b. b || list_any p xs) (same x) ∙ ap (λ b. q x || b) (any-same p q xs same)
 
-back : (kind : Side) → other (other kind) ≡ kind
-back Biu = refl
-back Rmu = refl
-
 -- what was seen of a node that doesn't last is left as it was
 seen-same : (sc : Scenario) (frame : ℕ) (kind : Side) (j : ℕ) (s : JudgedStage) → is_good sc kind j frame (sync_slot_of sc.sizes) ≡ false
     → (i : ℕ) → (without_lasting sc frame s).sight (other kind) i j ≡ s.sight (other kind) i j
 seen-same sc frame kind j s e i =
-    ap (λ b. elim b as (λ _. See) [ true ↦ Nothing | false ↦ s.sight (other kind) i j ]) (ap (λ k. is_good sc k j frame (sync_slot_of sc.sizes)) (back kind) ∙ e)
+    ap (λ b. elim b as (λ _. See) [ true ↦ Nothing | false ↦ s.sight (other kind) i j ]) (ap (λ k. is_good sc k j frame (sync_slot_of sc.sizes)) (other_twice kind) ∙ e)
 
 taken-same : (sc : Scenario) (frame : ℕ) (kind : Side) (j : ℕ) (s : JudgedStage) → is_good sc kind j frame (sync_slot_of sc.sizes) ≡ false
     → was_taken kind j (without_lasting sc frame s) ≡ was_taken kind j s

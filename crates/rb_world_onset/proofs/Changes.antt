@@ -1,10 +1,9 @@
 -- The next slot at which other nodes are good.
 use Rattle.std.proofs.Common.{◌≡◌, ◌⊎◌, inl, inr, ℕ, ◌+◌, ◌<◌, ◌&&◌, nat_lt, Bool, true, false, Option, Some, None, IfSome, List, get_or, refl, sym, ap, ◌∙◌, subst, arith}
-use Rattle.std.proofs.lemmas.Bool.{cases_lt}
+use Rattle.std.proofs.lemmas.Bool.{cases_lt, le-ltb}
 use Rattle.std.proofs.lemmas.Bool.Decides.{nat_tests}
 use Rattle.rb_base.specs.Nodes.{Side}
 use Rattle.rb_base.specs.Nodes.Side.{Biu, Rmu}
-use Rattle.rb_base.proofs.Sets.{lt_false}
 use Rattle.rb_rules.specs.Goodness.{Scenario, is_before, is_good}
 use Rattle.rb_world_onset.specs.Faults.{Faults, IsNextChange, Stops, earlier_after, faults_of, is_good_among}
 use Rattle.rb_world_onset.specs.Search.{IsNextAmong, IsOnsetAmong}
@@ -112,7 +111,7 @@ among_steady : (count : ℕ) (onsets : List (Option (ℕ × ℕ))) (frame slot f
 among_steady count onsets frame slot f s i same =
     elim (cases_lt i count) [
       | inl less ↦ ap (λ b. nat_lt i count && b) (same less)
-      | inr more ↦ ap (λ b. b && is_before (get_or onsets i None) f s) (lt_false i count more) ∙ sym (ap (λ b. b && is_before (get_or onsets i None) frame slot) (lt_false i count more))
+      | inr more ↦ ap (λ b. b && is_before (get_or onsets i None) f s) (le-ltb i count more) ∙ sym (ap (λ b. b && is_before (get_or onsets i None) frame slot) (le-ltb i count more))
     ]
 
 lt_true_and : (i count : ℕ) (b v : Bool) → i < count → b ≡ v → (nat_lt i count && b) ≡ v

@@ -41,7 +41,7 @@ lane-same : (lanes : Each Held) (to : NodeName) (lane : Held) → HasLane lanes 
 lane-same lanes (node.Biu i) lane h is = ap (λ ls. record lanes { bius = ls }) (set-same lanes.bius i lane h is)
 lane-same lanes (node.Rmu i) lane h is = ap (λ ls. record lanes { rmus = ls }) (set-same lanes.rmus i lane h is)
 
-lane-again : (lanes : Each Held) (to : NodeName) (x y : Held) → with_lane to y (with_lane to x lanes) ≡ with_lane to y lanes
+pub lane-again : (lanes : Each Held) (to : NodeName) (x y : Held) → with_lane to y (with_lane to x lanes) ≡ with_lane to y lanes
 lane-again lanes (node.Biu i) x y = ap (λ ls. record lanes { bius = ls }) (set-set lanes.bius i x y)
 lane-again lanes (node.Rmu i) x y = ap (λ ls. record lanes { rmus = ls }) (set-set lanes.rmus i x y)
 

@@ -91,10 +91,6 @@ are-for says to n places so_far = record { entries = so_far.entries; many = so_f
 pub so-far-none : (says : List Say) (to : NodeName) (places : List ℕ) → places ≡ [] → AreSoFar says to 0 places
 so-far-none says to places none = record { entries = ap (entries_at says) none; many = ap length none }
 
-pub take-all : {X : Type 0} (xs : List X) (n : ℕ) → n ≡ length xs → take n xs ≡ xs
-take-all [] n e = ap (λ n. take n []) e
-take-all (x ∷ xs) n e = ap (λ n. take n (x ∷ xs)) e ∙ ap (λ l. x ∷ l) (take-all xs (length xs) refl)
-
 -- Of all receivers of a kind.
 pub kind-none : (says : List Say) (side : Side) (senders : ℕ) (lists : List (List ℕ)) → lists ≡ [] → AreOfKind says side 0 senders lists
 kind-none says side senders lists none = record { many = ap length none; each = λ i h. absurd (omega arith) }

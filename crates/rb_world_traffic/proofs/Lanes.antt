@@ -4,7 +4,8 @@ use Rattle.std.specs.Prelude.{unwrap_or, slice_set}
 use Rattle.std.proofs.lemmas.Bool.{cases_lt, cases_order}
 use Rattle.rb_base.specs.Nodes.{Side, TakesFirst, has}
 use Rattle.rb_base.specs.Nodes.Side.{Biu, Rmu}
-use Rattle.rb_base.proofs.Sets.{eq_other, eq_self, has-is, has_above, has_none}
+use Rattle.rb_base.proofs.Plain.{and-false, and-true}
+use Rattle.rb_base.proofs.Sets.{eq_other, first_gone, has-is, has_above, has_none}
 use Rattle.rb_rules.specs.Book.{Each, map_from}
 use Rattle.rb_rules.specs.Hearing.{Coming}
 use Rattle.rb_rules.specs.Links.{name_of}
@@ -89,19 +90,6 @@ in-and-left : (b : Bool) → (b && not b) ≡ false
 in-and-left true = refl
 in-and-left false = refl
 
-and-false : (b : Bool) → (b && false) ≡ false
-and-false true = refl
-and-false false = refl
-
-and-true : (b : Bool) → (b && true) ≡ b
-and-true true = refl
-and-true false = refl
-
--- the node that is taken out is left before and not after
-gone-here : (before after k : ℕ) → k < 16 → TakesFirst before after k → has after k ≡ false
-gone-here before after k within takes =
-    has-is after k (λ i. has before i && not (i == k)) takes.rest within ∙ ap (λ b. has before k && not b) (eq_self k) ∙ and-false (has before k)
-
 -- all others stay as they are
 gone-others : (before after k m : ℕ) → before < 2 ^ 16 → TakesFirst before after k → m ≢ k → has before m ≡ has after m
 gone-others before after k m fits takes apart = elim (cases_lt m 16) [
@@ -113,7 +101,7 @@ gone-others before after k m fits takes apart = elim (cases_lt m 16) [
 -- those that are left after were left before
 pub left-before : (before after k m : ℕ) → before < 2 ^ 16 → TakesFirst before after k → k < 16 → has after m ≡ true → has before m ≡ true
 left-before before after k m fits takes within is = elim (cases_same m k) [
-  | inl e ↦ let never : true ≡ false = sym is ∙ ap (has after) e ∙ gone-here before after k within takes in absurd cc
+  | inl e ↦ let never : true ≡ false = sym is ∙ ap (has after) e ∙ first_gone before after k within takes in absurd cc
   | inr apart ↦ gone-others before after k m fits takes apart ∙ is
 ]
   where
@@ -136,7 +124,7 @@ pub gone-more : (side : Side) (coming : ℕ → Coming) (running before after k 
 gone-more side coming running before after k lanes now so_far fits takes within inside h =
     let same : lane_of now (name_of side k) ≡ lane_of lanes (name_of side k) =
     ap (λ x. lane_of x (name_of side k)) so_far ∙ lane-still side coming (those_gone running before) lanes k (still-out running before k takes.inside) in
-    let gone : those_gone running after k ≡ true = ap (λ b. b && not (has after k)) inside ∙ ap not (gone-here before after k within takes) in
+    let gone : those_gone running after k ≡ true = ap (λ b. b && not (has after k)) inside ∙ ap not (first_gone before after k within takes) in
     ap (λ l. with_lane (name_of side k) (with_arrival (coming k) l) now) same
     ∙ ap (with_lane (name_of side k) (with_arrival (coming k) (lane_of lanes (name_of side k)))) so_far
     ∙ with-more side coming (those_gone running before) (those_gone running after) lanes k h gone

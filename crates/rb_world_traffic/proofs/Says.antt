@@ -2,7 +2,7 @@
 use Rattle.std.proofs.Common.{◌≡◌, ℕ, zero, suc, ◌+◌, ◌-◌, ◌<◌, ◌&&◌, ◌||◌, not, nat_le, Bool, true, false, cond, List, [], ◌∷◌, ◌++◌, drop, filter, get_or, length, map, slice_get, take, refl, sym, ap, ◌∙◌, arith}
 use Rattle.std.specs.Prelude.{max, min}
 use Rattle.std.specs.List.{flat_map, fold, list_any, range_with_len}
-use Rattle.std.proofs.lemmas.Bool.{or_from, or_parts}
+use Rattle.std.proofs.lemmas.Bool.{or_from, or_left, or_parts, or_right}
 use Rattle.std.proofs.lemmas.Bool.Decides.{nat_tests}
 use Rattle.std.proofs.lemmas.List.{map-append, take-append-drop, take_more}
 use Rattle.std.proofs.lemmas.List.Elements.{filter-append, filter_map-append}
@@ -13,6 +13,7 @@ use Rattle.rb_base.specs.Nodes.Side.{Biu, Rmu}
 use Rattle.rb_base.specs.declared.node.NodeName.{NodeName}
 use Rattle.rb_base.specs.declared.values.Place.{Place}
 use Rattle.rb_base.specs.declared.node.NodeName.TheVariants as node
+use Rattle.rb_base.proofs.Plain.{and-false, and-true, and_first}
 use Rattle.rb_rules.specs.declared.say.Say.{Say}
 use Rattle.rb_rules.specs.Clock.{Timeline, time_of}
 use Rattle.rb_rules.specs.Goodness.{Scenario, clock_of, is_good}
@@ -20,6 +21,7 @@ use Rattle.rb_rules.specs.Hearing.{Coming, Span, bytes_of, coming_said, is_said,
 use Rattle.rb_rules.specs.Lawful.{is_node_good, kind_of}
 use Rattle.rb_rules.specs.Links.{covers, is_in_range, name_of, same_node, stands_for}
 use Rattle.rb_rules.specs.WorldStep.{says_in}
+use Rattle.rb_rules.proofs.Slots.{same_node-is}
 use Rattle.rb_world_traffic.specs.Arriving.{number_of}
 use Rattle.rb_world_traffic.specs.Saying.{all_brought, brought, entries_at, entries_to, first_frame, is_between, is_for, is_said_in, last_frame, later_frame, senders_to, sooner_frame}
 
@@ -29,29 +31,11 @@ brought-append sc clock span xs ys =
     ∙ map-append (brought sc.plan.version clock span) (filter (is_said_in sc span) xs) (filter (is_said_in sc span) ys)
 
 -- Of one sender.
-same-is : (a b : NodeName) → same_node a b ≡ true → a ≡ b
-same-is (node.Biu i) (node.Biu j) e = let same : i ≡ j = grind (arith, nat_tests) in ap node.Biu same
-same-is (node.Biu i) (node.Rmu j) e = let never : false ≡ true = e in absurd cc
-same-is (node.Rmu i) (node.Biu j) e = let never : false ≡ true = e in absurd cc
-same-is (node.Rmu i) (node.Rmu j) e = let same : i ≡ j = grind (arith, nat_tests) in ap node.Rmu same
-
-and-left : (a b : Bool) → (a && b) ≡ true → a ≡ true
-and-left true b e = refl
-and-left false b e = e
-
-and-true : (a : Bool) → (a && true) ≡ a
-and-true true = refl
-and-true false = refl
-
-and-false : (a : Bool) → (a && false) ≡ false
-and-false true = refl
-and-false false = refl
-
-good-of : (sc : Scenario) (side : Side) (j frame slot : ℕ) → is_node_good sc (name_of side j) frame slot ≡ is_good sc side j frame slot
+pub good-of : (sc : Scenario) (side : Side) (j frame slot : ℕ) → is_node_good sc (name_of side j) frame slot ≡ is_good sc side j frame slot
 good-of sc Biu j frame slot = refl
 good-of sc Rmu j frame slot = refl
 
-number-of : (side : Side) (j : ℕ) → number_of (name_of side j) ≡ j
+pub number-of : (side : Side) (j : ℕ) → number_of (name_of side j) ≡ j
 number-of Biu j = refl
 number-of Rmu j = refl
 
@@ -86,7 +70,7 @@ one-said sc me i j span (s ∷ says) bad =
         ≡ all_brought sc clock span (cond b (s ∷ rest) rest)
     go false e = refl
     go true e =
-        let from : s.from ≡ name_of (other me) j = same-is s.from (name_of (other me) j) (and-left (same_node s.from (name_of (other me) j)) (stands_for s.to (name_of me i)) e) in
+        let from : s.from ≡ name_of (other me) j = same_node-is s.from (name_of (other me) j) (and_first (same_node s.from (name_of (other me) j)) (stands_for s.to (name_of me i)) e) in
         let number : number_of s.from ≡ j = ap number_of from ∙ number-of (other me) j in
         let good : is_node_good sc s.from span.place.frame span.place.slot ≡ false =
         ap (λ n. is_node_good sc n span.place.frame span.place.slot) from ∙ good-of sc (other me) j span.place.frame span.place.slot ∙ bad in
@@ -108,7 +92,7 @@ none-said sc me i j clock span (s ∷ says) good = go (is_between (name_of (othe
     go : (b : Bool) → is_between (name_of (other me) j) (name_of me i) s ≡ b → all_brought sc clock span rest ≡ [] → all_brought sc clock span (cond b (s ∷ rest) rest) ≡ []
     go false e more = more
     go true e more =
-        let from : s.from ≡ name_of (other me) j = same-is s.from (name_of (other me) j) (and-left (same_node s.from (name_of (other me) j)) (stands_for s.to (name_of me i)) e) in
+        let from : s.from ≡ name_of (other me) j = same_node-is s.from (name_of (other me) j) (and_first (same_node s.from (name_of (other me) j)) (stands_for s.to (name_of me i)) e) in
         let its : is_node_good sc s.from span.place.frame span.place.slot ≡ true =
         ap (λ n. is_node_good sc n span.place.frame span.place.slot) from ∙ good-of sc (other me) j span.place.frame span.place.slot ∙ good in
         let inside : Bool = covers s.frames s.slots s.stages span.place && nat_le (span.first + s.offset) span.last in
@@ -166,23 +150,15 @@ pub some-more : (p : Say → Bool) (says : List Say) (places : List ℕ) (i : �
 some-more p says places i within =
     ap (list_any p) (entries-one-more says places i within) ∙ list_any-append p (entries_at says (take i places)) (entries_at says (get_or places i 0 ∷ []))
 
-or-first : (a b : Bool) → a ≡ true → (a || b) ≡ true
-or-first true b e = refl
-or-first false b e = let never : false ≡ true = e in absurd cc
-
-or-second : (a b : Bool) → b ≡ true → (a || b) ≡ true
-or-second true b e = refl
-or-second false b e = e
-
 -- An entry that passes is one of them.
 pub some-there : (p : Say → Bool) (says : List Say) (places : List ℕ) (i : ℕ) → i < length places → list_any p (entries_at says (get_or places i 0 ∷ [])) ≡ true
     → list_any p (entries_at says places) ≡ true
 some-there p says places i within passes =
-    let so_far = some-more p says places i within ∙ or-second (list_any p (entries_at says (take i places))) (list_any p (entries_at says (get_or places i 0 ∷ []))) passes in
+    let so_far = some-more p says places i within ∙ or_right (list_any p (entries_at says (take i places))) (list_any p (entries_at says (get_or places i 0 ∷ []))) passes in
     ap (λ l. list_any p (entries_at says l)) (sym (take-append-drop (i + 1) places))
     ∙ ap (list_any p) (filter_map-append (slice_get says) (take (i + 1) places) (drop (i + 1) places))
     ∙ list_any-append p (entries_at says (take (i + 1) places)) (entries_at says (drop (i + 1) places))
-    ∙ or-first (list_any p (entries_at says (take (i + 1) places))) (list_any p (entries_at says (drop (i + 1) places))) so_far
+    ∙ or_left (list_any p (entries_at says (take (i + 1) places))) (list_any p (entries_at says (drop (i + 1) places))) so_far
 
 -- No entry speaks of a frame before the first, or after the last.
 not-for : (s : Say) (place : Place) → is_in_range s.frames place.frame ≡ false → is_for place s ≡ false

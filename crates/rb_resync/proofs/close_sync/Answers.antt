@@ -3,9 +3,10 @@ use Rattle.std.proofs.lemmas.List.Elements.{All-nil}
 use Rattle.std.proofs.Math.ListN.{length-set}
 use Rattle.std.proofs.lemmas.List.Edits.{fill_by_more}
 use Rattle.rb_base.specs.Nodes.{has}
+use Rattle.rb_base.proofs.Plain.{and_second}
 use Rattle.rb_base.proofs.Sets.{has-is}
 use Rattle.rb_eligible.specs.Inboxes.{is_sole, sense_in, sole_at}
-use Rattle.rb_eligible.proofs.Scans.{both_second, common_has}
+use Rattle.rb_eligible.proofs.Scans.{common_has}
 use Rattle.rb_eligible.proofs.Sensed.{stamp_taken, stamp_up_to}
 use Rattle.rb_eligible.specs.Standings.{standing_of}
 use Rattle.rb_eligible.proofs.Evidence.{few_more, present_all, present_more, taken_all}
@@ -49,7 +50,7 @@ loop-source-preserved g c =
       soon = λ n up_to.
           all_up_to n c.taken-stamp.result c.loop-source.stamps.items c.add.new.stamps.items (c.loop-source.invariant.soon n up_to)
           (taken_up_to n (has takers at) (sole_at kept.soles at).at c.taken-stamp.result
-          (λ e. stamp_up_to n kept at up_to here (both_second (has ones at) (is_sole kept at) (sym takes ∙ e)))
+          (λ e. stamp_up_to n kept at up_to here (and_second (has ones at) (is_sole kept at) (sym takes ∙ e)))
           taken)
           c.add.ensures;
     }

@@ -1,7 +1,10 @@
 use Rattle.std.proofs.Common.{◌≡◌, ℕ, zero, suc, ◌<◌, ◌≤◌, nat_lt, true, Option, Some, None, List, [], ◌∷◌, get_or, option_map, slice_get, lit<, refl, sym, ◌∙◌, ap, subst, arith}
+use Rattle.std.proofs.lemmas.Bool.{ltb-true}
+use Rattle.std.proofs.lemmas.Option.{same_Some}
 use Rattle.rb_base.specs.Nodes.{Side, set_below, set_of, size}
 use Rattle.rb_base.specs.Nodes.Side.{Biu, Rmu}
 use Rattle.rb_base.specs.Sizes.{sync_slot_of}
+use Rattle.rb_base.proofs.Plain.{and_first}
 use Rattle.rb_group.specs.Groups.{values_of}
 use Rattle.rb_rules.specs.Book.{of_kind, with_frame, with_stage}
 use Rattle.rb_rules.specs.Conviction.{convicted_by, turn}
@@ -16,7 +19,6 @@ use Rattle.rb_rules.specs.Ports.{HandIn}
 use Rattle.rb_rules.specs.Rounds.{after_window, begin_frame, close_on, go_through, results_of, sent_in, step}
 use Rattle.rb_rules.specs.Spelling.{message_in}
 use Rattle.rb_rules.specs.SyncStage.{close_sync, sync_outcome_of}
-use Rattle.rb_laws_agreement.proofs.Tests.{and_first, less_from, same_some}
 use Rattle.rb_laws_groups.specs.Laws.{IsSchedule}
 use Rattle.rb_rules_bridge.specs.declared.bank.Bank.{Bank}
 use Rattle.rb_rules_bridge.specs.declared.bank.Bank.TheVariants.{Left, Right}
@@ -62,12 +64,12 @@ rmu-owners (suc (suc (suc (suc (suc zero))))) low high zero h = refl
 rmu-owners slot low high i h = absurd (omega arith)
 
 held : (slot : ℕ) → 3 ≤ slot → slot ≤ 5 → (me : Side) (i : ℕ) → is_good outvoted.right me i 1 slot ≡ true → owner_held slot me i ≡ Some (slot_each slot)
-held slot low high Biu i good = biu-owners slot low high i (less_from i 3 (and_first (nat_lt i 3) (is_before (get_or outvoted.right.biu_onsets i None) 1 slot) good))
-held slot low high Rmu i good = rmu-owners slot low high i (less_from i 1 (and_first (nat_lt i 1) (is_before (get_or outvoted.right.rmu_onsets i None) 1 slot) good))
+held slot low high Biu i good = biu-owners slot low high i (ltb-true i 3 (and_first (nat_lt i 3) (is_before (get_or outvoted.right.biu_onsets i None) 1 slot) good))
+held slot low high Rmu i good = rmu-owners slot low high i (ltb-true i 1 (and_first (nat_lt i 1) (is_before (get_or outvoted.right.rmu_onsets i None) 1 slot) good))
 
 schedule : IsSchedule outvoted.right hands 1 slot_each
 schedule slot low high me i st before =
-    same_some (owner_at outvoted.right.sizes st slot) (slot_each slot)
+    same_Some (owner_at outvoted.right.sizes st slot) (slot_each slot)
     (sym (ap (option_map (λ st. owner_at outvoted.right.sizes st slot)) before.state) ∙ held slot low high me i before.good)
 
 pub returns-clause-schedule : goal.returns-clause-schedule

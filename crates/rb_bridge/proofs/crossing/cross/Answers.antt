@@ -1,8 +1,8 @@
 use Rattle.std.proofs.Common.{◌≡◌, false, refl, sym, ◌∙◌, subst, rules, arith}
 use Rattle.std.specs.Io.KnownBytes.{Appends}
+use Rattle.rb_base.proofs.Plain.{on_err}
 use Rattle.rb_outside.specs.Bytes.{AppendsPart}
 use Rattle.rb_report.specs.Report.{end_text}
-use Rattle.rb_group_run.proofs.TurnsWritten.{on_err}
 use Rattle.rb_rules_bridge.specs.declared.bank.Bank.TheVariants.{Left, Right}
 use Rattle.rb_bridge.specs.Sides.{IsUp}
 use Rattle.rb_bridge.specs.Crossing.{AreReady}

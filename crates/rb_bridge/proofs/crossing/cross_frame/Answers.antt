@@ -1,7 +1,7 @@
 use Rattle.std.proofs.Common.{false, option_map, sym, ap, ◌∙◌}
 use Rattle.std.specs.Io.KnownBytes.{Appends}
+use Rattle.rb_base.proofs.Plain.{on_err}
 use Rattle.rb_outside.specs.Bytes.{AppendsPart}
-use Rattle.rb_group_run.proofs.TurnsWritten.{on_err}
 use Rattle.rb_rules_bridge.specs.declared.bank.Bank.TheVariants.{Left, Right}
 use Rattle.rb_bridge.proofs.Crossed.{breaks-off, crosses-part, goes-on, none-found, pairs-small, some-found, told-all}
 use Rattle.rb_bridge.specs.Crossing.{shown}

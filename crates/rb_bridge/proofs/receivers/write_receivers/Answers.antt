@@ -3,9 +3,10 @@ use Rattle.std.specs.Io.KnownBytes.{Appends}
 use Rattle.std.specs.List.{flat_map}
 use Rattle.rb_base.specs.Counting.{numbers}
 use Rattle.rb_base.specs.Sizes.{Sizes}
+use Rattle.rb_base.proofs.Plain.{on_err}
 use Rattle.rb_group.specs.Groups.{group_value}
 use Rattle.rb_group.specs.declared.voters.Which.TheVariants.{Most}
-use Rattle.rb_group_run.proofs.TurnsWritten.{lines_more, lines_part, on_err}
+use Rattle.rb_group_run.proofs.TurnsWritten.{lines_more, lines_part}
 use Rattle.rb_bridge.specs.Receivers.{receiver_by}
 use Rattle.rb_bridge.specs.Refusals.{bank_of}
 use Rattle.rb_bridge.proofs.receivers.write_receivers.Goals as goal

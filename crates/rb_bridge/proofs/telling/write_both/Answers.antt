@@ -1,10 +1,11 @@
 use Rattle.std.proofs.Common.{subst}
 use Rattle.std.specs.Io.KnownBytes.{Appends}
+use Rattle.std.proofs.lemmas.Result.{on_err_weaker, on_ok_weaker}
+use Rattle.rb_base.proofs.Plain.{on_err}
 use Rattle.rb_outside.specs.Bytes.{AppendsPart}
 use Rattle.rb_outside.proofs.Known.{appends_join, part_join, part_widens}
 use Rattle.rb_rules_bridge.specs.declared.bank.Bank.TheVariants.{Left, Right}
 use Rattle.rb_rules_bridge.specs.Texts.{receivers_text}
-use Rattle.rb_group_run.proofs.TurnsWritten.{on_err, on_err_by, on_ok_by}
 use Rattle.rb_bridge.proofs.Found.{finds-own}
 use Rattle.rb_bridge.proofs.telling.write_both.Goals as goal
 
@@ -16,7 +17,7 @@ returns-in_err-write_side-clause-part g c = λ b frame is.
 
 pub returns-clause-all : goal.returns-clause-all
 returns-clause-all g c = λ b frame is.
-    on_ok_by c.write_side-2.result
+    on_ok_weaker c.write_side-2.result
     (λ a. appends_join _ _ _ (receivers_text b frame Left) (receivers_text b frame Right)
     (subst (λ f. Appends (g.K.Sink.held c.args.output.now) (g.K.Sink.held c.write_side.new.output) (receivers_text b f Left)) is.left.frame_is
     (c.in_ok-write_side.ensures.all b (finds-own b Left frame c.args.left.now is.left)))
@@ -25,7 +26,7 @@ returns-clause-all g c = λ b frame is.
 
 pub returns-clause-part : goal.returns-clause-part
 returns-clause-part g c = λ b frame is.
-    on_err_by c.write_side-2.result
+    on_err_weaker c.write_side-2.result
     (λ a. part_join _ _ _ (receivers_text b frame Left) (receivers_text b frame Right)
     (subst (λ f. Appends (g.K.Sink.held c.args.output.now) (g.K.Sink.held c.write_side.new.output) (receivers_text b f Left)) is.left.frame_is
     (c.in_ok-write_side.ensures.all b (finds-own b Left frame c.args.left.now is.left)))

@@ -1,9 +1,10 @@
 use Rattle.std.proofs.Common.{◌&&◌, sym, ◌∙◌, ap}
 use Rattle.rb_base.specs.Nodes.{has}
+use Rattle.rb_base.proofs.Plain.{and_second}
 use Rattle.rb_base.proofs.Sets.{same_set_of, set_of-lt}
 use Rattle.rb_rules.specs.Sense.{is_one}
 use Rattle.rb_eligible.specs.Inboxes.{is_sole, sense_in}
-use Rattle.rb_eligible.proofs.Scans.{both_second, common_has}
+use Rattle.rb_eligible.proofs.Scans.{common_has}
 use Rattle.rb_eligible.proofs.Sensed.{none_but_soles}
 use Rattle.rb_eligible.proofs.taking.ones_among.Goals as goal
 
@@ -12,7 +13,7 @@ take_due-requires-clause-fits g c = rw c.intersection-due.ensures (set_of-lt (λ
 
 pub take_due-requires-clause-due : goal.take_due-requires-clause-due
 take_due-requires-clause-due g c = λ j h inside.
-    both_second (has c.args.set j) (is_sole c.args.inbox.now j) (sym (common_has c.args.set c.soles.result c.intersection-due.result j (is_sole c.args.inbox.now) c.intersection-due.ensures c.soles.ensures h) ∙ inside)
+    and_second (has c.args.set j) (is_sole c.args.inbox.now j) (sym (common_has c.args.set c.soles.result c.intersection-due.result j (is_sole c.args.inbox.now) c.intersection-due.ensures c.soles.ensures h) ∙ inside)
 
 pub returns : goal.returns
 returns g c = λ received shown.

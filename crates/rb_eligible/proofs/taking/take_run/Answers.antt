@@ -2,7 +2,8 @@ use Rattle.std.proofs.Common.{◌≡◌, true, false, ◌&&◌, ◌==◌, not, l
 use Rattle.std.proofs.Math.ListN.{length-set}
 use Rattle.std.proofs.lemmas.List.{length-map}
 use Rattle.rb_base.specs.Nodes.{has, size}
-use Rattle.rb_base.proofs.Sets.{eq_self, has-is}
+use Rattle.rb_base.proofs.Plain.{eq_self}
+use Rattle.rb_base.proofs.Sets.{has-is}
 use Rattle.rb_base.proofs.SetSizes.{size_less}
 use Rattle.rb_rules.specs.ExactStage.{see_value}
 use Rattle.rb_eligible.specs.Inboxes.{sole_at}

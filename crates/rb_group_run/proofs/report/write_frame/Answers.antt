@@ -3,9 +3,10 @@ use Rattle.std.specs.Io.KnownBytes.{Appends}
 use Rattle.std.specs.List.{flat_map}
 use Rattle.rb_base.specs.Counting.{numbers}
 use Rattle.rb_base.specs.Sizes.{Sizes}
+use Rattle.rb_base.proofs.Plain.{on_err}
 use Rattle.rb_group.specs.Groups.{group_value}
 use Rattle.rb_group_run.specs.Replies.{port_text}
-use Rattle.rb_group_run.proofs.TurnsWritten.{lines_more, lines_part, on_err}
+use Rattle.rb_group_run.proofs.TurnsWritten.{lines_more, lines_part}
 use Rattle.rb_group_run.proofs.report.write_frame.Goals as goal
 
 pub loop-port-preserved : goal.loop-port-preserved

@@ -2,8 +2,8 @@ use Rattle.std.proofs.Common.{◌≡◌, ◌-◌, ◌≤◌, Some, inl, unwrap_o
 use Rattle.rb_base.specs.Nodes.Side.{Biu}
 use Rattle.rb_rules.specs.Hearing.{tail_at}
 use Rattle.rb_rules.specs.Windows.{window_at}
+use Rattle.rb_rules.proofs.Slots.{few_slots}
 use Rattle.rb_slot.proofs.Fitting.{IsPlaced, placed}
-use Rattle.rb_slot.proofs.Votes.{few_slots}
 use Rattle.rb_node.proofs.Windows.{ends-soon}
 use Rattle.rb_listen.proofs.ahead.window_of.Goals as goal
 

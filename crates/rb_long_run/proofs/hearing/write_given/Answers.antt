@@ -1,6 +1,6 @@
 use Rattle.std.proofs.Common.{rules, arith}
+use Rattle.rb_base.proofs.Plain.{on_err}
 use Rattle.rb_long_run.proofs.Heard.{heard-more, heard-part, open-more}
-use Rattle.rb_long_run.proofs.Lines.{on-err}
 use Rattle.rb_long_run.proofs.hearing.write_given.Goals as goal
 
 pub loop-line-preserved : goal.loop-line-preserved
@@ -12,4 +12,4 @@ loop-line-preserved g c = record {
 
 pub returns-in_err-write_letter-clause-part : goal.returns-in_err-write_letter-clause-part
 returns-in_err-write_letter-clause-part g c =
-    on-err _ (heard-part c.args.frame c.args.slot c.args.all.now c.loop-line.all c.args.lines.now c.loop-line.line-index _ _ _ _ _ (omega arith) c.loop-line.invariant.heard c.hear-letter.ensures.given c.loop-line.invariant.written c.in_err-write_letter.ensures.part)
+    on_err _ (heard-part c.args.frame c.args.slot c.args.all.now c.loop-line.all c.args.lines.now c.loop-line.line-index _ _ _ _ _ (omega arith) c.loop-line.invariant.heard c.hear-letter.ensures.given c.loop-line.invariant.written c.in_err-write_letter.ensures.part)

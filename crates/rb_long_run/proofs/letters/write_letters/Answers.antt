@@ -1,8 +1,8 @@
 use Rattle.std.proofs.Common.{◌≡◌, None, Some, refl, sym, ◌∙◌, rules, arith}
+use Rattle.rb_base.proofs.Plain.{on_err}
 use Rattle.rb_world_book.specs.Records.{record_of}
 use Rattle.rb_run.specs.Runs.{end_at}
 use Rattle.rb_long_run.proofs.Written.{all-written, none-written, one-written, part-written}
-use Rattle.rb_long_run.proofs.Lines.{on-err}
 use Rattle.rb_run.proofs.UnderWay.{ends-so, few-turns, goes}
 use Rattle.rb_long_run.proofs.letters.write_letters.Goals as goal
 
@@ -17,7 +17,7 @@ loop-passed-init g c = record {
 pub returns-in_err-write_turn-clause-part : goal.returns-in_err-write_turn-clause-part
 returns-in_err-write_turn-clause-part g c =
     let is = c.loop-passed.invariant.written in
-    on-err _ (part-written _ _ _ _ _ _ _ _ _ _ _ _ _ c.next-turn.result is (goes c.args.world.now.bus (g.D.Drive.is_plain c.args.drive.now) (g.D.Drive.is_plain c.loop-passed.drive) (g.D.Drive.told c.args.drive.now) (g.D.Drive.told c.loop-passed.drive)
+    on_err _ (part-written _ _ _ _ _ _ _ _ _ _ _ _ _ c.next-turn.result is (goes c.args.world.now.bus (g.D.Drive.is_plain c.args.drive.now) (g.D.Drive.is_plain c.loop-passed.drive) (g.D.Drive.told c.args.drive.now) (g.D.Drive.told c.loop-passed.drive)
     (g.D.Drive.told c.next-turn.new.self) c.loop-passed.world c.next-turn.new.world is.turns c.next-turn.result is.given c.loop-passed.invariant.stays
     c.next-turn.ensures.plain c.next-turn.ensures.alike c.next-turn.ensures.bus c.next-turn.ensures.told) c.in_err-write_turn.ensures.part)
 

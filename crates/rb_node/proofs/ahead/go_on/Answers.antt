@@ -1,7 +1,7 @@
 use Rattle.std.proofs.Common.{◌≡◌, ◌≤◌, ◌∙◌, ap, arith}
 use Rattle.rb_base.specs.Nodes.{side_of}
 use Rattle.rb_base.specs.Sizes.{sync_slot_of}
-use Rattle.rb_slot.proofs.Votes.{few_slots}
+use Rattle.rb_rules.proofs.Slots.{few_slots}
 use Rattle.rb_node.specs.Aheads.{following}
 use Rattle.rb_node.proofs.Going.{ended-follows, ended-soon, ended-stage}
 use Rattle.rb_node.proofs.ahead.go_on.Goals as goal

@@ -1,8 +1,8 @@
 use Rattle.std.proofs.Common.{◌+◌}
+use Rattle.rb_base.proofs.Plain.{on_err}
 use Rattle.rb_replay.specs.ListeningOn.{IsDue}
 use Rattle.rb_replay.proofs.Advanced.{advances-so}
 use Rattle.rb_replay.proofs.HeedsDue.{tick-advances, tick-part}
-use Rattle.rb_replay.proofs.Written.{on_err}
 use Rattle.rb_replay.proofs.overhearing.give_ticks.Goals as goal
 
 pub returns-clause-advances : goal.returns-clause-advances

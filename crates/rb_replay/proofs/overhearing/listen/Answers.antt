@@ -1,7 +1,7 @@
+use Rattle.rb_base.proofs.Plain.{on_err}
 use Rattle.rb_replay.specs.ListeningOn.{IsDue}
 use Rattle.rb_replay.proofs.Advanced.{advances-all, advances-failed}
 use Rattle.rb_replay.proofs.HeedsDue.{ends-at-once, fails-at-once, first-due, from-none}
-use Rattle.rb_replay.proofs.Written.{on_err}
 use Rattle.rb_replay.proofs.overhearing.listen.Goals as goal
 
 pub returns-then-not-find_tick-clause-all : goal.returns-then-not-find_tick-clause-all

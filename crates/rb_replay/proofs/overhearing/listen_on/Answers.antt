@@ -1,4 +1,5 @@
 use Rattle.std.proofs.Common.{rules, ◌-◌, ◌≤◌, ◌^◌, ◌∷◌, ◌∙◌, [], ap, arith}
+use Rattle.rb_base.proofs.Plain.{on_err}
 use Rattle.rb_log.specs.Cursor.{shown}
 use Rattle.rb_report.specs.Report.{end_text}
 use Rattle.rb_listen.specs.Listening.{had_by}
@@ -6,7 +7,6 @@ use Rattle.rb_replay.specs.ListeningOn.{IsDue}
 use Rattle.rb_replay.proofs.Advanced.{advances-is, advances-more, advances-none, advances-part, ends, ends-part}
 use Rattle.rb_replay.proofs.HeedsDue.{end-is}
 use Rattle.rb_replay.proofs.Events.{first-is, none-left}
-use Rattle.rb_replay.proofs.Written.{on_err}
 use Rattle.rb_replay.proofs.overhearing.listen_on.Goals as goal
 
 pub events-init : goal.events-init

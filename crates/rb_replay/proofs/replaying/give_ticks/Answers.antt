@@ -1,9 +1,9 @@
 use Rattle.std.proofs.Common.{◌+◌}
 use Rattle.rb_base.specs.Nodes.{side_of}
+use Rattle.rb_base.proofs.Plain.{on_err}
 use Rattle.rb_replay.specs.Replaying.{IsDue}
 use Rattle.rb_replay.proofs.ActsDue.{tick-advances, tick-part}
 use Rattle.rb_replay.proofs.Advanced.{advances-so}
-use Rattle.rb_replay.proofs.Written.{on_err}
 use Rattle.rb_replay.proofs.replaying.give_ticks.Goals as goal
 
 pub returns-clause-advances : goal.returns-clause-advances

@@ -1,8 +1,8 @@
 use Rattle.std.proofs.Common.{rules, arith}
+use Rattle.rb_base.proofs.Plain.{on_err}
 use Rattle.rb_rules.specs.declared.record.PortLine.{PortLine}
 use Rattle.rb_report.specs.Report.{port_text}
 use Rattle.rb_run.proofs.Lines.{lines-more, lines-part}
-use Rattle.rb_run.proofs.Texts.{on-err}
 use Rattle.rb_run.proofs.report.write_ports.Goals as goal
 
 pub loop-port-preserved : goal.loop-port-preserved
@@ -13,4 +13,4 @@ loop-port-preserved g c = record {
 
 pub returns-in_err-write_line-clause-part : goal.returns-in_err-write_line-clause-part
 returns-in_err-write_line-clause-part g c =
-    on-err _ (lines-part (λ (x : PortLine). port_text c.args.frame x.biu x.state x.losses) c.args.ports.now c.loop-port.port-index _ _ _ _ (omega arith) c.loop-port.invariant.written (rw c.port_line.ensures.bytes at c.in_err-write_line.ensures.part))
+    on_err _ (lines-part (λ (x : PortLine). port_text c.args.frame x.biu x.state x.losses) c.args.ports.now c.loop-port.port-index _ _ _ _ (omega arith) c.loop-port.invariant.written (rw c.port_line.ensures.bytes at c.in_err-write_line.ensures.part))

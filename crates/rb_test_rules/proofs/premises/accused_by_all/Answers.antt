@@ -1,6 +1,8 @@
 use Rattle.std.proofs.Common.{◌≡◌, ℕ, zero, suc, ◌+◌, ◌<◌, ◌||◌, nat_lt, Bool, true, false, Option, Some, None, get_or, slice_get, [], refl, sym, ◌∙◌, ap, arith}
+use Rattle.std.proofs.lemmas.Bool.{ltb-true}
 use Rattle.rb_base.specs.Nodes.{has, set_of, set_below, size}
 use Rattle.rb_base.specs.Nodes.Side.{Biu}
+use Rattle.rb_base.proofs.Plain.{and_first}
 use Rattle.rb_rules.specs.Book.{of_kind, with_stage, with_frame}
 use Rattle.rb_rules.specs.Conviction.{turn, convicted_by}
 use Rattle.rb_rules.specs.ExactStage.{close_exact, outcome_of}
@@ -13,7 +15,6 @@ use Rattle.rb_rules.specs.NodeState.{NodeState}
 use Rattle.rb_rules.specs.Rounds.{sent_in, close_on, go_through, results_of, after_window, begin_frame, step}
 use Rattle.rb_rules.specs.Spelling.{message_in}
 use Rattle.rb_rules.specs.SyncStage.{close_sync, sync_outcome_of}
-use Rattle.rb_laws_agreement.proofs.Tests.{and_first, less_from}
 use Rattle.rb_test_rules.specs.Lies.{silent_rmu}
 use Rattle.rb_test_rules.proofs.premises.accused_by_all.Goals as goal
 
@@ -32,4 +33,4 @@ each (suc (suc (suc (suc i)))) h = absurd (omega arith)
 
 pub returns : goal.returns
 returns c i st good there =
-    sym (ap accuses there) ∙ each i (less_from i 4 (and_first (nat_lt i 4) (is_before (get_or silent_rmu.biu_onsets i None) 0 19) good))
+    sym (ap accuses there) ∙ each i (ltb-true i 4 (and_first (nat_lt i 4) (is_before (get_or silent_rmu.biu_onsets i None) 0 19) good))

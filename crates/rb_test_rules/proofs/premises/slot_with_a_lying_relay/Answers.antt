@@ -1,4 +1,5 @@
 use Rattle.std.proofs.Common.{◌≡◌, ℕ, zero, suc, ◌+◌, ◌<◌, ◌≤◌, ◌==◌, ◌&&◌, nat_lt, Bool, true, false, None, [], if◌then◌else◌, lit<, lit≤, inl, refl, sym, ◌∙◌, ap, arith}
+use Rattle.std.proofs.lemmas.Bool.{ltb-true}
 use Rattle.std.proofs.lemmas.Bool.Decides.{nat_tests}
 use Rattle.rb_base.specs.Nodes.{Side, other, has, set_of, set_below}
 use Rattle.rb_base.specs.Nodes.Side.{Biu, Rmu}
@@ -11,7 +12,6 @@ use Rattle.rb_rules.specs.Slots.{count_of}
 use Rattle.rb_rules.specs.Standing.{Standing, is_eligible, taken_of}
 use Rattle.rb_laws_agreement.specs.OneSlot.{Brings, GoodOutnumber, HoldsAlike, IsSpared, state_after, takes_after}
 use Rattle.rb_laws_agreement.proofs.ExactWindows.{expected_at}
-use Rattle.rb_laws_agreement.proofs.Tests.{less_from}
 use Rattle.rb_test_rules.specs.OneSlot.{all_trusted, comes_to, from_bius, lying_relay, two_and_three}
 use Rattle.rb_test_rules.proofs.premises.slot_with_a_lying_relay.Goals as goal
 
@@ -19,7 +19,7 @@ use Rattle.rb_test_rules.proofs.premises.slot_with_a_lying_relay.Goals as goal
 good-cases : (P : ℕ → Type 0) → P 0 → P 1 → (j : ℕ) → nat_lt j 2 ≡ true → P j
 good-cases P first second zero h = first
 good-cases P first second (suc zero) h = second
-good-cases P first second (suc (suc j)) h = let less : suc (suc j) < 2 = less_from (suc (suc j)) 2 h in absurd (omega arith)
+good-cases P first second (suc (suc j)) h = let less : suc (suc j) < 2 = ltb-true (suc (suc j)) 2 h in absurd (omega arith)
 
 spares : (me : Side) (j : ℕ) → nat_lt j 2 ≡ true → IsSpared (first_state two_and_three me).far j
 unfolding set_of set_below
@@ -56,8 +56,8 @@ hears (suc (suc zero)) h Rmu i j good = good-cases (BringsIn 2 Rmu i) (9, refl) 
 hears (suc (suc (suc q))) h me i j good = absurd (omega arith)
 
 numbered : (kind : Side) (j : ℕ) → nat_lt j 2 ≡ true → j < count_of kind two_and_three
-numbered Biu j h = less_from j 2 h
-numbered Rmu j h = let less : j < 2 = less_from j 2 h in omega arith
+numbered Biu j h = ltb-true j 2 h
+numbered Rmu j h = let less : j < 2 = ltb-true j 2 h in omega arith
 
 trusted : (kind : Side) (j : ℕ) → nat_lt j 2 ≡ true → has (all_trusted kind) j ≡ true
 trusted Biu j h = good-cases (λ j. has 3 j ≡ true) refl refl j h

@@ -1,4 +1,5 @@
 use Rattle.std.proofs.Common.{◌≡◌, ℕ, zero, suc, ◌<◌, ◌==◌, ◌&&◌, Bool, true, false, None, if◌then◌else◌, lit<, lit≤, inl, inr, refl, ◌∙◌, ap, arith}
+use Rattle.std.proofs.lemmas.Bool.{ltb-true}
 use Rattle.std.proofs.lemmas.Bool.Decides.{nat_tests}
 use Rattle.rb_base.specs.Nodes.{set_of, set_below}
 use Rattle.rb_base.specs.Nodes.Side.{Biu}
@@ -8,7 +9,6 @@ use Rattle.rb_rules.specs.Clock.{Timeline}
 use Rattle.rb_rules.specs.Sense.{stamp_in}
 use Rattle.rb_rules.specs.Standing.{Standing, is_eligible, taken_of}
 use Rattle.rb_rules.specs.SyncStage.{expects_call}
-use Rattle.rb_laws_agreement.proofs.Tests.{less_from}
 use Rattle.rb_laws_synchrony.specs.OneStage.{HearsGoodCalls, IsCalledBetween, TakeNear}
 use Rattle.rb_test_rules.specs.OneStage.{a_call, calls_of, early_clock, early_listener, first_two, late_clock, late_listener}
 use Rattle.rb_test_rules.specs.Parts.{plan}
@@ -17,7 +17,7 @@ use Rattle.rb_test_rules.proofs.premises.stage_with_near_calls.Goals as goal
 good-cases : (P : ℕ → Type 0) → P 0 → P 1 → (j : ℕ) → first_two j ≡ true → P j
 good-cases P first second zero h = first
 good-cases P first second (suc zero) h = second
-good-cases P first second (suc (suc j)) h = let less : suc (suc j) < 2 = less_from (suc (suc j)) 2 h in absurd (omega arith)
+good-cases P first second (suc (suc j)) h = let less : suc (suc j) < 2 = ltb-true (suc (suc j)) 2 h in absurd (omega arith)
 
 early : HearsGoodCalls plan first_two 8770000 8784000 early_listener
 unfolding set_of set_below

@@ -1,8 +1,8 @@
 use Rattle.std.proofs.Common.{◌≡◌, ℕ, zero, suc, Bool, true, false, ◌&&◌, nat_lt, Some, IfSome, [], ◌∷◌, All, sym, subst, lit≤, arith}
+use Rattle.std.proofs.lemmas.Bool.{le-ltb}
 use Rattle.std.proofs.lemmas.List.Elements.{All-cons, All-nil}
 use Rattle.rb_base.specs.Nodes.{Side, other, set_of, set_below}
 use Rattle.rb_base.specs.Nodes.Side.{Biu, Rmu}
-use Rattle.rb_base.proofs.Sets.{lt_false}
 use Rattle.rb_rules.specs.Book.{with_frame}
 use Rattle.rb_rules.specs.Clock.{stamp_of}
 use Rattle.rb_rules.specs.Goodness.{clock_of}
@@ -17,7 +17,7 @@ use Rattle.rb_test_rules.proofs.timely.first_window_of_the_smallest_bus.Goals as
 first_of : (i : ℕ) (b : Bool) → (nat_lt i 1 && b) ≡ true → i ≡ 0
 first_of zero b h = omega arith
 first_of (suc i) b h =
-    let none : nat_lt (suc i) 1 ≡ false = lt_false (suc i) 1 (omega arith) in
+    let none : nat_lt (suc i) 1 ≡ false = le-ltb (suc i) 1 (omega arith) in
     let so : (false && b) ≡ true = subst (λ (v : Bool). (v && b) ≡ true) none h in
     absurd (cc)
 

@@ -1,6 +1,7 @@
 use Rattle.std.proofs.Common.{rules, arith, []}
+use Rattle.rb_base.proofs.Plain.{on_err}
 use Rattle.rb_top.specs.CheckText.{text_after}
-use Rattle.rb_top.proofs.Writing.{on_err, owes_none, owes_pieces, owes_pieces_alone, owes_tail, part_of_pieces}
+use Rattle.rb_top.proofs.Writing.{owes_none, owes_pieces, owes_pieces_alone, owes_tail, part_of_pieces}
 use Rattle.rb_top.proofs.checking.write_check.Goals as goal
 
 pub loop-before-init : goal.loop-before-init

@@ -1,8 +1,8 @@
 use Rattle.std.proofs.Common.{◌≤◌, arith, rules, sym}
+use Rattle.rb_base.proofs.Plain.{on_err}
 use Rattle.rb_scenario.specs.Acceptance.{as_scenario}
 use Rattle.rb_gen.specs.Text.{lines_of}
 use Rattle.rb_top.proofs.Rest.{owes_line, owes_no_line, part_of_line}
-use Rattle.rb_top.proofs.Writing.{on_err}
 use Rattle.rb_top.proofs.generating.write_generated.Goals as goal
 
 pub loop-text-preserved : goal.loop-text-preserved

@@ -1,14 +1,17 @@
 use Rattle.std.proofs.Common.{ℕ, List}
+use Rattle.std.proofs.lemmas.Result.{on_err_weaker, on_ok_weaker}
+use Rattle.rb_base.proofs.Plain.{on_err}
 use Rattle.rb_report.specs.Report.{summary_text}
+use Rattle.rb_outside.proofs.Known.{part_widens}
 use Rattle.rb_top.specs.Texts.{summary_of}
-use Rattle.rb_top.proofs.Writing.{err_from, four_written, ok_from, on_err, part_of_first, part_of_second, part_of_third, part_of_fourth}
+use Rattle.rb_top.proofs.Writing.{four_written, part_of_second, part_of_third, part_of_fourth}
 use Rattle.rb_top.proofs.running.write_summary.Goals as goal
 
 pub returns-in_err-write_number-clause-part : goal.returns-in_err-write_number-clause-part
 unfolding summary_of
 returns-in_err-write_number-clause-part g c =
     let w : List ℕ = summary_text 0 c.args.totals.now.frames in
-    on_err _ (part_of_first _ _ w _ c.in_err-write_number.ensures.part)
+    on_err _ (part_widens _ _ w _ c.in_err-write_number.ensures.part)
 
 pub returns-in_err-write_number-2-clause-part : goal.returns-in_err-write_number-2-clause-part
 unfolding summary_of
@@ -32,7 +35,7 @@ returns-clause-all g c =
     let x : List ℕ = summary_text 1 c.args.totals.now.deliveries in
     let y : List ℕ = summary_text 2 c.args.totals.now.convicted in
     let z : List ℕ = summary_text 3 c.args.totals.now.spread in
-    ok_from _ (four_written _ _ _ _ _ w x y z c.in_ok-write_number.ensures.all c.in_ok-write_number-2.ensures.all c.in_ok-write_number-3.ensures.all)
+    on_ok_weaker _ (four_written _ _ _ _ _ w x y z c.in_ok-write_number.ensures.all c.in_ok-write_number-2.ensures.all c.in_ok-write_number-3.ensures.all)
     c.write_number-4.ensures.all
 
 pub returns-clause-part : goal.returns-clause-part
@@ -42,5 +45,5 @@ returns-clause-part g c =
     let x : List ℕ = summary_text 1 c.args.totals.now.deliveries in
     let y : List ℕ = summary_text 2 c.args.totals.now.convicted in
     let z : List ℕ = summary_text 3 c.args.totals.now.spread in
-    err_from _ (part_of_fourth _ _ _ _ _ w x y z c.in_ok-write_number.ensures.all c.in_ok-write_number-2.ensures.all c.in_ok-write_number-3.ensures.all)
+    on_err_weaker _ (part_of_fourth _ _ _ _ _ w x y z c.in_ok-write_number.ensures.all c.in_ok-write_number-2.ensures.all c.in_ok-write_number-3.ensures.all)
     c.write_number-4.ensures.part

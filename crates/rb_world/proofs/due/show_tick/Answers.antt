@@ -8,9 +8,9 @@ use Rattle.rb_node.specs.Cores.{IsCore, next_of}
 use Rattle.rb_node.specs.Wants.{want_then}
 use Rattle.rb_world.specs.Sites.{number_of}
 use Rattle.rb_world_traffic.specs.Arriving.{number_of as number_in}
+use Rattle.rb_world_traffic.proofs.Says.{number-of}
 use Rattle.rb_world.specs.Steps.{CanWant}
 use Rattle.rb_world.proofs.Acting.{next-is, want-is}
-use Rattle.rb_world.proofs.Lanes.{number-named}
 use Rattle.rb_world.proofs.Showing.{event-same}
 use Rattle.rb_world.proofs.Words.{can-want, wants-words}
 use Rattle.rb_world.proofs.due.show_tick.Goals as goal
@@ -26,7 +26,7 @@ word_for-word-requires-clause-want g c =
     let wanted = c.wants_then-want.ensures s.core (subst (λ n. IsCore n s.core) (sym c.node-own.ensures) may.at.stands.core)
     ∙ ap (λ n. want_then me n s.core (next_of me n s.core)) c.node-own.ensures
     ∙ want-is sc me (number_of site) k site s.core may.at.stands.sizes may.at.stands.plan may.at.number may.next in
-    subst (λ i. CanWant sc i c.wants_then-want.result) (sym (c.number_of.ensures ∙ ap number_in may.at.named ∙ number-named me (number_of site)))
+    subst (λ i. CanWant sc i c.wants_then-want.result) (sym (c.number_of.ensures ∙ ap number_in may.at.named ∙ number-of me (number_of site)))
     (subst (CanWant sc (number_of site)) (sym wanted) (can-want sc me (number_of site) (pass_to k s.core) may.at.within))
 
 pub returns : goal.returns
@@ -41,7 +41,7 @@ returns g c =
     ∙ ap (λ n. want_then me n s.core (next_of me n s.core)) c.node-own.ensures
     ∙ want-is sc me i k site s.core may.at.stands.sizes may.at.stands.plan may.at.number may.next in
     let slot = wants_in sc me i (pass_to k s.core) in
-    let number : c.number_of.result ≡ i = c.number_of.ensures ∙ ap number_in may.at.named ∙ number-named me i in
+    let number : c.number_of.result ≡ i = c.number_of.ensures ∙ ap number_in may.at.named ∙ number-of me i in
     let word : c.word_for-word.result ≡ word_of sc states i slot = c.word_for-word.ensures states slot may.holds (wants-words sc.sizes sc.plan me i (pass_to k s.core)) wanted
     ∙ ap (λ n. word_of sc states n slot) number in
     let next : c.next_tick.result ≡ Some k = c.next_tick.ensures.core s.core core ∙ ap (λ n. next_of me n s.core) c.node-own.ensures

@@ -8,13 +8,13 @@ use Rattle.rb_rules.specs.Links.{name_of}
 use Rattle.rb_rules.specs.Slots.{count_of}
 use Rattle.rb_rules.specs.WorldStep.{after_arrival, at_node}
 use Rattle.std.specs.Prelude.{unwrap_or}
+use Rattle.std.proofs.lemmas.Option.{slice_get_within}
 use Rattle.rb_queue.specs.Waiting.{HasLane, Held, IsFirstBefore, IsReadyBefore, event_with, lane_of, tick_time_of, with_lane, without_ready, without_tick}
 use Rattle.rb_queue.specs.Waiting.Ready.{Comes, Ticks}
 use Rattle.rb_world_agenda.specs.Agenda.{key_of}
 use Rattle.rb_node.specs.Cores.{passing_end}
 use Rattle.rb_world.specs.Sites.{Stands as StandsFor, number_of}
 use Rattle.rb_world.specs.Trailing.{TakesArrival, TakesTick, NoneBefore}
-use Rattle.rb_queue.proofs.Sources.{is_within}
 use Rattle.rb_world.proofs.Lanes.{node-named}
 use Rattle.rb_world.proofs.OneTaken.{ComesFirst, comes-first, coming-is, first-dropped, none-first, takes-arrival, takes-tick, tick-dropped, tick-first, tick-is, ticks-first}
 use Rattle.rb_world.proofs.Swept.{clock-named, comes-in-time, may-come, sweep-begins, sweep-ends, sweep-goes, sweep-ticks}
@@ -41,7 +41,7 @@ pub arrival-arrival-requires-clause-below : goal.arrival-arrival-requires-clause
 arrival-arrival-requires-clause-below g c =
     let ready : IsReadyBefore c.args.until (lane_of c.events.agenda c.args.node) c.in-Some.place =
     subst (IsFirstBefore c.args.until (lane_of c.events.agenda c.args.node)) c.in-Some.is c.first_before.ensures.first in
-    is_within (lane_of c.events.agenda c.args.node).arrivals c.in-Some.place ready.coming ready.stands
+    slice_get_within (lane_of c.events.agenda c.args.node).arrivals c.in-Some.place ready.coming ready.stands
 
 pub arrive-requires-clause-in_time : goal.arrive-requires-clause-in_time
 arrive-requires-clause-in_time g c =
@@ -90,7 +90,7 @@ pub drop_at-requires-clause-below : goal.drop_at-requires-clause-below
 drop_at-requires-clause-below g c =
     let ready : IsReadyBefore c.args.until (lane_of c.events.agenda c.args.node) c.in-Some.place =
     subst (IsFirstBefore c.args.until (lane_of c.events.agenda c.args.node)) c.in-Some.is c.first_before.ensures.first in
-    is_within (lane_of c.events.agenda c.args.node).arrivals c.in-Some.place ready.coming ready.stands
+    slice_get_within (lane_of c.events.agenda c.args.node).arrivals c.in-Some.place ready.coming ready.stands
 
 pub events-preserved : goal.events-preserved
 events-preserved g c =

@@ -9,8 +9,8 @@ use Rattle.rb_world_agenda.proofs.Keeping.{lane-with}
 use Rattle.rb_slot.specs.Engines.{Seated}
 use Rattle.rb_world.specs.Sites.{Stands as StandsFor}
 use Rattle.rb_laws_sweeps.proofs.Sweeps.{all-every}
+use Rattle.rb_world_traffic.proofs.Arrivals.{lane-again}
 use Rattle.rb_world.specs.Unstamped.{due_before, taken_all}
-use Rattle.rb_world.proofs.Readied.{lane-again}
 use Rattle.rb_world.proofs.TakenIn.{every-at, taken-more}
 use Rattle.rb_world.proofs.sweeping.take_in_all.Goals as goal
 

@@ -1,5 +1,6 @@
 use Rattle.std.proofs.Common.{◌≡◌, sym, ap, ◌∙◌, subst, arith}
 use Rattle.std.specs.Prelude.{◌<◌, get_or, None, slice_set}
+use Rattle.std.proofs.lemmas.Option.{get_or_from_slice_get}
 use Rattle.rb_base.specs.Nodes.Side.{Biu, Rmu}
 use Rattle.rb_base.specs.declared.node.NodeName.TheVariants as node
 use Rattle.rb_rules.specs.WorldStep.Pending.{Tick}
@@ -18,7 +19,6 @@ use Rattle.rb_world.proofs.Happening.{biu-happens, rmu-happens, tick-acts}
 use Rattle.rb_world.proofs.Ready.{node-there, tick-ready}
 use Rattle.rb_world.proofs.Lanes.{node-named}
 use Rattle.rb_rules.specs.Lawful.{IsNodeOf, kind_of}
-use Rattle.rb_world.proofs.Told.{got-is}
 use Rattle.rb_world.proofs.taking.happen.Goals as goal
 
 -- src/taking.rt:74:46
@@ -31,21 +31,21 @@ index_mut-requires g c =
 pub tick_at-requires-clause-number : goal.tick_at-requires-clause-number
 tick_at-requires-clause-number g c =
     let r = tick-ready c.args.bus.now (record { bius = c.args.bius.now.items; rmus = c.args.rmus.now.items }) c.args.scene.now c.args.time c.args.node c.args.event.now c.requires.0 c.requires.1 c.requires.2 Biu c.in-Tick-Biu.i c.in-Tick-Biu.word-0 c.in-Tick-Biu.wanted-0 c.requires.3 c.in-Tick-Biu.is-0 c.in-Tick-Biu.is-1 in
-    let is : r.site ≡ c.index_mut.result.now = sym (c.index_mut.ensures.value ∙ ap (λ n. get_or c.args.bius.now.items n c.index_mut.result.now) c.from.ensures ∙ got-is c.args.bius.now.items c.in-Tick-Biu.i r.site c.index_mut.result.now r.kept_there) in
+    let is : r.site ≡ c.index_mut.result.now = sym (c.index_mut.ensures.value ∙ ap (λ n. get_or c.args.bius.now.items n c.index_mut.result.now) c.from.ensures ∙ get_or_from_slice_get c.args.bius.now.items c.in-Tick-Biu.i r.site c.index_mut.result.now r.kept_there) in
     sym r.number ∙ ap number_of is
 
 -- src/taking.rt:74:13
 pub tick_at-requires-clause-name : goal.tick_at-requires-clause-name
 tick_at-requires-clause-name g c =
     let r = tick-ready c.args.bus.now (record { bius = c.args.bius.now.items; rmus = c.args.rmus.now.items }) c.args.scene.now c.args.time c.args.node c.args.event.now c.requires.0 c.requires.1 c.requires.2 Biu c.in-Tick-Biu.i c.in-Tick-Biu.word-0 c.in-Tick-Biu.wanted-0 c.requires.3 c.in-Tick-Biu.is-0 c.in-Tick-Biu.is-1 in
-    let is : r.site ≡ c.index_mut.result.now = sym (c.index_mut.ensures.value ∙ ap (λ n. get_or c.args.bius.now.items n c.index_mut.result.now) c.from.ensures ∙ got-is c.args.bius.now.items c.in-Tick-Biu.i r.site c.index_mut.result.now r.kept_there) in
+    let is : r.site ≡ c.index_mut.result.now = sym (c.index_mut.ensures.value ∙ ap (λ n. get_or c.args.bius.now.items n c.index_mut.result.now) c.from.ensures ∙ get_or_from_slice_get c.args.bius.now.items c.in-Tick-Biu.i r.site c.index_mut.result.now r.kept_there) in
     c.in-Tick-Biu.is-1 ∙ ap node.Biu (sym r.number ∙ ap number_of is)
 
 -- src/taking.rt:74:13
 pub tick_at-requires-clause-may : goal.tick_at-requires-clause-may
 tick_at-requires-clause-may g c =
     let r = tick-ready c.args.bus.now (record { bius = c.args.bius.now.items; rmus = c.args.rmus.now.items }) c.args.scene.now c.args.time c.args.node c.args.event.now c.requires.0 c.requires.1 c.requires.2 Biu c.in-Tick-Biu.i c.in-Tick-Biu.word-0 c.in-Tick-Biu.wanted-0 c.requires.3 c.in-Tick-Biu.is-0 c.in-Tick-Biu.is-1 in
-    let is : r.site ≡ c.index_mut.result.now = sym (c.index_mut.ensures.value ∙ ap (λ n. get_or c.args.bius.now.items n c.index_mut.result.now) c.from.ensures ∙ got-is c.args.bius.now.items c.in-Tick-Biu.i r.site c.index_mut.result.now r.kept_there) in (
+    let is : r.site ≡ c.index_mut.result.now = sym (c.index_mut.ensures.value ∙ ap (λ n. get_or c.args.bius.now.items n c.index_mut.result.now) c.from.ensures ∙ get_or_from_slice_get c.args.bius.now.items c.in-Tick-Biu.i r.site c.index_mut.result.now r.kept_there) in (
       r.tick,
       moved Biu c.in-Tick-Biu.i (without_waiting (Tick r.tick)) c.requires.0,
       record r.s { ahead = None },
@@ -63,21 +63,21 @@ index_mut-requires-in-Tick-Rmu g c =
 pub tick_at-requires-in-Tick-Rmu-clause-number : goal.tick_at-requires-in-Tick-Rmu-clause-number
 tick_at-requires-in-Tick-Rmu-clause-number g c =
     let r = tick-ready c.args.bus.now (record { bius = c.args.bius.now.items; rmus = c.args.rmus.now.items }) c.args.scene.now c.args.time c.args.node c.args.event.now c.requires.0 c.requires.1 c.requires.2 Rmu c.in-Tick-Rmu.i c.in-Tick-Rmu.word-0 c.in-Tick-Rmu.wanted-0 c.requires.3 c.in-Tick-Rmu.is-0 c.in-Tick-Rmu.is-1 in
-    let is : r.site ≡ c.index_mut-in-Tick-Rmu.result.now = sym (c.index_mut-in-Tick-Rmu.ensures.value ∙ ap (λ n. get_or c.args.rmus.now.items n c.index_mut-in-Tick-Rmu.result.now) c.from-in-Tick-Rmu.ensures ∙ got-is c.args.rmus.now.items c.in-Tick-Rmu.i r.site c.index_mut-in-Tick-Rmu.result.now r.kept_there) in
+    let is : r.site ≡ c.index_mut-in-Tick-Rmu.result.now = sym (c.index_mut-in-Tick-Rmu.ensures.value ∙ ap (λ n. get_or c.args.rmus.now.items n c.index_mut-in-Tick-Rmu.result.now) c.from-in-Tick-Rmu.ensures ∙ get_or_from_slice_get c.args.rmus.now.items c.in-Tick-Rmu.i r.site c.index_mut-in-Tick-Rmu.result.now r.kept_there) in
     sym r.number ∙ ap number_of is
 
 -- src/taking.rt:77:13
 pub tick_at-requires-in-Tick-Rmu-clause-name : goal.tick_at-requires-in-Tick-Rmu-clause-name
 tick_at-requires-in-Tick-Rmu-clause-name g c =
     let r = tick-ready c.args.bus.now (record { bius = c.args.bius.now.items; rmus = c.args.rmus.now.items }) c.args.scene.now c.args.time c.args.node c.args.event.now c.requires.0 c.requires.1 c.requires.2 Rmu c.in-Tick-Rmu.i c.in-Tick-Rmu.word-0 c.in-Tick-Rmu.wanted-0 c.requires.3 c.in-Tick-Rmu.is-0 c.in-Tick-Rmu.is-1 in
-    let is : r.site ≡ c.index_mut-in-Tick-Rmu.result.now = sym (c.index_mut-in-Tick-Rmu.ensures.value ∙ ap (λ n. get_or c.args.rmus.now.items n c.index_mut-in-Tick-Rmu.result.now) c.from-in-Tick-Rmu.ensures ∙ got-is c.args.rmus.now.items c.in-Tick-Rmu.i r.site c.index_mut-in-Tick-Rmu.result.now r.kept_there) in
+    let is : r.site ≡ c.index_mut-in-Tick-Rmu.result.now = sym (c.index_mut-in-Tick-Rmu.ensures.value ∙ ap (λ n. get_or c.args.rmus.now.items n c.index_mut-in-Tick-Rmu.result.now) c.from-in-Tick-Rmu.ensures ∙ get_or_from_slice_get c.args.rmus.now.items c.in-Tick-Rmu.i r.site c.index_mut-in-Tick-Rmu.result.now r.kept_there) in
     c.in-Tick-Rmu.is-1 ∙ ap node.Rmu (sym r.number ∙ ap number_of is)
 
 -- src/taking.rt:77:13
 pub tick_at-requires-in-Tick-Rmu-clause-may : goal.tick_at-requires-in-Tick-Rmu-clause-may
 tick_at-requires-in-Tick-Rmu-clause-may g c =
     let r = tick-ready c.args.bus.now (record { bius = c.args.bius.now.items; rmus = c.args.rmus.now.items }) c.args.scene.now c.args.time c.args.node c.args.event.now c.requires.0 c.requires.1 c.requires.2 Rmu c.in-Tick-Rmu.i c.in-Tick-Rmu.word-0 c.in-Tick-Rmu.wanted-0 c.requires.3 c.in-Tick-Rmu.is-0 c.in-Tick-Rmu.is-1 in
-    let is : r.site ≡ c.index_mut-in-Tick-Rmu.result.now = sym (c.index_mut-in-Tick-Rmu.ensures.value ∙ ap (λ n. get_or c.args.rmus.now.items n c.index_mut-in-Tick-Rmu.result.now) c.from-in-Tick-Rmu.ensures ∙ got-is c.args.rmus.now.items c.in-Tick-Rmu.i r.site c.index_mut-in-Tick-Rmu.result.now r.kept_there) in (
+    let is : r.site ≡ c.index_mut-in-Tick-Rmu.result.now = sym (c.index_mut-in-Tick-Rmu.ensures.value ∙ ap (λ n. get_or c.args.rmus.now.items n c.index_mut-in-Tick-Rmu.result.now) c.from-in-Tick-Rmu.ensures ∙ get_or_from_slice_get c.args.rmus.now.items c.in-Tick-Rmu.i r.site c.index_mut-in-Tick-Rmu.result.now r.kept_there) in (
       r.tick,
       moved Rmu c.in-Tick-Rmu.i (without_waiting (Tick r.tick)) c.requires.0,
       record r.s { ahead = None },
@@ -102,7 +102,7 @@ pub arrive-requires-clause-in_time : goal.arrive-requires-clause-in_time
 arrive-requires-clause-in_time g c =
     let x : Coming = record { time = c.args.time; from = c.in-Arrive-Biu.from; bytes = c.in-Arrive-Biu.bytes.items } in
     let r = arrival-ready c.args.bus.now (record { bius = c.args.bius.now.items; rmus = c.args.rmus.now.items }) c.args.scene.now c.args.time c.args.node c.args.event.now c.requires.0 c.requires.1 c.requires.2 Biu c.in-Arrive-Biu.i x c.requires.3 (ap (coming_with c.args.time) c.in-Arrive-Biu.is-0) c.in-Arrive-Biu.is-1 in
-    let is : r.site ≡ c.index_mut-in-Arrive-Biu.result.now = sym (c.index_mut-in-Arrive-Biu.ensures.value ∙ ap (λ n. get_or c.args.bius.now.items n c.index_mut-in-Arrive-Biu.result.now) c.from-in-Arrive-Biu.ensures ∙ got-is c.args.bius.now.items c.in-Arrive-Biu.i r.site c.index_mut-in-Arrive-Biu.result.now r.kept_there) in
+    let is : r.site ≡ c.index_mut-in-Arrive-Biu.result.now = sym (c.index_mut-in-Arrive-Biu.ensures.value ∙ ap (λ n. get_or c.args.bius.now.items n c.index_mut-in-Arrive-Biu.result.now) c.from-in-Arrive-Biu.ensures ∙ get_or_from_slice_get c.args.bius.now.items c.in-Arrive-Biu.i r.site c.index_mut-in-Arrive-Biu.result.now r.kept_there) in
     let clock_is : c.clock.result.now ≡ clock_of c.args.bus.now Biu c.in-Arrive-Biu.i = c.clock.ensures ∙ ap (λ n. clock_of c.args.bus.now (kind_of n) (number_in n)) c.in-Arrive-Biu.is-1 in
     subst (λ t. ComesBy (passing_end Biu c.index_mut-in-Arrive-Biu.result.now.node) t c.args.time) (sym clock_is)
     (subst (λ k. ComesBy (passing_end Biu k.node) (clock_of c.args.bus.now Biu c.in-Arrive-Biu.i) c.args.time) is
@@ -113,7 +113,7 @@ pub arrive-requires-clause-source : goal.arrive-requires-clause-source
 arrive-requires-clause-source g c =
     let x : Coming = record { time = c.args.time; from = c.in-Arrive-Biu.from; bytes = c.in-Arrive-Biu.bytes.items } in
     let r = arrival-ready c.args.bus.now (record { bius = c.args.bius.now.items; rmus = c.args.rmus.now.items }) c.args.scene.now c.args.time c.args.node c.args.event.now c.requires.0 c.requires.1 c.requires.2 Biu c.in-Arrive-Biu.i x c.requires.3 (ap (coming_with c.args.time) c.in-Arrive-Biu.is-0) c.in-Arrive-Biu.is-1 in
-    let is : r.site ≡ c.index_mut-in-Arrive-Biu.result.now = sym (c.index_mut-in-Arrive-Biu.ensures.value ∙ ap (λ n. get_or c.args.bius.now.items n c.index_mut-in-Arrive-Biu.result.now) c.from-in-Arrive-Biu.ensures ∙ got-is c.args.bius.now.items c.in-Arrive-Biu.i r.site c.index_mut-in-Arrive-Biu.result.now r.kept_there) in
+    let is : r.site ≡ c.index_mut-in-Arrive-Biu.result.now = sym (c.index_mut-in-Arrive-Biu.ensures.value ∙ ap (λ n. get_or c.args.bius.now.items n c.index_mut-in-Arrive-Biu.result.now) c.from-in-Arrive-Biu.ensures ∙ get_or_from_slice_get c.args.bius.now.items c.in-Arrive-Biu.i r.site c.index_mut-in-Arrive-Biu.result.now r.kept_there) in
     subst (λ k. c.in-Arrive-Biu.from < count_of Rmu k.node.seat.sizes) is (subst (λ z. c.in-Arrive-Biu.from < count_of Rmu z) (sym r.node.site.sizes) r.source)
 
 -- src/taking.rt:83:13
@@ -134,7 +134,7 @@ pub arrive-requires-in-Arrive-Rmu-clause-in_time :
 arrive-requires-in-Arrive-Rmu-clause-in_time g c =
     let x : Coming = record { time = c.args.time; from = c.in-Arrive-Rmu.from; bytes = c.in-Arrive-Rmu.bytes.items } in
     let r = arrival-ready c.args.bus.now (record { bius = c.args.bius.now.items; rmus = c.args.rmus.now.items }) c.args.scene.now c.args.time c.args.node c.args.event.now c.requires.0 c.requires.1 c.requires.2 Rmu c.in-Arrive-Rmu.i x c.requires.3 (ap (coming_with c.args.time) c.in-Arrive-Rmu.is-0) c.in-Arrive-Rmu.is-1 in
-    let is : r.site ≡ c.index_mut-in-Arrive-Rmu.result.now = sym (c.index_mut-in-Arrive-Rmu.ensures.value ∙ ap (λ n. get_or c.args.rmus.now.items n c.index_mut-in-Arrive-Rmu.result.now) c.from-in-Arrive-Rmu.ensures ∙ got-is c.args.rmus.now.items c.in-Arrive-Rmu.i r.site c.index_mut-in-Arrive-Rmu.result.now r.kept_there) in
+    let is : r.site ≡ c.index_mut-in-Arrive-Rmu.result.now = sym (c.index_mut-in-Arrive-Rmu.ensures.value ∙ ap (λ n. get_or c.args.rmus.now.items n c.index_mut-in-Arrive-Rmu.result.now) c.from-in-Arrive-Rmu.ensures ∙ get_or_from_slice_get c.args.rmus.now.items c.in-Arrive-Rmu.i r.site c.index_mut-in-Arrive-Rmu.result.now r.kept_there) in
     let clock_is : c.clock-in-Arrive-Rmu.result.now ≡ clock_of c.args.bus.now Rmu c.in-Arrive-Rmu.i = c.clock-in-Arrive-Rmu.ensures ∙ ap (λ n. clock_of c.args.bus.now (kind_of n) (number_in n)) c.in-Arrive-Rmu.is-1 in
     subst (λ t. ComesBy (passing_end Rmu c.index_mut-in-Arrive-Rmu.result.now.node) t c.args.time) (sym clock_is)
     (subst (λ k. ComesBy (passing_end Rmu k.node) (clock_of c.args.bus.now Rmu c.in-Arrive-Rmu.i) c.args.time) is
@@ -145,7 +145,7 @@ pub arrive-requires-in-Arrive-Rmu-clause-source : goal.arrive-requires-in-Arrive
 arrive-requires-in-Arrive-Rmu-clause-source g c =
     let x : Coming = record { time = c.args.time; from = c.in-Arrive-Rmu.from; bytes = c.in-Arrive-Rmu.bytes.items } in
     let r = arrival-ready c.args.bus.now (record { bius = c.args.bius.now.items; rmus = c.args.rmus.now.items }) c.args.scene.now c.args.time c.args.node c.args.event.now c.requires.0 c.requires.1 c.requires.2 Rmu c.in-Arrive-Rmu.i x c.requires.3 (ap (coming_with c.args.time) c.in-Arrive-Rmu.is-0) c.in-Arrive-Rmu.is-1 in
-    let is : r.site ≡ c.index_mut-in-Arrive-Rmu.result.now = sym (c.index_mut-in-Arrive-Rmu.ensures.value ∙ ap (λ n. get_or c.args.rmus.now.items n c.index_mut-in-Arrive-Rmu.result.now) c.from-in-Arrive-Rmu.ensures ∙ got-is c.args.rmus.now.items c.in-Arrive-Rmu.i r.site c.index_mut-in-Arrive-Rmu.result.now r.kept_there) in
+    let is : r.site ≡ c.index_mut-in-Arrive-Rmu.result.now = sym (c.index_mut-in-Arrive-Rmu.ensures.value ∙ ap (λ n. get_or c.args.rmus.now.items n c.index_mut-in-Arrive-Rmu.result.now) c.from-in-Arrive-Rmu.ensures ∙ get_or_from_slice_get c.args.rmus.now.items c.in-Arrive-Rmu.i r.site c.index_mut-in-Arrive-Rmu.result.now r.kept_there) in
     subst (λ k. c.in-Arrive-Rmu.from < count_of Biu k.node.seat.sizes) is (subst (λ z. c.in-Arrive-Rmu.from < count_of Biu z) (sym r.node.site.sizes) r.source)
 
 -- src/taking.rt:56:1
@@ -155,7 +155,7 @@ returns-in-Tick-Biu g c =
     let sc = c.args.bus.now in
     let i = c.in-Tick-Biu.i in
     let r = tick-ready sc (record { bius = c.args.bius.now.items; rmus = c.args.rmus.now.items }) c.args.scene.now c.args.time c.args.node c.args.event.now w p d Biu i c.in-Tick-Biu.word-0 c.in-Tick-Biu.wanted-0 may c.in-Tick-Biu.is-0 c.in-Tick-Biu.is-1 in
-    let is : r.site ≡ c.index_mut.result.now = sym (c.index_mut.ensures.value ∙ ap (λ n. get_or c.args.bius.now.items n c.index_mut.result.now) c.from.ensures ∙ got-is c.args.bius.now.items i r.site c.index_mut.result.now r.kept_there) in
+    let is : r.site ≡ c.index_mut.result.now = sym (c.index_mut.ensures.value ∙ ap (λ n. get_or c.args.bius.now.items n c.index_mut.result.now) c.from.ensures ∙ get_or_from_slice_get c.args.bius.now.items i r.site c.index_mut.result.now r.kept_there) in
     let w1 = moved Biu i (without_waiting (Tick r.tick)) w in
     let bare : WorldSite = record r.s { ahead = None } in
     let number = sym (ap number_of is) ∙ r.number in
@@ -174,7 +174,7 @@ returns-in-Tick-Rmu g c =
     let sc = c.args.bus.now in
     let i = c.in-Tick-Rmu.i in
     let r = tick-ready sc (record { bius = c.args.bius.now.items; rmus = c.args.rmus.now.items }) c.args.scene.now c.args.time c.args.node c.args.event.now w p d Rmu i c.in-Tick-Rmu.word-0 c.in-Tick-Rmu.wanted-0 may c.in-Tick-Rmu.is-0 c.in-Tick-Rmu.is-1 in
-    let is : r.site ≡ c.index_mut-in-Tick-Rmu.result.now = sym (c.index_mut-in-Tick-Rmu.ensures.value ∙ ap (λ n. get_or c.args.rmus.now.items n c.index_mut-in-Tick-Rmu.result.now) c.from-in-Tick-Rmu.ensures ∙ got-is c.args.rmus.now.items i r.site c.index_mut-in-Tick-Rmu.result.now r.kept_there) in
+    let is : r.site ≡ c.index_mut-in-Tick-Rmu.result.now = sym (c.index_mut-in-Tick-Rmu.ensures.value ∙ ap (λ n. get_or c.args.rmus.now.items n c.index_mut-in-Tick-Rmu.result.now) c.from-in-Tick-Rmu.ensures ∙ get_or_from_slice_get c.args.rmus.now.items i r.site c.index_mut-in-Tick-Rmu.result.now r.kept_there) in
     let w1 = moved Rmu i (without_waiting (Tick r.tick)) w in
     let bare : WorldSite = record r.s { ahead = None } in
     let number = sym (ap number_of is) ∙ r.number in
@@ -194,7 +194,7 @@ returns-in-Arrive-Biu g c =
     let i = c.in-Arrive-Biu.i in
     let x : Coming = record { time = c.args.time; from = c.in-Arrive-Biu.from; bytes = c.in-Arrive-Biu.bytes.items } in
     let r = arrival-ready c.args.bus.now (record { bius = c.args.bius.now.items; rmus = c.args.rmus.now.items }) c.args.scene.now c.args.time c.args.node c.args.event.now w p d Biu c.in-Arrive-Biu.i x may (ap (coming_with c.args.time) c.in-Arrive-Biu.is-0) c.in-Arrive-Biu.is-1 in
-    let is : r.site ≡ c.index_mut-in-Arrive-Biu.result.now = sym (c.index_mut-in-Arrive-Biu.ensures.value ∙ ap (λ n. get_or c.args.bius.now.items n c.index_mut-in-Arrive-Biu.result.now) c.from-in-Arrive-Biu.ensures ∙ got-is c.args.bius.now.items c.in-Arrive-Biu.i r.site c.index_mut-in-Arrive-Biu.result.now r.kept_there) in
+    let is : r.site ≡ c.index_mut-in-Arrive-Biu.result.now = sym (c.index_mut-in-Arrive-Biu.ensures.value ∙ ap (λ n. get_or c.args.bius.now.items n c.index_mut-in-Arrive-Biu.result.now) c.from-in-Arrive-Biu.ensures ∙ get_or_from_slice_get c.args.bius.now.items c.in-Arrive-Biu.i r.site c.index_mut-in-Arrive-Biu.result.now r.kept_there) in
     let number = sym (ap number_of is) ∙ r.node.number in
     let clock_is : c.clock.result.now ≡ clock_of sc Biu (number_of c.index_mut-in-Arrive-Biu.result.now) =
     c.clock.ensures ∙ ap (λ n. clock_of sc (kind_of n) (number_in n)) c.in-Arrive-Biu.is-1 ∙ ap (clock_of sc Biu) (sym number) in
@@ -214,7 +214,7 @@ returns-in-Arrive-Rmu g c =
     let i = c.in-Arrive-Rmu.i in
     let x : Coming = record { time = c.args.time; from = c.in-Arrive-Rmu.from; bytes = c.in-Arrive-Rmu.bytes.items } in
     let r = arrival-ready c.args.bus.now (record { bius = c.args.bius.now.items; rmus = c.args.rmus.now.items }) c.args.scene.now c.args.time c.args.node c.args.event.now w p d Rmu c.in-Arrive-Rmu.i x may (ap (coming_with c.args.time) c.in-Arrive-Rmu.is-0) c.in-Arrive-Rmu.is-1 in
-    let is : r.site ≡ c.index_mut-in-Arrive-Rmu.result.now = sym (c.index_mut-in-Arrive-Rmu.ensures.value ∙ ap (λ n. get_or c.args.rmus.now.items n c.index_mut-in-Arrive-Rmu.result.now) c.from-in-Arrive-Rmu.ensures ∙ got-is c.args.rmus.now.items c.in-Arrive-Rmu.i r.site c.index_mut-in-Arrive-Rmu.result.now r.kept_there) in
+    let is : r.site ≡ c.index_mut-in-Arrive-Rmu.result.now = sym (c.index_mut-in-Arrive-Rmu.ensures.value ∙ ap (λ n. get_or c.args.rmus.now.items n c.index_mut-in-Arrive-Rmu.result.now) c.from-in-Arrive-Rmu.ensures ∙ get_or_from_slice_get c.args.rmus.now.items c.in-Arrive-Rmu.i r.site c.index_mut-in-Arrive-Rmu.result.now r.kept_there) in
     let number = sym (ap number_of is) ∙ r.node.number in
     let clock_is : c.clock-in-Arrive-Rmu.result.now ≡ clock_of sc Rmu (number_of c.index_mut-in-Arrive-Rmu.result.now) =
     c.clock-in-Arrive-Rmu.ensures ∙ ap (λ n. clock_of sc (kind_of n) (number_in n)) c.in-Arrive-Rmu.is-1 ∙ ap (clock_of sc Rmu) (sym number) in

@@ -1,10 +1,10 @@
 use Rattle.std.proofs.Common.{sym, ap, ◌∙◌, subst}
+use Rattle.std.proofs.lemmas.Option.{none-some, same_Some}
 use Rattle.rb_base.specs.Nodes.{side_of}
 use Rattle.rb_node.specs.Cores.{IsCore, next_of}
 use Rattle.rb_world.specs.Sites.{number_of}
 use Rattle.rb_world.specs.Steps.{MayTick, Ticks, act_at}
 use Rattle.rb_world.proofs.Acting.{next-is}
-use Rattle.rb_world.proofs.Whole.{none-some, some-same}
 use Rattle.rb_world.proofs.taking.tick_at.Goals as goal
 
 pub tick-requires-clause-may : goal.tick-requires-clause-may
@@ -18,7 +18,7 @@ tick-requires-clause-may g c =
     let may = c.requires.may.3 in
     let found = sym (next-is sc me (number_of site) k site s.core may.at.stands.sizes may.at.stands.plan may.at.number may.next)
     ∙ ap (λ n. next_of me n s.core) (sym c.node.ensures) ∙ sym (c.next_tick.ensures.core s.core (subst (λ n. IsCore n s.core) (sym c.node.ensures) may.at.stands.core)) ∙ c.in-Some.is in
-    (w, s, subst (λ k. MayTick sc me (number_of site) k site c.args.scene.now w s) (some-same k c.in-Some.k found) may)
+    (w, s, subst (λ k. MayTick sc me (number_of site) k site c.args.scene.now w s) (same_Some k c.in-Some.k found) may)
 
 pub returns-in-Some : goal.returns-in-Some
 returns-in-Some g c =
@@ -28,7 +28,7 @@ returns-in-Some g c =
     let site = c.args.site.now in
     let found = sym (next-is sc me (number_of site) k site s.core may.at.stands.sizes may.at.stands.plan may.at.number may.next)
     ∙ ap (λ n. next_of me n s.core) (sym c.node.ensures) ∙ sym (c.next_tick.ensures.core s.core (subst (λ n. IsCore n s.core) (sym c.node.ensures) may.at.stands.core)) ∙ c.in-Some.is in
-    let same = some-same k c.in-Some.k found in
+    let same = same_Some k c.in-Some.k found in
     subst (λ k. Ticks sc me (number_of site) k c.tick.new.site c.tick.new.scene w s (act_at sc w me (number_of site) k s)) (sym same)
     (c.tick.ensures w s (subst (λ k. MayTick sc me (number_of site) k site c.args.scene.now w s) same may))
 

@@ -1,6 +1,7 @@
 use Rattle.std.proofs.Common.{◌+◌, ◌++◌, arith, ap, filter, length, ◌∙◌}
+use Rattle.rb_base.proofs.Plain.{take-all}
 use Rattle.rb_world_traffic.specs.Saying.{entries_at, is_between}
-use Rattle.rb_world_traffic.proofs.EntryLists.{one-entry, one-number, take-all}
+use Rattle.rb_world_traffic.proofs.EntryLists.{one-entry, one-number}
 use Rattle.rb_world_traffic.proofs.entries.add_between.Goals as goal
 
 pub loop-number-preserved : goal.loop-number-preserved

@@ -1,9 +1,9 @@
 use Rattle.std.proofs.Common.{◌<◌, ◌≤◌, ◌+◌, arith, length, subst, sym, ap, ◌∙◌}
+use Rattle.rb_base.proofs.Plain.{take-all}
 use Rattle.rb_queue.specs.Waiting.{HasLane, lane_of, spare_of, with_lane}
 use Rattle.rb_world_traffic.specs.Saying.{all_brought, entries_at, with_arrivals}
 use Rattle.rb_world_traffic.specs.Spans.{span_of}
 use Rattle.rb_world_traffic.proofs.Arrivals.{so-far-none, so-far-said, with-nothing}
-use Rattle.rb_world_traffic.proofs.EntryLists.{take-all}
 use Rattle.rb_world_traffic.proofs.saying.say_each.Goals as goal
 use Rattle.rb_world_traffic.proofs.saying.say_each.Goals.{then-number-len, else-number-len}
 

@@ -1,11 +1,12 @@
 use Rattle.std.proofs.Common.{◌≡◌, ◌+◌, ◌<◌, ◌≤◌, ap, sym, ◌∙◌, subst, arith, not}
+use Rattle.std.proofs.lemmas.Bool.{eq-eqb, eqb-true, not-true}
 use Rattle.rb_base.specs.Nodes.{Side, side_of}
 use Rattle.rb_base.specs.Sizes.{sync_slot_of}
 use Rattle.rb_rules.specs.Core.{is_tick}
 use Rattle.rb_slot.specs.Engines.{Seated}
 use Rattle.rb_node.specs.declared.ahead.Ahead.{Ahead}
 use Rattle.rb_node.proofs.Alone.{alone-ends, alone-stays}
-use Rattle.rb_node.proofs.Ending.{ShowsEnd, ends-kept, eq-true, kept-ends, kept-stays, not-below, not-true, stays-kept, true-eq}
+use Rattle.rb_node.proofs.Ending.{ShowsEnd, ends-kept, kept-ends, kept-stays, not-below, stays-kept}
 use Rattle.rb_node.proofs.node.Node.ends_exact_window.Goals.{then-self-sync_slot, else-self-sync_slot}
 use Rattle.rb_node.proofs.node.Node.ends_exact_window.Goals as goal
 
@@ -29,7 +30,7 @@ returns-then-epoch-self-clause-ends g c =
       | then-self-sync_slot w ↦ rw (← c.self.view_is) (λ d k is next here.
           ends-kept me v c.self.inside.had a d k c.self.invariant.ahead is.state is.had next
           (subst (λ n. a.window.slot < n) slots w.if-self-sync_slot.true)
-          (ap (λ e. e + a.window.last) (sym w.epoch.ensures) ∙ true-eq (w.epoch.result + a.window.last) a.busy.tick (sym w.value-is ∙ c.if-epoch-self.true))
+          (ap (λ e. e + a.window.last) (sym w.epoch.ensures) ∙ eqb-true (w.epoch.result + a.window.last) a.busy.tick (sym w.value-is ∙ c.if-epoch-self.true))
           (ap (λ o. is_tick o a.busy.tick) (sym c.new_epoch.ensures) ∙ sym c.is_tick.ensures ∙ not-true c.is_tick.result here))
       | else-self-sync_slot w ↦
           absurd (not-below a.window.slot c.sync_slot.result w.if-self-sync_slot.false (sym w.value-is ∙ c.if-epoch-self.true))
@@ -63,7 +64,7 @@ returns-else-epoch-self-clause-otherwise g c =
       | then-self-sync_slot w ↦ rw (← c.self.view_is) (λ d k is next stays ends.
           let shows : ShowsEnd v a = kept-ends me v c.self.inside.had a d k c.self.invariant.ahead is.state is.had next stays ends in
           w.value-is
-          ∙ eq-true (w.epoch.result + a.window.last) a.busy.tick (ap (λ e. e + a.window.last) w.epoch.ensures ∙ shows.last))
+          ∙ eq-eqb (w.epoch.result + a.window.last) a.busy.tick (ap (λ e. e + a.window.last) w.epoch.ensures ∙ shows.last))
       | else-self-sync_slot w ↦ rw (← c.self.view_is) (λ d k is next stays ends.
           let shows : ShowsEnd v a = kept-ends me v c.self.inside.had a d k c.self.invariant.ahead is.state is.had next stays ends in
           let slot : a.window.slot < sync_slot_of v.sizes = shows.slot in
