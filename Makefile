@@ -76,9 +76,10 @@ install:
 	tools/manual docs/FORMATS.md robus_formats 5 "messages and logs of a fault-tolerant broadcast bus" > "$(AT)/share/man/man5/robus_formats.5"
 	cp -R README.md docs examples "$(AT)/share/doc/robus"
 	$(MAKE) install-python
-	@tools/proved $(LIBRARY).so && $(MAKE) install-library || echo "make install: no library is up to date (make library): it is left out" >&2
+	@if tools/proved $(LIBRARY).so; then $(MAKE) install-library; else echo "make install: no library is up to date (make library): it is left out" >&2; fi
 
 install-library:
+	@tools/proved $(LIBRARY).so || { echo "make install-library: no library is up to date: make library first" >&2; exit 2; }
 	install -d "$(AT)/include" "$(AT)/lib/pkgconfig"
 	install -m 644 include/robus.h "$(AT)/include/robus.h"
 	install -m 644 $(LIBRARY).a "$(AT)/lib/librobus.a"
