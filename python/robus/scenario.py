@@ -154,11 +154,11 @@ Source = Union[Scenario, str, os.PathLike, bytes, Mapping[str, Any]]
 
 
 def scenario_of(source: Source) -> Scenario:
-    """A scenario as it is; of a path that of the file, of bytes that of the text, of a dict its
-    own."""
+    """A scenario as it is; of a path that of the file, of bytes and of a str of several lines that
+    of the text, of a dict its own."""
     if isinstance(source, Scenario):
         return source
-    if isinstance(source, bytes):
+    if isinstance(source, bytes) or isinstance(source, str) and "\n" in source:
         return Scenario.from_toml(source)
     if isinstance(source, Mapping):
         return Scenario.from_dict(source)

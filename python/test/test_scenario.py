@@ -27,6 +27,9 @@ class RoundTrips(unittest.TestCase):
             self.assertEqual(scenario.text, path.read_bytes())
             self.assertEqual(robus.run(self.round_trip(scenario)).output, robus.run(path).output)
 
+    def test_a_text_of_several_lines_is_the_scenario(self):
+        self.assertEqual(robus.run(LATE.read_text()).output, robus.run(LATE).output)
+
     def test_bridges_keep_the_texts_in_them(self):
         for path in (EXAMPLES / "bridges").glob("*.toml"):
             self.round_trip(Scenario.read(path))
