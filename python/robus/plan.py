@@ -15,7 +15,8 @@ inequalities alone, which docs/RULES.md has, and is not proved; robus check and 
     tools/plan SCENARIO
     tools/plan --biu N --rmu N --slots N [--u N] [--r N] [--dmin N] [--dmax N] [--c N]
 
-status: 0 the plan holds, 1 it fails or there is none, 2 wrong words or no such file, 3 the scenario's numbers are not in range"""
+status: 0 the plan holds, 1 it fails or there is none, 2 wrong words or no such file, 3 the scenario
+says no sizes or no plan within their ranges, 4 it is too long"""
 
 MEANING = {
     1: "a message does not come before its window, up to stage 1 of the sync slot",
@@ -85,12 +86,12 @@ def spelt(plan) -> str:
 
 
 def bus_of(path: str):
-    """The bus of a scenario with its plan, whether it is feasible or not; a status where its numbers are not in range."""
+    """The bus of a scenario with its plan, whether it is feasible or not; None where sizes or plan are not within their ranges."""
     data = sys.stdin.buffer.read() if path == "-" else open(path, "rb").read()
     if len(data) > model.SCENARIO_LIMIT:
         raise TooLong
     if syntax.fault_of(data):
-        return None
+        model.refuse(1)
     values = ranges.Values(model.read_toml(data))
     if values.sync is None or values.plan is None:
         return None
@@ -120,13 +121,15 @@ def main(words: list[str]) -> int:
         if asked.scenario is not None:
             bus = bus_of(asked.scenario)
             if bus is None:
-                print("tools/plan: the sizes or the plan of %s are not in range; tools/lint says where" % asked.scenario, file=sys.stderr)
+                print("tools/plan: %s says no sizes or no plan within their ranges; tools/lint says where" % asked.scenario, file=sys.stderr)
                 return 3
             return tell(bus, bus.plan)
     except OSError as fault:
         parser.exit(2, "tools/plan: %s: %s\n" % (asked.scenario, fault.strerror))
+    except model.Refused as refusal:
+        parser.exit(3, "tools/plan: %s: %s; tools/lint says where and why\n" % (asked.scenario, refusal))
     except TooLong:
-        parser.exit(3, "tools/plan: %s is longer than %d bytes\n" % (asked.scenario, model.SCENARIO_LIMIT))
+        parser.exit(4, "tools/plan: %s is longer than %d bytes\n" % (asked.scenario, model.SCENARIO_LIMIT))
     if None in (asked.biu, asked.rmu, asked.slots):
         parser.exit(2, "tools/plan: a scenario is wanted, or --biu, --rmu and --slots; --help says more\n")
     bus = sizes_in(asked)

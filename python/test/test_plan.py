@@ -28,6 +28,11 @@ class Plans(unittest.TestCase):
         self.assertIn("raise h", text)
         self.assertIn("the plan fails: inequality 1 is the first", text)
 
+    def test_what_is_no_plan_of_a_bus_is_told(self):
+        for data in (b"", b"biu = ", b"frames = 99999999999999999999999\n", b"\xff", b"biu = 4\nrmu = 3\nslots = 8\nframes = 1\nplan = 3\n"):
+            status, text = output_of("plan", ["-"], data)
+            self.assertEqual((status, text), (3, ""), data)
+
     def test_both_sides_are_those_of_the_tutorial(self):
         _, text = output_of("plan", ["-"], b"biu = 3\nrmu = 3\nslots = 4\nframes = 2\n")
         rows = [line.split()[:3] for line in text.splitlines() if line.startswith("C")]
