@@ -3,6 +3,7 @@ ghost use Rattle.std.specs.Prelude.{◌≡◌, ◌++◌, ℕ, OnErr, OnOk, None,
 ghost use Rattle.std.specs.Io.KnownBytes.{Appends};
 ghost use Rattle.rb_outside.specs.Bytes.{AppendsPart};
 ghost use Rattle.rb_outside.specs.Causes.{HasCause};
+ghost use Rattle.rb_outside.specs.Writing.{Writes};
 ghost use Rattle.rb_world_book.specs.Records.{record_of};
 ghost use Rattle.rb_report.specs.Report.{end_text};
 ghost use Rattle.rb_rules_bridge.specs.Bridges.{Bridge};
@@ -51,9 +52,7 @@ pub(crate) fn breach_at(turn: &Turn, right: bool, frame: u32) -> Option<Breach>
 
 // Writes the line of a breach.
 fn write_breach<K: Sink>(breach: &Breach, output: &mut K) -> Result<(), Failed>
-    ensures all { OnOk result (Appends (K.held output.old) (K.held output.new) (side_breach_text (bank_of breach.now.right) breach.now.place breach.now.cause)) }
-    ensures part { OnErr result (AppendsPart (K.held output.old) (K.held output.new) (side_breach_text (bank_of breach.now.right) breach.now.place breach.now.cause)) }
-    ensures cause { HasCause (K.faults output.old) (K.faults output.new) result }
+    ensures { Writes K.held K.faults output.old output.new result (side_breach_text (bank_of breach.now.right) breach.now.place breach.now.cause) }
 {
     let line = side_breach_line(breach.right, breach.place, breach.cause);
     write_line(output, &line)
@@ -61,9 +60,7 @@ fn write_breach<K: Sink>(breach: &Breach, output: &mut K) -> Result<(), Failed>
 
 /// Writes the last line of a bridge without a breach.
 pub(crate) fn write_end<K: Sink>(frames: u32, output: &mut K) -> Result<(), Failed>
-    ensures all { OnOk result (Appends (K.held output.old) (K.held output.new) (end_text frames)) }
-    ensures part { OnErr result (AppendsPart (K.held output.old) (K.held output.new) (end_text frames)) }
-    ensures cause { HasCause (K.faults output.old) (K.faults output.new) result }
+    ensures { Writes K.held K.faults output.old output.new result (end_text frames) }
 {
     let line = end_line(frames);
     write_line(output, &line)

@@ -1,8 +1,9 @@
 //! Reading a bridge from a source.
-ghost use Rattle.std.specs.Prelude.{◌≡◌, ◌≤◌, ◌⊎◌, IfOk, IfErr, OnOk, OnErr};
+ghost use Rattle.std.specs.Prelude.{◌≡◌, ◌≤◌, ◌⊎◌, IfOk, IfErr};
 ghost use Rattle.std.specs.Io.KnownBytes.{Appends};
 ghost use Rattle.rb_outside.specs.Bytes.{AppendsPart, Gave, ReadsToEnd};
-ghost use Rattle.rb_outside.specs.Causes.{HasCause, Rose};
+ghost use Rattle.rb_outside.specs.Causes.{Rose};
+ghost use Rattle.rb_outside.specs.Writing.{Writes};
 ghost use Rattle.rb_bridge_document.specs.Codes.{code_of, detail_of};
 ghost use Rattle.rb_bridge.specs.Refusals.{IsBridgeRefusal, bridge_refused_text};
 ghost use Rattle.rb_bridge_top.specs.Inputs.{HasLine, IsUnread, ReadsBridge, ReadsNone, input_limit, rule_text};
@@ -35,9 +36,7 @@ fn read_input<S: Source>(alloc: Global, input: &mut S) -> Result<Vec<u8>, Status
 // Writes the line of a rule that is broken.
 fn write_rule<K: Sink>(rule: BridgeRefusal, output: &mut K) -> Result<(), Failed>
     requires { HasLine rule }
-    ensures all { OnOk result (Appends (K.held output.old) (K.held output.new) (rule_text rule)) }
-    ensures part { OnErr result (AppendsPart (K.held output.old) (K.held output.new) (rule_text rule)) }
-    ensures cause { HasCause (K.faults output.old) (K.faults output.new) result }
+    ensures { Writes K.held K.faults output.old output.new result (rule_text rule) }
 {
     let line = bridge_refused_line(rule.code().unwrap_or(0), rule.detail());
     write_line(output, &line)

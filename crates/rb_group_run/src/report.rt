@@ -1,5 +1,5 @@
 //! What turns say of a group, written a line at a time.
-ghost use Rattle.std.specs.Prelude.{◌≡◌, ℕ, ◌<◌, List, [], Bool, if◌then◌else◌, OnErr, OnOk};
+ghost use Rattle.std.specs.Prelude.{◌≡◌, ℕ, ◌<◌, List, [], if◌then◌else◌, OnErr, OnOk};
 ghost use Rattle.std.specs.Io.KnownBytes.{Appends};
 ghost use Rattle.rb_base.specs.Nodes.Side.{Biu};
 ghost use Rattle.rb_base.specs.declared.values.Delivery.{Delivery};
@@ -7,6 +7,7 @@ ghost use Rattle.rb_world_book.specs.Records.{record_of};
 ghost use Rattle.rb_group.specs.Groups.{group_value};
 ghost use Rattle.rb_outside.specs.Bytes.{AppendsPart};
 ghost use Rattle.rb_outside.specs.Causes.{HasCause};
+ghost use Rattle.rb_outside.specs.Writing.{Writes};
 ghost use Rattle.rb_report.specs.Report.{group_text};
 ghost use Rattle.rb_rules.specs.Book.{Record};
 ghost use Rattle.rb_rules.specs.Goodness.{Scenario, is_good};
@@ -129,9 +130,7 @@ fn write_if_over<K: Sink>(
 
 // Writes the last line, if the turn is the end of the run.
 fn write_ending<K: Sink>(turn: &Turn, frames: u32, output: &mut K) -> Result<(), Failed>
-    ensures all { OnOk result (Appends (K.held output.old) (K.held output.new) (ending_in frames (record_of turn.now))) }
-    ensures part { OnErr result (AppendsPart (K.held output.old) (K.held output.new) (ending_in frames (record_of turn.now))) }
-    ensures cause { HasCause (K.faults output.old) (K.faults output.new) result }
+    ensures { Writes K.held K.faults output.old output.new result (ending_in frames (record_of turn.now)) }
 {
     match turn {
         Turn::Ended => write_line(output, &end_line(frames)),

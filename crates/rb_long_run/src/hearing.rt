@@ -8,6 +8,7 @@ ghost use Rattle.rb_long.specs.Delivered.{is_named};
 ghost use Rattle.rb_long.specs.Readers.{letter_in};
 ghost use Rattle.rb_outside.specs.Bytes.{AppendsPart};
 ghost use Rattle.rb_outside.specs.Causes.{HasCause};
+ghost use Rattle.rb_outside.specs.Writing.{Writes};
 
 use arrayvec::ArrayVec;
 use rb_long::LongReceiver;
@@ -44,9 +45,7 @@ fn write_letter<K: Sink>(
     output: &mut K,
 ) -> Result<(), Failed>
     requires { IfSome letter (λ (l : Letter ℕ). 1 ≤ length l.items) }
-    ensures all { OnOk result (Appends (K.held output.old) (K.held output.new) (given_text frame slot line.now (letter_in letter))) }
-    ensures part { OnErr result (AppendsPart (K.held output.old) (K.held output.new) (given_text frame slot line.now (letter_in letter))) }
-    ensures cause { HasCause (K.faults output.old) (K.faults output.new) result }
+    ensures { Writes K.held K.faults output.old output.new result (given_text frame slot line.now (letter_in letter)) }
 {
     match letter {
         Some(letter) => write_line(

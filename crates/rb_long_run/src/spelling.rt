@@ -1,10 +1,8 @@
 //! The words of a letter, written.
-ghost use Rattle.std.specs.Prelude.{◌≡◌, true, length, OnErr, OnOk};
-ghost use Rattle.std.specs.Io.KnownBytes.{Appends};
+ghost use Rattle.std.specs.Prelude.{◌≡◌, true, length};
 ghost use Rattle.rb_long_run.specs.Reports.{spelling_text};
 ghost use Rattle.rb_long.specs.Spelling.{is_length};
-ghost use Rattle.rb_outside.specs.Bytes.{AppendsPart};
-ghost use Rattle.rb_outside.specs.Causes.{HasCause};
+ghost use Rattle.rb_outside.specs.Writing.{Writes};
 
 use rb_long::LongSender;
 use rb_outside::{Failed, Sink, write_line};
@@ -15,9 +13,7 @@ use rb_report::word_line;
 /// written.
 pub fn write_spelling<K: Sink>(letter: &[u8], output: &mut K) -> Result<(), Failed>
     requires { is_length (length letter.now) ≡ true }
-    ensures all { OnOk result (Appends (K.held output.old) (K.held output.new) (spelling_text letter.now)) }
-    ensures part { OnErr result (AppendsPart (K.held output.old) (K.held output.new) (spelling_text letter.now)) }
-    ensures cause { HasCause (K.faults output.old) (K.faults output.new) result }
+    ensures { Writes K.held K.faults output.old output.new result (spelling_text letter.now) }
 {
     let mut sender = LongSender::new();
     let Ok(()) = sender.push(letter) else {

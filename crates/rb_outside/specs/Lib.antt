@@ -2,3 +2,4 @@ pub mod Causes
 pub mod Bytes
 pub mod Memory
 pub mod Standard
+pub mod Writing

@@ -1,8 +1,8 @@
 //! All of some bytes out, and all of the input in.
-ghost use Rattle.std.specs.Prelude.{◌≡◌, ◌≢◌, ◌^◌, ◌<◌, ◌≤◌, ◌⊎◌, length, IsOk, IfOk, OnOk, OnErr, IsSomeAnd};
-ghost use Rattle.std.specs.Io.KnownBytes.{Appends};
-ghost use Rattle.rb_outside.specs.Bytes.{AppendsPart, Gave, ReadsToEnd};
-ghost use Rattle.rb_outside.specs.Causes.{HasCause, Rose};
+ghost use Rattle.std.specs.Prelude.{◌≡◌, ◌≢◌, ◌^◌, ◌<◌, ◌≤◌, ◌⊎◌, length, IsOk, IfOk, IsSomeAnd};
+ghost use Rattle.rb_outside.specs.Bytes.{Gave, ReadsToEnd};
+ghost use Rattle.rb_outside.specs.Causes.{Rose};
+ghost use Rattle.rb_outside.specs.Writing.{Writes};
 
 use crate::traits::{Failed, Sink, Source};
 use arrayvec::ArrayString;
@@ -12,9 +12,7 @@ use std::alloc::Global;
 /// been taken.
 #[tactic(auto, using(crate::proofs::Known::part_of_taken))]
 pub fn write_all<K: Sink>(output: &mut K, bytes: &[u8]) -> Result<(), Failed>
-    ensures all { OnOk result (Appends (K.held output.old) (K.held output.new) bytes.now) }
-    ensures part { OnErr result (AppendsPart (K.held output.old) (K.held output.new) bytes.now) }
-    ensures cause { HasCause (K.faults output.old) (K.faults output.new) result }
+    ensures { Writes K.held K.faults output.old output.new result bytes.now }
 {
     let mut at = 0;
     while at < bytes.len() {
@@ -28,9 +26,7 @@ pub fn write_line<K: Sink, const N: usize>(
     output: &mut K,
     line: &ArrayString<N>,
 ) -> Result<(), Failed>
-    ensures all { OnOk result (Appends (K.held output.old) (K.held output.new) line.now.bytes) }
-    ensures part { OnErr result (AppendsPart (K.held output.old) (K.held output.new) line.now.bytes) }
-    ensures cause { HasCause (K.faults output.old) (K.faults output.new) result }
+    ensures { Writes K.held K.faults output.old output.new result line.now.bytes }
 {
     write_all(output, line.as_str().as_bytes())
 }

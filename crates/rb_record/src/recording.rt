@@ -1,10 +1,9 @@
 //! Taking a run to its end, and writing what one node is given in it.
 ghost use Rattle.std.specs.Prelude.{◌≡◌, [], Option, Some, IfOk, IsOk, MatchResult, OnErr, OnOk};
-ghost use Rattle.std.specs.Io.KnownBytes.{Appends};
 ghost use Rattle.rb_world_book.specs.Records.{record_of};
 ghost use Rattle.rb_log.specs.Header.{header_of};
-ghost use Rattle.rb_outside.specs.Bytes.{AppendsPart};
 ghost use Rattle.rb_outside.specs.Causes.{HasCause};
+ghost use Rattle.rb_outside.specs.Writing.{Writes};
 ghost use Rattle.rb_record.specs.Recording.{IsRecordedInPart, IsRecordedWhole, WritesAll, WritesPart, fresh_log, timetable_of};
 ghost use Rattle.rb_rules.specs.Lawful.{IsNodeOf};
 ghost use Rattle.rb_rules.specs.WorldStep.{first_world};
@@ -22,9 +21,7 @@ use rb_world::{Turn, World};
 // Writes the header.
 fn write_header<K: Sink>(world: &World, node: NodeName, output: &mut K) -> Result<(), Failed>
     requires { IsNodeOf world.now.bus.sizes node }
-    ensures all { OnOk result (Appends (K.held output.old) (K.held output.new) (header_of (timetable_of world.now.bus) node)) }
-    ensures part { OnErr result (AppendsPart (K.held output.old) (K.held output.new) (header_of (timetable_of world.now.bus) node)) }
-    ensures cause { HasCause (K.faults output.old) (K.faults output.new) result }
+    ensures { Writes K.held K.faults output.old output.new result (header_of (timetable_of world.now.bus) node) }
 {
     let header = header(world.plan(), node);
     write_all(output, header.as_slice())

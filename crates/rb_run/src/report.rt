@@ -1,9 +1,8 @@
 //! The report of a run, written a line at a time.
 ghost use Rattle.std.specs.Prelude.{◌≡◌, IfOk, OnErr, OnOk};
-ghost use Rattle.std.specs.Io.KnownBytes.{Appends};
 ghost use Rattle.rb_world_book.specs.Records.{record_of};
-ghost use Rattle.rb_outside.specs.Bytes.{AppendsPart};
 ghost use Rattle.rb_outside.specs.Causes.{HasCause};
+ghost use Rattle.rb_outside.specs.Writing.{Writes};
 ghost use Rattle.rb_report.specs.Texts.{block_text, deliveries_text};
 ghost use Rattle.rb_run.specs.Reports.{convictions_text, epochs_text, newest_with, ports_text, turn_text};
 ghost use Rattle.rb_run.specs.Runs.{EndsWith, HasGivenNothing, WritesAll, WritesPart};
@@ -17,9 +16,7 @@ use rb_world_book::{FrameRecord, NodeLine, PortLine, SlotRecord, Turn};
 
 // Writes the first tick of each node.
 fn write_epochs<K: Sink>(frame: u32, nodes: &[NodeLine], output: &mut K) -> Result<(), Failed>
-    ensures all { OnOk result (Appends (K.held output.old) (K.held output.new) (epochs_text frame nodes.now)) }
-    ensures part { OnErr result (AppendsPart (K.held output.old) (K.held output.new) (epochs_text frame nodes.now)) }
-    ensures cause { HasCause (K.faults output.old) (K.faults output.new) result }
+    ensures { Writes K.held K.faults output.old output.new result (epochs_text frame nodes.now) }
 {
     for node in nodes {
         write_line(
@@ -32,9 +29,7 @@ fn write_epochs<K: Sink>(frame: u32, nodes: &[NodeLine], output: &mut K) -> Resu
 
 // Writes whom each node holds convicted.
 fn write_convicted<K: Sink>(frame: u32, nodes: &[NodeLine], output: &mut K) -> Result<(), Failed>
-    ensures all { OnOk result (Appends (K.held output.old) (K.held output.new) (convictions_text frame nodes.now)) }
-    ensures part { OnErr result (AppendsPart (K.held output.old) (K.held output.new) (convictions_text frame nodes.now)) }
-    ensures cause { HasCause (K.faults output.old) (K.faults output.new) result }
+    ensures { Writes K.held K.faults output.old output.new result (convictions_text frame nodes.now) }
 {
     for node in nodes {
         write_line(
@@ -47,9 +42,7 @@ fn write_convicted<K: Sink>(frame: u32, nodes: &[NodeLine], output: &mut K) -> R
 
 // Writes each port.
 fn write_ports<K: Sink>(frame: u32, ports: &[PortLine], output: &mut K) -> Result<(), Failed>
-    ensures all { OnOk result (Appends (K.held output.old) (K.held output.new) (ports_text frame ports.now)) }
-    ensures part { OnErr result (AppendsPart (K.held output.old) (K.held output.new) (ports_text frame ports.now)) }
-    ensures cause { HasCause (K.faults output.old) (K.faults output.new) result }
+    ensures { Writes K.held K.faults output.old output.new result (ports_text frame ports.now) }
 {
     for port in ports {
         write_line(output, &port_line(frame, port.biu, port.state, port.losses))?;
@@ -60,9 +53,7 @@ fn write_ports<K: Sink>(frame: u32, ports: &[PortLine], output: &mut K) -> Resul
 // Writes the block of a frame.
 #[tactic(auto, using(rb_outside::proofs::Known::writes_in_turn))]
 fn write_block<K: Sink>(block: &FrameRecord, output: &mut K) -> Result<(), Failed>
-    ensures all { OnOk result (Appends (K.held output.old) (K.held output.new) (block_text block.now.frame block.now.nodes.items block.now.ports.items)) }
-    ensures part { OnErr result (AppendsPart (K.held output.old) (K.held output.new) (block_text block.now.frame block.now.nodes.items block.now.ports.items)) }
-    ensures cause { HasCause (K.faults output.old) (K.faults output.new) result }
+    ensures { Writes K.held K.faults output.old output.new result (block_text block.now.frame block.now.nodes.items block.now.ports.items) }
 {
     write_epochs(block.frame, block.nodes.as_slice(), output)?;
     write_convicted(block.frame, block.nodes.as_slice(), output)?;
@@ -71,9 +62,7 @@ fn write_block<K: Sink>(block: &FrameRecord, output: &mut K) -> Result<(), Faile
 
 // Writes what was delivered in a slot.
 fn write_deliveries<K: Sink>(slot: &SlotRecord, output: &mut K) -> Result<(), Failed>
-    ensures all { OnOk result (Appends (K.held output.old) (K.held output.new) (deliveries_text slot.now.frame slot.now.slot slot.now.lines.items)) }
-    ensures part { OnErr result (AppendsPart (K.held output.old) (K.held output.new) (deliveries_text slot.now.frame slot.now.slot slot.now.lines.items)) }
-    ensures cause { HasCause (K.faults output.old) (K.faults output.new) result }
+    ensures { Writes K.held K.faults output.old output.new result (deliveries_text slot.now.frame slot.now.slot slot.now.lines.items) }
 {
     for line in slot.lines.as_slice() {
         write_line(
@@ -92,9 +81,7 @@ fn write_deliveries<K: Sink>(slot: &SlotRecord, output: &mut K) -> Result<(), Fa
 
 // Writes what a turn says, the newest block before it being that of frame `newest`.
 fn write_turn<K: Sink>(turn: &Turn, newest: u32, output: &mut K) -> Result<(), Failed>
-    ensures all { OnOk result (Appends (K.held output.old) (K.held output.new) (turn_text newest (record_of turn.now))) }
-    ensures part { OnErr result (AppendsPart (K.held output.old) (K.held output.new) (turn_text newest (record_of turn.now))) }
-    ensures cause { HasCause (K.faults output.old) (K.faults output.new) result }
+    ensures { Writes K.held K.faults output.old output.new result (turn_text newest (record_of turn.now)) }
 {
     match turn {
         Turn::Quiet => Ok(()),

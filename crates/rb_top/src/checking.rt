@@ -1,8 +1,9 @@
 //! The text of a check.
-ghost use Rattle.std.specs.Prelude.{◌≡◌, ◌⊎◌, ◌<◌, ◌≤◌, ◌+◌, OnOk, OnErr};
+ghost use Rattle.std.specs.Prelude.{◌≡◌, ◌⊎◌, ◌<◌, ◌≤◌, ◌+◌};
 ghost use Rattle.std.specs.Io.KnownBytes.{Appends};
 ghost use Rattle.rb_outside.specs.Bytes.{AppendsPart};
-ghost use Rattle.rb_outside.specs.Causes.{HasCause, Rose};
+ghost use Rattle.rb_outside.specs.Causes.{Rose};
+ghost use Rattle.rb_outside.specs.Writing.{Writes};
 ghost use Rattle.rb_top.specs.CheckText.{check_text, text_after};
 
 use crate::status::Status;
@@ -23,9 +24,7 @@ fn line_after(plan: &Feasible, before: u8) -> ArrayString<96>
 
 // Writes both sides of the seven inequalities, a line each.
 fn write_check<K: Sink>(plan: &Feasible, output: &mut K) -> Result<(), Failed>
-    ensures all { OnOk result (Appends (K.held output.old) (K.held output.new) (check_text plan.now.sizes plan.now.plan)) }
-    ensures part { OnErr result (AppendsPart (K.held output.old) (K.held output.new) (check_text plan.now.sizes plan.now.plan)) }
-    ensures cause { HasCause (K.faults output.old) (K.faults output.new) result }
+    ensures { Writes K.held K.faults output.old output.new result (check_text plan.now.sizes plan.now.plan) }
 {
     for before in 0..7u8 {
         write_line(output, &line_after(plan, before))?;

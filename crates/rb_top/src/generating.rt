@@ -1,9 +1,10 @@
 //! The text of a generated scenario.
-ghost use Rattle.std.specs.Prelude.{◌≡◌, ◌≤◌, OnOk, OnErr};
+ghost use Rattle.std.specs.Prelude.{◌≡◌, ◌≤◌};
 ghost use Rattle.std.specs.Io.KnownBytes.{Appends};
 ghost use Rattle.std.specs.List.{flat_map};
 ghost use Rattle.rb_outside.specs.Bytes.{AppendsPart};
-ghost use Rattle.rb_outside.specs.Causes.{HasCause, Rose};
+ghost use Rattle.rb_outside.specs.Causes.{Rose};
+ghost use Rattle.rb_outside.specs.Writing.{Writes};
 ghost use Rattle.rb_scenario.specs.Acceptance.{as_scenario};
 ghost use Rattle.rb_gen.specs.Generated.{IsGenerated};
 ghost use Rattle.rb_gen.specs.Text.{lines_of};
@@ -21,9 +22,7 @@ use std::alloc::Global;
 /// Writes the text of a generated scenario, line by line.
 pub(crate) fn write_generated<K: Sink>(scenario: &Scenario, output: &mut K) -> Result<(), Failed>
     requires { IsGenerated (as_scenario scenario.now) }
-    ensures all { OnOk result (Appends (K.held output.old) (K.held output.new) (flat_map (λ text. text) (lines_of (as_scenario scenario.now)))) }
-    ensures part { OnErr result (AppendsPart (K.held output.old) (K.held output.new) (flat_map (λ text. text) (lines_of (as_scenario scenario.now)))) }
-    ensures cause { HasCause (K.faults output.old) (K.faults output.new) result }
+    ensures { Writes K.held K.faults output.old output.new result (flat_map (λ text. text) (lines_of (as_scenario scenario.now))) }
 {
     let mut next = 0;
     while let Some(text) = line(scenario, next) {

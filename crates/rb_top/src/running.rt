@@ -1,8 +1,7 @@
 //! Runs that are told to their end: as a report, or as four numbers.
-ghost use Rattle.std.specs.Prelude.{◌≡◌, ◌≤◌, IsTrue, OnOk, OnErr};
-ghost use Rattle.std.specs.Io.KnownBytes.{Appends};
-ghost use Rattle.rb_outside.specs.Bytes.{AppendsPart};
-ghost use Rattle.rb_outside.specs.Causes.{HasCause, Rose};
+ghost use Rattle.std.specs.Prelude.{◌≡◌, ◌≤◌, IsTrue};
+ghost use Rattle.rb_outside.specs.Causes.{Rose};
+ghost use Rattle.rb_outside.specs.Writing.{Writes};
 ghost use Rattle.rb_rules.specs.Lawful.{IsLawful};
 ghost use Rattle.rb_report.specs.Report.{summary_text};
 ghost use Rattle.rb_scenario.specs.Acceptance.{as_scenario};
@@ -66,18 +65,14 @@ pub(crate) fn report<K: Sink, D: Drive>(
 // Writes one of the four numbers of a run.
 fn write_number<K: Sink>(which: u8, value: u64, output: &mut K) -> Result<(), Failed>
     requires { which ≤ 3 }
-    ensures all { OnOk result (Appends (K.held output.old) (K.held output.new) (summary_text which value)) }
-    ensures part { OnErr result (AppendsPart (K.held output.old) (K.held output.new) (summary_text which value)) }
-    ensures cause { HasCause (K.faults output.old) (K.faults output.new) result }
+    ensures { Writes K.held K.faults output.old output.new result (summary_text which value) }
 {
     write_line(output, &summary_line(which, value))
 }
 
 // Writes the four numbers of a run, a line each.
 fn write_summary<K: Sink>(totals: &Totals, output: &mut K) -> Result<(), Failed>
-    ensures all { OnOk result (Appends (K.held output.old) (K.held output.new) (summary_of totals.now)) }
-    ensures part { OnErr result (AppendsPart (K.held output.old) (K.held output.new) (summary_of totals.now)) }
-    ensures cause { HasCause (K.faults output.old) (K.faults output.new) result }
+    ensures { Writes K.held K.faults output.old output.new result (summary_of totals.now) }
 {
     write_number(0, totals.frames as u64, output)?;
     write_number(1, totals.deliveries, output)?;
