@@ -1,6 +1,6 @@
 -- What is known of the bytes after calls in a row. Below, a, b and c are what is known at one
 -- moment, at a later one and at one later still, and h is what is known where nothing happened.
-use Rattle.std.proofs.Common.{◌≡◌, ℕ, ◌+◌, ◌<◌, List, [], ◌++◌, length, take, drop, Option, None, Some, sym, ap, ◌∙◌, append_assoc, refl, arith, rules, length-append}
+use Rattle.std.proofs.Common.{◌≡◌, ℕ, ◌+◌, ◌<◌, ◌≤◌, List, [], ◌++◌, length, take, drop, Option, None, Some, IsSomeAnd, sym, ap, ◌∙◌, append_assoc, refl, arith, rules, length-append}
 use Rattle.std.proofs.lemmas.List.{take-append-drop}
 use Rattle.std.proofs.Math.Seq.{take-add}
 use Rattle.std.specs.Io.KnownBytes.{Appends, Consumes, Keeps}
@@ -104,6 +104,12 @@ pub gave_within : (xs : List ℕ) (b : Option (List ℕ)) (limit : ℕ)
 gave_within xs None limit p = absurd p.consumed
 gave_within xs (Some ys) limit p =
     omega (arith, p.number, ap length p.consumed, length-append p.given ys)
+
+-- a source that tells few enough bytes gives no more
+pub gave_few : (a b : Option (List ℕ)) (limit : ℕ)
+    → Gave a b (λ n. limit < n) → IsSomeAnd a (λ xs. length xs ≤ limit) → ⊥
+gave_few None b limit p few = few
+gave_few (Some xs) b limit p few = omega (arith, gave_within xs b limit p, few)
 
 -- what is read to the end is what was told
 pub read_bytes : (xs : List ℕ) (b : Option (List ℕ)) (bs : List ℕ)

@@ -3,3 +3,4 @@ pub mod Bytes
 pub mod Memory
 pub mod Standard
 pub mod Writing
+pub mod Reading

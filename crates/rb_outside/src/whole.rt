@@ -1,7 +1,6 @@
 //! All of some bytes out, and all of the input in.
-ghost use Rattle.std.specs.Prelude.{◌≡◌, ◌≢◌, ◌^◌, ◌<◌, ◌≤◌, ◌⊎◌, length, IsOk, IfOk, IsSomeAnd};
-ghost use Rattle.rb_outside.specs.Bytes.{Gave, ReadsToEnd};
-ghost use Rattle.rb_outside.specs.Causes.{Rose};
+ghost use Rattle.std.specs.Prelude.{◌^◌, ◌<◌};
+ghost use Rattle.rb_outside.specs.Reading.{ReadsWithin};
 ghost use Rattle.rb_outside.specs.Writing.{Writes};
 
 use crate::traits::{Failed, Sink, Source};
@@ -49,23 +48,7 @@ const CHUNK: usize = 16_384;
 /// the bytes read, at most `limit` of them.
 pub fn read_all<S: Source>(alloc: Global, input: &mut S, limit: usize) -> Result<Vec<u8>, Unread>
     requires { limit < 2 ^ 32 }
-
-    ensures whole { IfOk result (λ v. ReadsToEnd (S.left input.old) (S.left input.new) v.items) }
-    ensures within { IfOk result (λ v. length v.items ≤ limit) }
-
-    // TooLong is the answer exactly where more bytes than the limit were given.
-    ensures too_long { result ≡ Err Unread.TooLong
-        → Gave (S.left input.old) (S.left input.new) (λ n. limit < n) }
-    ensures not_long { result ≢ Err Unread.TooLong
-        → Gave (S.left input.old) (S.left input.new) (λ n. n ≤ limit) }
-
-    ensures later { S.faults input.old ≤ S.faults input.new }
-    ensures fault { result ≡ Err Unread.Fault → Rose (S.faults input.old) (S.faults input.new) }
-
-    // A source that tells few enough bytes and has no fault is read to its end, if memory lasts.
-    ensures complete { IsSomeAnd (S.left input.old) (λ xs. length xs ≤ limit)
-        → ¬ Rose (S.faults input.old) (S.faults input.new)
-        → IsOk result ⊎ (result ≡ Err Unread.OutOfMemory) }
+    ensures { ReadsWithin S.left S.faults limit input.old input.new result }
 {
     let mut bytes = Vec::new(alloc);
     let mut chunk = [0u8; CHUNK];
