@@ -1,7 +1,9 @@
 -- What was written of a text that is due, and what more is.
-use Rattle.std.proofs.Common.{◌≡◌, ℕ, refl, ap, sym, ◌∙◌, subst, Option, Result, Ok, Err, OnOk, OnErr, List, [], ◌++◌, append_assoc}
+use Rattle.std.proofs.Common.{◌≡◌, ◌≤◌, ℕ, arith, refl, ap, sym, ◌∙◌, subst, Option, Result, Ok, Err, OnOk, OnErr, List, [], ◌++◌, append_assoc}
 use Rattle.std.specs.Io.KnownBytes.{Appends}
 use Rattle.rb_outside.specs.Bytes.{AppendsPart}
+use Rattle.rb_outside.specs.Causes.{HasCause}
+use Rattle.rb_outside.specs.Writing.{Writes}
 use Rattle.rb_outside.proofs.Known.{appends_join, appends_none, part_join}
 use Rattle.rb_rules.specs.Core.{CoreEvent}
 use Rattle.rb_replay.specs.Advancing.{Advances}
@@ -51,13 +53,24 @@ pub advances-failed : {T E : Type 0} (P : List ℕ → Type 0) (due : List ℕ) 
 advances-failed P due first before after (Ok x) a written = tt
 advances-failed P due first before after (Err e) a written = advances-part P due first before after a written
 
--- a call that writes the end ends the text
-pub ends : {T E : Type 0} (P : List ℕ → Type 0) (due bytes : List ℕ) (first before after : Option (List ℕ)) (r : Result T E)
-    → ((rest : List ℕ) → P rest → rest ≡ bytes) → Advances P due first before → OnOk r (Appends before after bytes) → OnOk r (Appends first after due)
-ends P due bytes first before after r is a written =
-    advances-all P due first before after r a (λ rest d. subst (λ text. OnOk r (Appends before after text)) (sym (is rest d)) written)
+-- the cause of a failure holds from an earlier moment on
+has-cause-since : {T E : Type 0} (r : Result T E) (first before after : ℕ) → first ≤ before → HasCause before after r → HasCause first after r
+has-cause-since (Ok x) first before after later c = record { later = omega (arith, later, c.later); rose = tt }
+has-cause-since (Err e) first before after later c = record { later = omega (arith, later, c.later); rose = omega (arith, later, c.rose) }
 
-pub ends-part : {T E : Type 0} (P : List ℕ → Type 0) (due bytes : List ℕ) (first before after : Option (List ℕ)) (r : Result T E)
-    → ((rest : List ℕ) → P rest → rest ≡ bytes) → Advances P due first before → OnErr r (AppendsPart before after bytes) → OnErr r (AppendsPart first after due)
-ends-part P due bytes first before after r is a written =
-    advances-failed P due first before after r a (λ rest d. subst (λ text. OnErr r (AppendsPart before after text)) (sym (is rest d)) written)
+-- a call that writes what is still due, whatever that is, writes what was due at first
+pub advances-writes : {S T E : Type 0} (held : S → Option (List ℕ)) (faults : S → ℕ) (P : List ℕ → Type 0) (due : List ℕ) (first before after : S) (r : Result T E)
+    → faults first ≤ faults before → Advances P due (held first) (held before) → ((rest : List ℕ) → P rest → Writes held faults before after r rest)
+    → Writes held faults first after r due
+advances-writes held faults P due first before after r later a writes = record {
+  all = advances-all P due (held first) (held before) (held after) r a (λ rest d. (writes rest d).all);
+  part = advances-failed P due (held first) (held before) (held after) r a (λ rest d. (writes rest d).part);
+  cause = has-cause-since r (faults first) (faults before) (faults after) later (writes a.rest a.goes_on).cause;
+}
+
+-- a call that writes the end ends the text
+pub ends : {S T E : Type 0} (held : S → Option (List ℕ)) (faults : S → ℕ) (P : List ℕ → Type 0) (due bytes : List ℕ) (first before after : S) (r : Result T E)
+    → ((rest : List ℕ) → P rest → rest ≡ bytes) → faults first ≤ faults before → Advances P due (held first) (held before)
+    → Writes held faults before after r bytes → Writes held faults first after r due
+ends held faults P due bytes first before after r is later a written =
+    advances-writes held faults P due first before after r later a (λ rest d. subst (Writes held faults before after r) (sym (is rest d)) written)

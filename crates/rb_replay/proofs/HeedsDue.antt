@@ -11,6 +11,7 @@ use Rattle.rb_rules.specs.Core.CoreEvent.{Tick, Arrive}
 use Rattle.rb_node.specs.Cores.{Running}
 use Rattle.rb_plan.specs.Timetable.{Timetable}
 use Rattle.rb_outside.specs.Bytes.{AppendsPart}
+use Rattle.rb_outside.specs.Writing.{Writes}
 use Rattle.rb_outside.proofs.Known.{appends_none, part_widens}
 use Rattle.rb_report.specs.Report.{end_text}
 use Rattle.rb_listen.specs.Listeners.{Hearer, IsListening, IsListeningIn, IsSameBus, had_at, had_in}
@@ -178,14 +179,8 @@ from-none h name n events due before after a =
     let e : 0 + n ≡ n = omega arith in subst (λ k. Advances (IsDue h name k events) due before after) e a
 
 -- the end alone was written
-pub ends-at-once : {T E : Type 0} (sizes : Sizes) (plan : Plan) (name : NodeName) (skip : ℕ) (events : List CoreEvent) (bytes : List ℕ) (before after : Option (List ℕ)) (r : Result T E)
-    → from_tick skip events ≡ [] → bytes ≡ end_text 0 → OnOk r (Appends before after bytes)
-    → OnOk r (Appends before after (overheard_text sizes plan name skip events))
-ends-at-once sizes plan name skip events bytes before after r none is written =
-    subst (λ text. OnOk r (Appends before after text)) (is ∙ sym (nothing-told sizes plan name skip events none)) written
-
-pub fails-at-once : {T E : Type 0} (sizes : Sizes) (plan : Plan) (name : NodeName) (skip : ℕ) (events : List CoreEvent) (bytes : List ℕ) (before after : Option (List ℕ)) (r : Result T E)
-    → from_tick skip events ≡ [] → bytes ≡ end_text 0 → OnErr r (AppendsPart before after bytes)
-    → OnErr r (AppendsPart before after (overheard_text sizes plan name skip events))
-fails-at-once sizes plan name skip events bytes before after r none is written =
-    subst (λ text. OnErr r (AppendsPart before after text)) (is ∙ sym (nothing-told sizes plan name skip events none)) written
+pub ends-at-once : {S T E : Type 0} (held : S → Option (List ℕ)) (faults : S → ℕ) (sizes : Sizes) (plan : Plan) (name : NodeName) (skip : ℕ) (events : List CoreEvent) (bytes : List ℕ) (before after : S) (r : Result T E)
+    → from_tick skip events ≡ [] → bytes ≡ end_text 0 → Writes held faults before after r bytes
+    → Writes held faults before after r (overheard_text sizes plan name skip events)
+ends-at-once held faults sizes plan name skip events bytes before after r none is written =
+    subst (Writes held faults before after r) (is ∙ sym (nothing-told sizes plan name skip events none)) written

@@ -1,12 +1,13 @@
 -- A replay as it goes on.
-use Rattle.std.specs.Prelude.{ℕ, ◌+◌, ◌≡◌, ◌≤◌, List, ◌++◌}
+use Rattle.std.specs.Prelude.{ℕ, ◌+◌, ◌≡◌, ◌≤◌, List, ◌++◌, Option, Result, IfOk}
 use Rattle.std.specs.List.{flat_map}
 use Rattle.rb_base.specs.Nodes.{Side}
 use Rattle.rb_base.specs.declared.node.NodeName.{NodeName}
 use Rattle.rb_rules.specs.Core.{Act, Core, CoreEvent, acts_of}
 use Rattle.rb_node.specs.Cores.{IsCore, Running}
 use Rattle.rb_report.specs.Report.{end_text}
-use Rattle.rb_laws_logs.specs.Replays.{act_lines, frames_in}
+use Rattle.rb_outside.specs.Writing.{Writes}
+use Rattle.rb_laws_logs.specs.Replays.{act_lines, frames_in, frames_with}
 
 -- the acts of a core that sits where the node sits
 abbrev pub acts_at : Side → Running → Core → List CoreEvent → List Act
@@ -22,3 +23,9 @@ pub record IsDue (me : Side) (n : Running) (name : NodeName) (frames : ℕ) (eve
   pub stands : IsCore n core
   pub few : frames ≤ core.had
   pub text : due ≡ text_after name frames (acts_at me n core events)
+
+-- a tick was given to a node, whose core acts so, and the lines of that were written; the answer is how many frames above 0 begin
+pub record TellsAct {S E : Type 0} (held : S → Option (List ℕ)) (faults : S → ℕ) (name : NodeName) (x : Act) (n : Running) (before after : S) (result : Result ℕ E) : Type 0 where
+  pub core : IsCore n x.core
+  pub written : Writes held faults before after result (act_lines name x)
+  pub begun : IfOk result (λ k. k ≡ frames_with x.epoch)

@@ -1,8 +1,7 @@
 //! What a node or a listener tells, as lines.
-ghost use Rattle.std.specs.Prelude.{◌≡◌, ◌≤◌, ◌++◌, OnOk, OnErr};
-ghost use Rattle.std.specs.Io.KnownBytes.{Appends};
-ghost use Rattle.rb_outside.specs.Bytes.{AppendsPart};
+ghost use Rattle.std.specs.Prelude.{◌≡◌, ◌≤◌, ◌++◌};
 ghost use Rattle.rb_outside.specs.Causes.{HasCause};
+ghost use Rattle.rb_outside.specs.Writing.{Writes};
 ghost use Rattle.rb_laws_logs.specs.Given.{index_of};
 ghost use Rattle.rb_laws_logs.specs.Replays.{act_lines, delivery_lines, epoch_lines, frames_with};
 ghost use Rattle.rb_node.specs.Acts.{IsAct};
@@ -23,9 +22,8 @@ fn write_two<S: Sink>(
     second: &ArrayString<96>,
     output: &mut S,
 ) -> Result<(), Failed>
-    ensures all { OnOk result (Appends (S.held output.old) (S.held output.new) (first.now.bytes ++ second.now.bytes)) }
-    ensures part { OnErr result (AppendsPart (S.held output.old) (S.held output.new) (first.now.bytes ++ second.now.bytes)) }
-    ensures cause { HasCause (S.faults output.old) (S.faults output.new) result }
+    ensures { Writes S.held
+        S.faults output.old output.new result (first.now.bytes ++ second.now.bytes) }
 {
     write_line(output, first)?;
     write_line(output, second)
@@ -35,9 +33,7 @@ fn write_two<S: Sink>(
 // holds convicted.
 #[inline(always)]
 fn write_epoch<S: Sink>(node: NodeName, epoch: Option<Epoch>, output: &mut S) -> Result<(), Failed>
-    ensures all { OnOk result (Appends (S.held output.old) (S.held output.new) (epoch_lines node epoch)) }
-    ensures part { OnErr result (AppendsPart (S.held output.old) (S.held output.new) (epoch_lines node epoch)) }
-    ensures cause { HasCause (S.faults output.old) (S.faults output.new) result }
+    ensures { Writes S.held S.faults output.old output.new result (epoch_lines node epoch) }
 {
     match epoch {
         Some(epoch) => {
@@ -65,9 +61,8 @@ fn write_delivery<S: Sink>(
     delivered: &Option<Delivery>,
     output: &mut S,
 ) -> Result<(), Failed>
-    ensures all { OnOk result (Appends (S.held output.old) (S.held output.new) (delivery_lines node delivered.now)) }
-    ensures part { OnErr result (AppendsPart (S.held output.old) (S.held output.new) (delivery_lines node delivered.now)) }
-    ensures cause { HasCause (S.faults output.old) (S.faults output.new) result }
+    ensures { Writes S.held
+        S.faults output.old output.new result (delivery_lines node delivered.now) }
 {
     match delivered {
         Some(d) => write_line(
@@ -88,10 +83,8 @@ pub(crate) fn write_step<S: Sink>(
     shown: &Closed,
     output: &mut S,
 ) -> Result<(), Failed>
-    ensures all { (x : Act) → IsAct shown.now step.now x
-        → OnOk result (Appends (S.held output.old) (S.held output.new) (act_lines node x)) }
-    ensures part { (x : Act) → IsAct shown.now step.now x
-        → OnErr result (AppendsPart (S.held output.old) (S.held output.new) (act_lines node x)) }
+    ensures writes { (x : Act) → IsAct shown.now step.now x
+        → Writes S.held S.faults output.old output.new result (act_lines node x) }
     ensures cause { HasCause (S.faults output.old) (S.faults output.new) result }
 {
     write_epoch(node, step.epoch, output)?;
@@ -116,9 +109,7 @@ pub(crate) fn frames_by(epoch: Option<Epoch>) -> u32
 /// Writes what a listener tells at a tick under the name of a node.
 #[tactic(auto, using(crate::proofs::Written::in_turn))]
 pub(crate) fn write_heed<S: Sink>(node: NodeName, heed: Heed, output: &mut S) -> Result<(), Failed>
-    ensures all { OnOk result (Appends (S.held output.old) (S.held output.new) (heed_lines node heed)) }
-    ensures part { OnErr result (AppendsPart (S.held output.old) (S.held output.new) (heed_lines node heed)) }
-    ensures cause { HasCause (S.faults output.old) (S.faults output.new) result }
+    ensures { Writes S.held S.faults output.old output.new result (heed_lines node heed) }
 {
     write_epoch(node, heed.epoch, output)?;
     write_delivery(node, &heed.delivered, output)

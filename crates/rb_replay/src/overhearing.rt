@@ -1,15 +1,14 @@
 //! A log that a listener is given.
-ghost use Rattle.std.specs.Prelude.{◌≡◌, ℕ, ◌+◌, ◌≤◌, ◌<◌, ◌∷◌, ◌^◌, IfOk, List, OnOk, OnErr, [], length, true, false};
-ghost use Rattle.std.specs.Io.KnownBytes.{Appends};
+ghost use Rattle.std.specs.Prelude.{◌≡◌, ℕ, ◌+◌, ◌≤◌, ◌<◌, ◌∷◌, ◌^◌, IfOk, List, [], length, true, false};
 ghost use Rattle.rb_log.specs.Cursor.{shown};
 ghost use Rattle.rb_listen.specs.Listeners.{IsListening, IsSameBus, had_at, passing_end};
 ghost use Rattle.rb_listen.specs.Listening.{Listening, heed};
-ghost use Rattle.rb_outside.specs.Bytes.{AppendsPart};
 ghost use Rattle.rb_outside.specs.Causes.{HasCause};
+ghost use Rattle.rb_outside.specs.Writing.{Writes};
 ghost use Rattle.rb_rules.specs.Core.CoreEvent.{Tick};
-ghost use Rattle.rb_replay.specs.Advancing.{Advances};
-ghost use Rattle.rb_replay.specs.ListeningOn.{IsDue};
-ghost use Rattle.rb_replay.specs.Overhearing.{begun_with, from_tick, heed_lines, is_of_biu, overheard_text};
+ghost use Rattle.rb_replay.specs.Advancing.{AdvancesBy};
+ghost use Rattle.rb_replay.specs.ListeningOn.{IsDue, TellsHeed};
+ghost use Rattle.rb_replay.specs.Overhearing.{from_tick, is_of_biu, overheard_text};
 
 use crate::lines::{begun_by, write_heed};
 use rb_base::{MOST_TICKS, NodeName};
@@ -43,17 +42,9 @@ fn give_tick<S: Sink>(
     name: NodeName,
     output: &mut S,
 ) -> Result<u32, Failed>
-    ensures stands { (l : Listening) → IsListening listener.old l
-        → IsListening listener.new (heed listener.old.sizes listener.old.plan l).listening }
-    ensures all { (l : Listening) → IsListening listener.old l
-        → OnOk result (Appends (S.held output.old) (S.held output.new)
-        (heed_lines name (heed listener.old.sizes listener.old.plan l).heed)) }
-    ensures part { (l : Listening) → IsListening listener.old l
-        → OnErr result (AppendsPart (S.held output.old) (S.held output.new)
-        (heed_lines name (heed listener.old.sizes listener.old.plan l).heed)) }
-    ensures begun { (l : Listening) → IsListening listener.old l
-        → IfOk result (λ n. n
-        ≡ begun_with (heed listener.old.sizes listener.old.plan l).heed.epoch) }
+    ensures told { (l : Listening) → IsListening listener.old l
+        → TellsHeed S.held S.faults name (heed listener.old.sizes listener.old.plan l) listener.new
+        output.old output.new result }
     ensures most { IfOk result (λ n. n ≤ 1) }
     ensures cause { HasCause (S.faults output.old) (S.faults output.new) result }
     ensures same { IsSameBus listener.old listener.new }
@@ -70,12 +61,10 @@ fn give_ticks<S: Sink>(
     name: NodeName,
     output: &mut S,
 ) -> Result<u32, Failed>
-    ensures advances { (word begun : ℕ) (due : List ℕ)
+    ensures gives { (word begun : ℕ) (due : List ℕ)
         → IsDue listener.old name begun (Tick word ∷ log.old.events) due
-        → IfOk result (λ n. Advances (IsDue listener.new name (begun + n) log.new.events) due (S.held output.old) (S.held output.new)) }
-    ensures part { (word begun : ℕ) (due : List ℕ)
-        → IsDue listener.old name begun (Tick word ∷ log.old.events) due
-        → OnErr result (AppendsPart (S.held output.old) (S.held output.new) due) }
+        → AdvancesBy S.held (λ n. IsDue listener.new name (begun + n) log.new.events) due
+        output.old output.new result }
     ensures most { IfOk result (λ n. n ≤ 1) }
     ensures shorter { length log.new.events ≤ length log.old.events }
     ensures cause { HasCause (S.faults output.old) (S.faults output.new) result }
@@ -94,12 +83,10 @@ fn give<S: Sink>(
     event: LogEvent<'_>,
     output: &mut S,
 ) -> Result<u32, Failed>
-    ensures advances { (begun : ℕ) (due : List ℕ)
+    ensures gives { (begun : ℕ) (due : List ℕ)
         → IsDue listener.old name begun (shown event.entry ∷ log.old.events) due
-        → IfOk result (λ n. Advances (IsDue listener.new name (begun + n) log.new.events) due (S.held output.old) (S.held output.new)) }
-    ensures part { (begun : ℕ) (due : List ℕ)
-        → IsDue listener.old name begun (shown event.entry ∷ log.old.events) due
-        → OnErr result (AppendsPart (S.held output.old) (S.held output.new) due) }
+        → AdvancesBy S.held (λ n. IsDue listener.new name (begun + n) log.new.events) due
+        output.old output.new result }
     ensures most { IfOk result (λ n. n ≤ 1) }
     ensures shorter { length log.new.events ≤ length log.old.events }
     ensures cause { HasCause (S.faults output.old) (S.faults output.new) result }
@@ -145,10 +132,8 @@ fn listen_on<S: Sink>(
     output: &mut S,
 ) -> Result<(), Failed>
     requires { (due : List ℕ) × IsDue listener name first log.events due }
-    ensures all { (due : List ℕ) → IsDue listener name first log.entry.events due
-        → OnOk result (Appends (S.held output.old) (S.held output.new) due) }
-    ensures part { (due : List ℕ) → IsDue listener name first log.entry.events due
-        → OnErr result (AppendsPart (S.held output.old) (S.held output.new) due) }
+    ensures writes { (due : List ℕ) → IsDue listener name first log.entry.events due
+        → Writes S.held S.faults output.old output.new result due }
     ensures cause { HasCause (S.faults output.old) (S.faults output.new) result }
 {
     let mut begun = first;
@@ -176,11 +161,9 @@ pub fn is_biu(log: &LogReader<'_>) -> bool
 /// log is dropped. `Failed` comes only where the sink failed, and then a first part of the text was
 /// taken. Quiet ticks in a row are passed at once, however many.
 pub fn listen<S: Sink>(log: LogReader<'_>, skip: u32, output: &mut S) -> Result<(), Failed>
-    ensures all { OnOk result (Appends (S.held output.old) (S.held output.new)
-        (overheard_text log.entry.timetable.sizes log.entry.timetable.plan log.entry.node skip log.entry.events)) }
-    ensures part { OnErr result (AppendsPart (S.held output.old) (S.held output.new)
-        (overheard_text log.entry.timetable.sizes log.entry.timetable.plan log.entry.node skip log.entry.events)) }
-    ensures cause { HasCause (S.faults output.old) (S.faults output.new) result }
+    ensures { Writes S.held S.faults output.old output.new result
+        (overheard_text log.entry.timetable.sizes log.entry.timetable.plan log.entry.node skip
+        log.entry.events) }
 {
     let mut log = log;
     let mut listener = Listener::new(log.plan());

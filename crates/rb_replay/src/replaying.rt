@@ -1,16 +1,15 @@
 //! A log that is given to a core again.
-ghost use Rattle.std.specs.Prelude.{◌≡◌, ℕ, ◌+◌, ◌≤◌, ◌∷◌, ◌^◌, ◌<◌, IfOk, List, OnOk, OnErr, [], length};
-ghost use Rattle.std.specs.Io.KnownBytes.{Appends};
+ghost use Rattle.std.specs.Prelude.{◌≡◌, ℕ, ◌+◌, ◌≤◌, ◌∷◌, ◌^◌, ◌<◌, IfOk, List, OnOk, [], length};
 ghost use Rattle.rb_base.specs.Nodes.{side_of};
-ghost use Rattle.rb_laws_logs.specs.Replays.{act_lines, frames_with, replay_text};
+ghost use Rattle.rb_laws_logs.specs.Replays.{replay_text};
 ghost use Rattle.rb_log.specs.Cursor.{shown};
 ghost use Rattle.rb_node.specs.Cores.{IsCore, IsSameNode, arrive_of, passing_end, tick_of};
-ghost use Rattle.rb_outside.specs.Bytes.{AppendsPart};
 ghost use Rattle.rb_outside.specs.Causes.{HasCause};
+ghost use Rattle.rb_outside.specs.Writing.{Writes};
 ghost use Rattle.rb_rules.specs.Core.{Core};
 ghost use Rattle.rb_rules.specs.Core.CoreEvent.{Tick};
-ghost use Rattle.rb_replay.specs.Advancing.{Advances};
-ghost use Rattle.rb_replay.specs.Replaying.{IsDue};
+ghost use Rattle.rb_replay.specs.Advancing.{AdvancesBy};
+ghost use Rattle.rb_replay.specs.Replaying.{IsDue, TellsAct};
 
 use crate::lines::{frames_by, write_step};
 use rb_base::{Biu, Kind, MOST_TICKS, NodeName, Rmu};
@@ -46,14 +45,9 @@ fn give_tick<K: Kind, S: Sink>(
     word: u32,
     output: &mut S,
 ) -> Result<u32, Failed>
-    ensures core { (c : Core) → IsCore node.old c
-        → IsCore node.new (tick_of (side_of K.CODE) node.old c word).core }
-    ensures all { (c : Core) → IsCore node.old c
-        → OnOk result (Appends (S.held output.old) (S.held output.new) (act_lines name (tick_of (side_of K.CODE) node.old c word))) }
-    ensures part { (c : Core) → IsCore node.old c
-        → OnErr result (AppendsPart (S.held output.old) (S.held output.new) (act_lines name (tick_of (side_of K.CODE) node.old c word))) }
-    ensures begun { (c : Core) → IsCore node.old c
-        → IfOk result (λ n. n ≡ frames_with (tick_of (side_of K.CODE) node.old c word).epoch) }
+    ensures told { (c : Core) → IsCore node.old c
+        → TellsAct S.held S.faults name (tick_of (side_of K.CODE) node.old c word) node.new
+        output.old output.new result }
     ensures most { IfOk result (λ n. n ≤ 1) }
     ensures cause { HasCause (S.faults output.old) (S.faults output.new) result }
     ensures same { IsSameNode node.old node.new }
@@ -71,12 +65,11 @@ fn give_ticks<K: Kind, S: Sink>(
     word: u32,
     output: &mut S,
 ) -> Result<u32, Failed>
-    ensures advances { (frames : ℕ) (due : List ℕ)
+    ensures gives { (frames : ℕ) (due : List ℕ)
         → IsDue (side_of K.CODE) node.old name frames (Tick word ∷ log.old.events) due
-        → IfOk result (λ n. Advances (IsDue (side_of K.CODE) node.new name (frames + n) log.new.events) due (S.held output.old) (S.held output.new)) }
-    ensures part { (frames : ℕ) (due : List ℕ)
-        → IsDue (side_of K.CODE) node.old name frames (Tick word ∷ log.old.events) due
-        → OnErr result (AppendsPart (S.held output.old) (S.held output.new) due) }
+        → AdvancesBy S.held
+        (λ n. IsDue (side_of K.CODE) node.new name (frames + n) log.new.events) due
+        output.old output.new result }
     ensures most { IfOk result (λ n. n ≤ 1) }
     ensures had { OnOk result (node.new.had ≤ 2 ^ 31) }
     ensures shorter { length log.new.events ≤ length log.old.events }
@@ -96,12 +89,11 @@ fn give<K: Kind, S: Sink>(
     event: LogEvent<'_>,
     output: &mut S,
 ) -> Result<u32, Failed>
-    ensures advances { (frames : ℕ) (due : List ℕ)
+    ensures gives { (frames : ℕ) (due : List ℕ)
         → IsDue (side_of K.CODE) node.old name frames (shown event.entry ∷ log.old.events) due
-        → IfOk result (λ n. Advances (IsDue (side_of K.CODE) node.new name (frames + n) log.new.events) due (S.held output.old) (S.held output.new)) }
-    ensures part { (frames : ℕ) (due : List ℕ)
-        → IsDue (side_of K.CODE) node.old name frames (shown event.entry ∷ log.old.events) due
-        → OnErr result (AppendsPart (S.held output.old) (S.held output.new) due) }
+        → AdvancesBy S.held
+        (λ n. IsDue (side_of K.CODE) node.new name (frames + n) log.new.events) due
+        output.old output.new result }
     ensures most { IfOk result (λ n. n ≤ 1) }
     ensures had { OnOk result (node.old.had ≤ 2 ^ 31 → node.new.had ≤ 2 ^ 31) }
     ensures shorter { length log.new.events ≤ length log.old.events }
@@ -124,11 +116,9 @@ fn replay_at<K: Kind, S: Sink>(
 ) -> Result<(), Failed>
     requires { IsDue (side_of K.CODE) node log.node 0 log.events
         (replay_text log.timetable.sizes log.timetable.plan log.node log.events) }
-    ensures all { OnOk result (Appends (S.held output.old) (S.held output.new)
-        (replay_text log.entry.timetable.sizes log.entry.timetable.plan log.entry.node log.entry.events)) }
-    ensures part { OnErr result (AppendsPart (S.held output.old) (S.held output.new)
-        (replay_text log.entry.timetable.sizes log.entry.timetable.plan log.entry.node log.entry.events)) }
-    ensures cause { HasCause (S.faults output.old) (S.faults output.new) result }
+    ensures { Writes S.held S.faults output.old output.new result
+        (replay_text log.entry.timetable.sizes log.entry.timetable.plan log.entry.node
+        log.entry.events) }
 {
     let name = log.node();
     let _had = node.had();
@@ -145,11 +135,9 @@ fn replay_at<K: Kind, S: Sink>(
 /// the number of frames above 0 that began. `Failed` comes only where the sink failed, and then a
 /// first part of the text was taken. Quiet ticks in a row are passed at once, however many.
 pub fn replay<S: Sink>(log: LogReader<'_>, output: &mut S) -> Result<(), Failed>
-    ensures all { OnOk result (Appends (S.held output.old) (S.held output.new)
-        (replay_text log.entry.timetable.sizes log.entry.timetable.plan log.entry.node log.entry.events)) }
-    ensures part { OnErr result (AppendsPart (S.held output.old) (S.held output.new)
-        (replay_text log.entry.timetable.sizes log.entry.timetable.plan log.entry.node log.entry.events)) }
-    ensures cause { HasCause (S.faults output.old) (S.faults output.new) result }
+    ensures { Writes S.held S.faults output.old output.new result
+        (replay_text log.entry.timetable.sizes log.entry.timetable.plan log.entry.node
+        log.entry.events) }
 {
     match log.node() {
         NodeName::Biu(number) => replay_at(Node::<Biu>::new(log.plan(), number), log, output),

@@ -4,7 +4,7 @@ use Rattle.rb_log.specs.Cursor.{shown}
 use Rattle.rb_report.specs.Report.{end_text}
 use Rattle.rb_listen.specs.Listening.{had_by}
 use Rattle.rb_replay.specs.ListeningOn.{IsDue}
-use Rattle.rb_replay.proofs.Advanced.{advances-is, advances-more, advances-none, advances-part, ends, ends-part}
+use Rattle.rb_replay.proofs.Advanced.{advances-is, advances-more, advances-none, advances-part, ends}
 use Rattle.rb_replay.proofs.HeedsDue.{end-is}
 use Rattle.rb_replay.proofs.Events.{first-is, none-left}
 use Rattle.rb_replay.proofs.overhearing.listen_on.Goals as goal
@@ -15,15 +15,17 @@ events-init g c = record {
   later = search rules;
 }
 
-pub returns-in_err-begun-clause-part : goal.returns-in_err-begun-clause-part
-returns-in_err-begun-clause-part g c =
-    λ due d.
-    on_err c.from_residual.result
-    (advances-part (IsDue c.events.listener c.args.name c.events.begun (shown c.in-Some.event ∷ c.next.new.self.events)) due _ _ _
-    (advances-is (IsDue c.events.listener c.args.name c.events.begun) c.events.log.events _ due _ _
-    (first-is (shown c.in-Some.event) c.events.log.events c.next.new.self.events c.in-Some.ensures.event c.in-Some.ensures.rest)
-    (c.events.invariant.due due d))
-    (λ rest more. c.in_err-begun.ensures.part c.events.begun rest more))
+pub returns-in_err-begun-clause-writes : goal.returns-in_err-begun-clause-writes
+returns-in_err-begun-clause-writes g c = λ due d. record {
+  all = search rules;
+  part = on_err c.from_residual.result
+      (advances-part (IsDue c.events.listener c.args.name c.events.begun (shown c.in-Some.event ∷ c.next.new.self.events)) due _ _ _
+      (advances-is (IsDue c.events.listener c.args.name c.events.begun) c.events.log.events _ due _ _
+      (first-is (shown c.in-Some.event) c.events.log.events c.next.new.self.events c.in-Some.ensures.event c.in-Some.ensures.rest)
+      (c.events.invariant.due due d))
+      (λ rest more. (c.in_err-begun.ensures.gives c.events.begun rest more).part));
+  cause = search rules;
+}
 
 pub overflow_add-begun : goal.overflow_add-begun
 overflow_add-begun g c =
@@ -40,26 +42,16 @@ events-preserved g c = record {
       (advances-is (IsDue c.events.listener c.args.name c.events.begun) c.events.log.events _ due _ _
       (first-is (shown c.in-Some.event) c.events.log.events c.next.new.self.events c.in-Some.ensures.event c.in-Some.ensures.rest)
       (c.events.invariant.due due d))
-      (λ rest more. c.in_ok-begun.ensures.advances c.events.begun rest more);
+      (λ rest more. (c.in_ok-begun.ensures.gives c.events.begun rest more).advances);
   later = search rules;
 }
 
-pub returns-clause-all : goal.returns-clause-all
-returns-clause-all g c =
+pub returns-clause-writes : goal.returns-clause-writes
+returns-clause-writes g c =
     λ due d.
-    ends (IsDue c.events.listener c.args.name c.events.begun []) due _ _ _ _ c.write_line.result
-    (end-is c.events.listener c.args.name c.events.begun _ (c.end_line.ensures.bytes ∙ ap end_text c.saturating_sub.ensures))
+    ends g.S.Sink.held g.S.Sink.faults (IsDue c.events.listener c.args.name c.events.begun []) due _ _ _ _ c.write_line.result
+    (end-is c.events.listener c.args.name c.events.begun _ (c.end_line.ensures.bytes ∙ ap end_text c.saturating_sub.ensures)) c.events.invariant.later
     (advances-is (IsDue c.events.listener c.args.name c.events.begun) c.events.log.events [] due _ _
     (none-left c.next.result c.events.log.events c.in_default.is c.next.ensures.event)
     (c.events.invariant.due due d))
-    c.write_line.ensures.all
-
-pub returns-clause-part : goal.returns-clause-part
-returns-clause-part g c =
-    λ due d.
-    ends-part (IsDue c.events.listener c.args.name c.events.begun []) due _ _ _ _ c.write_line.result
-    (end-is c.events.listener c.args.name c.events.begun _ (c.end_line.ensures.bytes ∙ ap end_text c.saturating_sub.ensures))
-    (advances-is (IsDue c.events.listener c.args.name c.events.begun) c.events.log.events [] due _ _
-    (none-left c.next.result c.events.log.events c.in_default.is c.next.ensures.event)
-    (c.events.invariant.due due d))
-    c.write_line.ensures.part
+    c.write_line.ensures

@@ -5,7 +5,7 @@ use Rattle.rb_log.specs.Cursor.{shown}
 use Rattle.rb_laws_logs.specs.Replays.{replay_text}
 use Rattle.rb_replay.specs.Replaying.{IsDue}
 use Rattle.rb_replay.proofs.ActsDue.{end-is}
-use Rattle.rb_replay.proofs.Advanced.{advances-is, advances-more, advances-none, advances-part, ends, ends-part}
+use Rattle.rb_replay.proofs.Advanced.{advances-is, advances-more, advances-none, advances-part, ends}
 use Rattle.rb_replay.proofs.Events.{first-is, none-left}
 use Rattle.rb_replay.proofs.replaying.replay_at.Goals as goal
 
@@ -18,14 +18,17 @@ events-init g c = record {
   later = search rules;
 }
 
-pub returns-in_err-frames-clause-part : goal.returns-in_err-frames-clause-part
-returns-in_err-frames-clause-part g c =
-    on_err c.from_residual.result
-    (advances-part (IsDue (side_of g.K.Kind.CODE) c.events.node c.node-name.result c.events.frames (shown c.in-Some.event ∷ c.next.new.self.events)) _ _ _ _
-    (advances-is (IsDue (side_of g.K.Kind.CODE) c.events.node c.node-name.result c.events.frames) c.events.log.events _ _ _ _
-    (first-is (shown c.in-Some.event) c.events.log.events c.next.new.self.events c.in-Some.ensures.event c.in-Some.ensures.rest)
-    c.events.invariant.due)
-    (λ rest d. c.in_err-frames.ensures.part c.events.frames rest d))
+pub returns-in_err-frames : goal.returns-in_err-frames
+returns-in_err-frames g c = record {
+  all = search rules;
+  part = on_err c.from_residual.result
+      (advances-part (IsDue (side_of g.K.Kind.CODE) c.events.node c.node-name.result c.events.frames (shown c.in-Some.event ∷ c.next.new.self.events)) _ _ _ _
+      (advances-is (IsDue (side_of g.K.Kind.CODE) c.events.node c.node-name.result c.events.frames) c.events.log.events _ _ _ _
+      (first-is (shown c.in-Some.event) c.events.log.events c.next.new.self.events c.in-Some.ensures.event c.in-Some.ensures.rest)
+      c.events.invariant.due)
+      (λ rest d. (c.in_err-frames.ensures.gives c.events.frames rest d).part));
+  cause = search rules;
+}
 
 pub overflow_add-frames : goal.overflow_add-frames
 overflow_add-frames g c =
@@ -40,25 +43,16 @@ events-preserved g c = record {
       (advances-is (IsDue (side_of g.K.Kind.CODE) c.events.node c.node-name.result c.events.frames) c.events.log.events _ _ _ _
       (first-is (shown c.in-Some.event) c.events.log.events c.next.new.self.events c.in-Some.ensures.event c.in-Some.ensures.rest)
       c.events.invariant.due)
-      (λ rest d. c.in_ok-frames.ensures.advances c.events.frames rest d);
+      (λ rest d. (c.in_ok-frames.ensures.gives c.events.frames rest d).advances);
   most = c.in_ok-frames.ensures.had c.events.invariant.most;
   later = search rules;
 }
 
-pub returns-clause-all : goal.returns-clause-all
-returns-clause-all g c =
-    ends (IsDue (side_of g.K.Kind.CODE) c.events.node c.node-name.result c.events.frames []) _ _ _ _ _ c.write_line.result
-    (end-is (side_of g.K.Kind.CODE) c.events.node c.node-name.result c.events.frames _ c.end_line.ensures.bytes)
+pub returns : goal.returns
+returns g c =
+    ends g.S.Sink.held g.S.Sink.faults (IsDue (side_of g.K.Kind.CODE) c.events.node c.node-name.result c.events.frames []) _ _ _ _ _ c.write_line.result
+    (end-is (side_of g.K.Kind.CODE) c.events.node c.node-name.result c.events.frames _ c.end_line.ensures.bytes) c.events.invariant.later
     (advances-is (IsDue (side_of g.K.Kind.CODE) c.events.node c.node-name.result c.events.frames) c.events.log.events [] _ _ _
     (none-left c.next.result c.events.log.events c.in_default.is c.next.ensures.event)
     c.events.invariant.due)
-    c.write_line.ensures.all
-
-pub returns-clause-part : goal.returns-clause-part
-returns-clause-part g c =
-    ends-part (IsDue (side_of g.K.Kind.CODE) c.events.node c.node-name.result c.events.frames []) _ _ _ _ _ c.write_line.result
-    (end-is (side_of g.K.Kind.CODE) c.events.node c.node-name.result c.events.frames _ c.end_line.ensures.bytes)
-    (advances-is (IsDue (side_of g.K.Kind.CODE) c.events.node c.node-name.result c.events.frames) c.events.log.events [] _ _ _
-    (none-left c.next.result c.events.log.events c.in_default.is c.next.ensures.event)
-    c.events.invariant.due)
-    c.write_line.ensures.part
+    c.write_line.ensures
