@@ -29,7 +29,8 @@ fn write_epochs<K: Sink>(frame: u32, nodes: &[NodeLine], output: &mut K) -> Resu
 
 // Writes whom each node holds convicted.
 fn write_convicted<K: Sink>(frame: u32, nodes: &[NodeLine], output: &mut K) -> Result<(), Failed>
-    ensures { Writes K.held K.faults output.old output.new result (convictions_text frame nodes.now) }
+    ensures { Writes K.held K.faults output.old output.new result
+        (convictions_text frame nodes.now) }
 {
     for node in nodes {
         write_line(
@@ -53,7 +54,8 @@ fn write_ports<K: Sink>(frame: u32, ports: &[PortLine], output: &mut K) -> Resul
 // Writes the block of a frame.
 #[tactic(auto, using(rb_outside::proofs::Known::writes_in_turn))]
 fn write_block<K: Sink>(block: &FrameRecord, output: &mut K) -> Result<(), Failed>
-    ensures { Writes K.held K.faults output.old output.new result (block_text block.now.frame block.now.nodes.items block.now.ports.items) }
+    ensures { Writes K.held K.faults output.old output.new result
+        (block_text block.now.frame block.now.nodes.items block.now.ports.items) }
 {
     write_epochs(block.frame, block.nodes.as_slice(), output)?;
     write_convicted(block.frame, block.nodes.as_slice(), output)?;
@@ -62,7 +64,8 @@ fn write_block<K: Sink>(block: &FrameRecord, output: &mut K) -> Result<(), Faile
 
 // Writes what was delivered in a slot.
 fn write_deliveries<K: Sink>(slot: &SlotRecord, output: &mut K) -> Result<(), Failed>
-    ensures { Writes K.held K.faults output.old output.new result (deliveries_text slot.now.frame slot.now.slot slot.now.lines.items) }
+    ensures { Writes K.held K.faults output.old output.new result
+        (deliveries_text slot.now.frame slot.now.slot slot.now.lines.items) }
 {
     for line in slot.lines.as_slice() {
         write_line(
@@ -81,7 +84,8 @@ fn write_deliveries<K: Sink>(slot: &SlotRecord, output: &mut K) -> Result<(), Fa
 
 // Writes what a turn says, the newest block before it being that of frame `newest`.
 fn write_turn<K: Sink>(turn: &Turn, newest: u32, output: &mut K) -> Result<(), Failed>
-    ensures { Writes K.held K.faults output.old output.new result (turn_text newest (record_of turn.now)) }
+    ensures { Writes K.held K.faults output.old output.new result
+        (turn_text newest (record_of turn.now)) }
 {
     match turn {
         Turn::Quiet => Ok(()),
@@ -113,8 +117,10 @@ pub fn write_run<K: Sink, D: Drive>(
     output: &mut K,
 ) -> Result<Ending, Failed>
     requires { HasGivenNothing world.old }
-    ensures all { OnOk result (WritesAll world.old.bus (D.is_plain drive.old) (D.told drive.old) (D.told drive.new) (K.held output.old) (K.held output.new)) }
-    ensures part { OnErr result (WritesPart world.old.bus (D.is_plain drive.old) (D.told drive.old) (D.told drive.new) (K.held output.old) (K.held output.new)) }
+    ensures all { OnOk result (WritesAll world.old.bus (D.is_plain drive.old)
+        (D.told drive.old) (D.told drive.new) (K.held output.old) (K.held output.new)) }
+    ensures part { OnErr result (WritesPart world.old.bus (D.is_plain drive.old)
+        (D.told drive.old) (D.told drive.new) (K.held output.old) (K.held output.new)) }
     ensures ending { IfOk result (EndsWith world.old.bus) }
     ensures cause { HasCause (K.faults output.old) (K.faults output.new) result }
     ensures bus { world.new.bus ≡ world.old.bus }

@@ -13,8 +13,12 @@ loop-line-preserved g c = record {
   later = search rules;
 }
 
-pub returns-in_err-write_line-clause-part : goal.returns-in_err-write_line-clause-part
-returns-in_err-write_line-clause-part g c =
-    let is : c.as_slice-line-items.result.now ≡ c.args.slot.now.lines.items = c.as_slice-line-items.ensures.value in
-    on_err _ (subst (λ (xs : List SlotLine). AppendsPart (g.K.Sink.held c.args.output.now) (g.K.Sink.held c.write_line.new.output) (deliveries_text c.args.slot.now.frame c.args.slot.now.slot xs)) is
-    (lines-part (λ (x : SlotLine). delivery_text c.args.slot.now.frame c.args.slot.now.slot x.receiver x.sender x.value) c.as_slice-line-items.result.now c.loop-line.line-index _ _ _ _ (omega arith) c.loop-line.invariant.written (rw c.delivery_line.ensures.bytes at c.in_err-write_line.ensures.part)))
+pub returns-in_err-write_line : goal.returns-in_err-write_line
+returns-in_err-write_line g c = record {
+  all = search rules;
+  part =
+      let is : c.as_slice-line-items.result.now ≡ c.args.slot.now.lines.items = c.as_slice-line-items.ensures.value in
+      on_err _ (subst (λ (xs : List SlotLine). AppendsPart (g.K.Sink.held c.args.output.now) (g.K.Sink.held c.write_line.new.output) (deliveries_text c.args.slot.now.frame c.args.slot.now.slot xs)) is
+      (lines-part (λ (x : SlotLine). delivery_text c.args.slot.now.frame c.args.slot.now.slot x.receiver x.sender x.value) c.as_slice-line-items.result.now c.loop-line.line-index _ _ _ _ (omega arith) c.loop-line.invariant.written (rw c.delivery_line.ensures.bytes at c.in_err-write_line.ensures.part)));
+  cause = search rules;
+}

@@ -11,6 +11,9 @@ loop-node-preserved g c = record {
   later = search rules;
 }
 
-pub returns-in_err-write_line-clause-part : goal.returns-in_err-write_line-clause-part
-returns-in_err-write_line-clause-part g c =
-    on_err _ (lines-part (λ (x : NodeLine). epoch_text c.args.frame x.node x.tick (Some x.time)) c.args.nodes.now c.loop-node.node-index _ _ _ _ (omega arith) c.loop-node.invariant.written (rw c.epoch_line.ensures.bytes at c.in_err-write_line.ensures.part))
+pub returns-in_err-write_line : goal.returns-in_err-write_line
+returns-in_err-write_line g c = record {
+  all = search rules;
+  part = on_err _ (lines-part (λ (x : NodeLine). epoch_text c.args.frame x.node x.tick (Some x.time)) c.args.nodes.now c.loop-node.node-index _ _ _ _ (omega arith) c.loop-node.invariant.written (rw c.epoch_line.ensures.bytes at c.in_err-write_line.ensures.part));
+  cause = search rules;
+}
