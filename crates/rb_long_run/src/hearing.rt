@@ -1,13 +1,10 @@
 //! What the ports of a bus receive.
-ghost use Rattle.std.specs.Prelude.{◌≡◌, ◌≤◌, ℕ, IfSome, None, length, replicate, OnErr, OnOk};
-ghost use Rattle.std.specs.Io.KnownBytes.{Appends};
+ghost use Rattle.std.specs.Prelude.{◌≡◌, ◌≤◌, ℕ, IfSome, None, length, replicate, OnOk};
 ghost use Rattle.arrayvec.specs.ArrayVec.{ArrayVec as Letter};
 ghost use Rattle.rb_long_run.specs.Hearing.{letter_of, lines_text, with_line, with_lines};
 ghost use Rattle.rb_long_run.specs.Reports.{given_text};
 ghost use Rattle.rb_long.specs.Delivered.{is_named};
 ghost use Rattle.rb_long.specs.Readers.{letter_in};
-ghost use Rattle.rb_outside.specs.Bytes.{AppendsPart};
-ghost use Rattle.rb_outside.specs.Causes.{HasCause};
 ghost use Rattle.rb_outside.specs.Writing.{Writes};
 
 use arrayvec::ArrayVec;
@@ -45,7 +42,8 @@ fn write_letter<K: Sink>(
     output: &mut K,
 ) -> Result<(), Failed>
     requires { IfSome letter (λ (l : Letter ℕ). 1 ≤ length l.items) }
-    ensures { Writes K.held K.faults output.old output.new result (given_text frame slot line.now (letter_in letter)) }
+    ensures { Writes K.held K.faults output.old output.new result
+        (given_text frame slot line.now (letter_in letter)) }
 {
     match letter {
         Some(letter) => write_line(
@@ -64,10 +62,9 @@ fn write_given<K: Sink>(
     all: &mut [LongReceiver; 16],
     output: &mut K,
 ) -> Result<(), Failed>
-    ensures all { OnOk result (Appends (K.held output.old) (K.held output.new) (lines_text frame slot all.old lines.now)) }
-    ensures part { OnErr result (AppendsPart (K.held output.old) (K.held output.new) (lines_text frame slot all.old lines.now)) }
+    ensures writes { Writes K.held K.faults output.old output.new result
+        (lines_text frame slot all.old lines.now) }
     ensures heard { OnOk result (all.new ≡ with_lines all.old lines.now) }
-    ensures cause { HasCause (K.faults output.old) (K.faults output.new) result }
 {
     for line in lines {
         let letter = hear(all, line);
@@ -126,10 +123,9 @@ impl Receivers {
         lines: &[SlotLine],
         output: &mut K,
     ) -> Result<(), Failed>
-        ensures all { OnOk result (Appends (K.held output.old) (K.held output.new) (lines_text frame slot self.old lines.now)) }
-        ensures part { OnErr result (AppendsPart (K.held output.old) (K.held output.new) (lines_text frame slot self.old lines.now)) }
+        ensures writes { Writes K.held K.faults output.old output.new result
+            (lines_text frame slot self.old lines.now) }
         ensures heard { OnOk result (self.new ≡ with_lines self.old lines.now) }
-        ensures cause { HasCause (K.faults output.old) (K.faults output.new) result }
     {
         write_given(frame, slot, lines, &mut self.all, output)
     }

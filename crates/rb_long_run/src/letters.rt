@@ -1,11 +1,10 @@
 //! The letters of a run, written a line at a time.
 ghost use Rattle.std.specs.Prelude.{◌≡◌, IfOk, OnErr, OnOk};
-ghost use Rattle.std.specs.Io.KnownBytes.{Appends};
 ghost use Rattle.rb_world_book.specs.Records.{record_of};
 ghost use Rattle.rb_long_run.specs.Letters.{WritesLetters, WritesSome};
 ghost use Rattle.rb_long_run.specs.Texts.{open_with, turn_text};
-ghost use Rattle.rb_outside.specs.Bytes.{AppendsPart};
 ghost use Rattle.rb_outside.specs.Causes.{HasCause};
+ghost use Rattle.rb_outside.specs.Writing.{Writes};
 ghost use Rattle.rb_run.specs.Runs.{EndsWith, HasGivenNothing};
 
 use crate::Receivers;
@@ -25,10 +24,9 @@ fn write_turn<K: Sink>(
     receivers: &mut Receivers,
     output: &mut K,
 ) -> Result<(), Failed>
-    ensures all { OnOk result (Appends (K.held output.old) (K.held output.new) (turn_text newest receivers.old (record_of turn.now))) }
-    ensures part { OnErr result (AppendsPart (K.held output.old) (K.held output.new) (turn_text newest receivers.old (record_of turn.now))) }
+    ensures writes { Writes K.held K.faults output.old output.new result
+        (turn_text newest receivers.old (record_of turn.now)) }
     ensures heard { OnOk result (receivers.new ≡ open_with receivers.old (record_of turn.now)) }
-    ensures cause { HasCause (K.faults output.old) (K.faults output.new) result }
 {
     match turn {
         Turn::Slot(slot) => receivers.write_slot(
@@ -54,8 +52,10 @@ pub fn write_letters<K: Sink, D: Drive>(
     output: &mut K,
 ) -> Result<Ending, Failed>
     requires { HasGivenNothing world.old }
-    ensures all { OnOk result (WritesLetters world.old.bus (D.is_plain drive.old) (D.told drive.old) (D.told drive.new) (K.held output.old) (K.held output.new)) }
-    ensures part { OnErr result (WritesSome world.old.bus (D.is_plain drive.old) (D.told drive.old) (D.told drive.new) (K.held output.old) (K.held output.new)) }
+    ensures all { OnOk result (WritesLetters world.old.bus (D.is_plain drive.old)
+        (D.told drive.old) (D.told drive.new) (K.held output.old) (K.held output.new)) }
+    ensures part { OnErr result (WritesSome world.old.bus (D.is_plain drive.old)
+        (D.told drive.old) (D.told drive.new) (K.held output.old) (K.held output.new)) }
     ensures ending { IfOk result (EndsWith world.old.bus) }
     ensures cause { HasCause (K.faults output.old) (K.faults output.new) result }
     ensures bus { world.new.bus ≡ world.old.bus }

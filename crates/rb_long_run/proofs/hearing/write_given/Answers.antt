@@ -10,6 +10,10 @@ loop-line-preserved g c = record {
   later = search rules;
 }
 
-pub returns-in_err-write_letter-clause-part : goal.returns-in_err-write_letter-clause-part
-returns-in_err-write_letter-clause-part g c =
-    on_err _ (heard-part c.args.frame c.args.slot c.args.all.now c.loop-line.all c.args.lines.now c.loop-line.line-index _ _ _ _ _ (omega arith) c.loop-line.invariant.heard c.hear-letter.ensures.given c.loop-line.invariant.written c.in_err-write_letter.ensures.part)
+pub returns-in_err-write_letter-clause-writes : goal.returns-in_err-write_letter-clause-writes
+returns-in_err-write_letter-clause-writes g c = record {
+  all = search rules;
+  part =
+      on_err _ (heard-part c.args.frame c.args.slot c.args.all.now c.loop-line.all c.args.lines.now c.loop-line.line-index _ _ _ _ _ (omega arith) c.loop-line.invariant.heard c.hear-letter.ensures.given c.loop-line.invariant.written c.in_err-write_letter.ensures.part);
+  cause = search rules;
+}

@@ -19,16 +19,24 @@ loop-sent-preserved g c =
       later = search rules;
     }
 
-pub returns-in_err-write_line-clause-part : goal.returns-in_err-write_line-clause-part
-returns-in_err-write_line-clause-part g c =
-    let words = spelling_of c.args.letter.now in
-    let many : c.div_ceil-sent-end.result ≡ parts_in (length c.args.letter.now) = omega (arith, c.div_ceil-sent-end.ensures) in
-    let below = below-all c.args.letter.now c.loop-sent.sent c.div_ceil-sent-end.result many c.loop-sent-test.true in
-    let word = word-is c.loop-sent.sent words c.loop-sent.sender c.next_word.result below c.loop-sent.invariant.waiting c.next_word.ensures.word in
-    on_err _ (lines-part word_text words c.loop-sent.sent 0 _ _ _ below c.loop-sent.invariant.written
-    (part-shows _ _ _ c.from.result _ c.word_line.ensures.bytes (c.from.ensures ∙ word) c.in_err-write_line.ensures.part))
+pub returns-in_err-write_line : goal.returns-in_err-write_line
+returns-in_err-write_line g c = record {
+  all = search rules;
+  part =
+      let words = spelling_of c.args.letter.now in
+      let many : c.div_ceil-sent-end.result ≡ parts_in (length c.args.letter.now) = omega (arith, c.div_ceil-sent-end.ensures) in
+      let below = below-all c.args.letter.now c.loop-sent.sent c.div_ceil-sent-end.result many c.loop-sent-test.true in
+      let word = word-is c.loop-sent.sent words c.loop-sent.sender c.next_word.result below c.loop-sent.invariant.waiting c.next_word.ensures.word in
+      on_err _ (lines-part word_text words c.loop-sent.sent 0 _ _ _ below c.loop-sent.invariant.written
+      (part-shows _ _ _ c.from.result _ c.word_line.ensures.bytes (c.from.ensures ∙ word) c.in_err-write_line.ensures.part));
+  cause = search rules;
+}
 
-pub returns-clause-all : goal.returns-clause-all
-returns-clause-all g c =
-    let many : c.div_ceil-sent-end.result ≡ parts_in (length c.args.letter.now) = omega (arith, c.div_ceil-sent-end.ensures) in
-    lines-all word_text (spelling_of c.args.letter.now) c.loop-sent.sent _ _ (past-all c.args.letter.now c.loop-sent.sent c.div_ceil-sent-end.result many c.loop-sent-test.false) c.loop-sent.invariant.written
+pub returns : goal.returns
+returns g c = record {
+  all =
+      let many : c.div_ceil-sent-end.result ≡ parts_in (length c.args.letter.now) = omega (arith, c.div_ceil-sent-end.ensures) in
+      lines-all word_text (spelling_of c.args.letter.now) c.loop-sent.sent _ _ (past-all c.args.letter.now c.loop-sent.sent c.div_ceil-sent-end.result many c.loop-sent-test.false) c.loop-sent.invariant.written;
+  part = search rules;
+  cause = search rules;
+}
