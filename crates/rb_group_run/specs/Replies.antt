@@ -10,6 +10,7 @@ use Rattle.rb_rules.specs.Book.{Record}
 use Rattle.rb_rules.specs.Book.Record.{Frame, Slot, Ended, Breach}
 use Rattle.rb_rules.specs.Goodness.{Scenario, is_good}
 use Rattle.rb_report.specs.Report.{breach_text, end_text, group_text}
+use Rattle.rb_group.specs.Groups.{group_value}
 use Rattle.rb_group.specs.Portions.{told_of, value_at}
 use Rattle.rb_group_run.specs.declared.asked.Asked.{Asked}
 
@@ -28,6 +29,10 @@ reached frames [] = 0
 reached frames (r ∷ rs) = max (frame_of frames r) (reached frames rs)
 
 -- What is said.
+
+-- what a port finds, by what was told of it
+abbrev pub value_found : Asked → (ℕ → List Delivery) → ℕ → Heard
+value_found asked told i = group_value asked.which asked.members (told i)
 
 abbrev pub last_data_slot : Sizes → ℕ
 last_data_slot sizes = sizes.bius + sizes.data_slots - 1

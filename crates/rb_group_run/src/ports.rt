@@ -71,7 +71,8 @@ fn hear_slot(groups: &mut [Group; 16], frame: u32, slot: u16, lines: &[SlotLine]
 fn hear_if_now(groups: &mut [Group; 16], frame: u32, slot: &SlotRecord)
     ensures { (members : ℕ) (told : ℕ → List Delivery) → HoldPortions members told groups.old
         → HoldPortions members (λ i. told i
-        ++ told_of frame i (Record.Slot slot.now.frame slot.now.slot slot.now.lines.items)) groups.new }
+        ++ told_of frame i (Record.Slot slot.now.frame slot.now.slot slot.now.lines.items))
+        groups.new }
 {
     if slot.frame == frame {
         hear_slot(groups, slot.frame, slot.slot, slot.lines.as_slice());

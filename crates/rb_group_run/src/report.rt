@@ -1,18 +1,15 @@
 //! What turns say of a group, written a line at a time.
-ghost use Rattle.std.specs.Prelude.{◌≡◌, ℕ, ◌<◌, List, [], if◌then◌else◌, OnErr, OnOk};
-ghost use Rattle.std.specs.Io.KnownBytes.{Appends};
+ghost use Rattle.std.specs.Prelude.{◌≡◌, ℕ, ◌<◌, List, [], if◌then◌else◌};
 ghost use Rattle.rb_base.specs.Nodes.Side.{Biu};
 ghost use Rattle.rb_base.specs.declared.values.Delivery.{Delivery};
 ghost use Rattle.rb_world_book.specs.Records.{record_of};
-ghost use Rattle.rb_group.specs.Groups.{group_value};
-ghost use Rattle.rb_outside.specs.Bytes.{AppendsPart};
 ghost use Rattle.rb_outside.specs.Causes.{HasCause};
 ghost use Rattle.rb_outside.specs.Writing.{Writes};
 ghost use Rattle.rb_report.specs.Report.{group_text};
 ghost use Rattle.rb_rules.specs.Book.{Record};
 ghost use Rattle.rb_rules.specs.Goodness.{Scenario, is_good};
 ghost use Rattle.rb_group_run.specs.Holding.{HoldPortions, HoldsFrame, IsScopeOf};
-ghost use Rattle.rb_group_run.specs.Replies.{ending_in, frame_text, last_data_slot, port_text, turn_text};
+ghost use Rattle.rb_group_run.specs.Replies.{ending_in, frame_text, last_data_slot, port_text, turn_text, value_found};
 
 use crate::asked::{Asked, Scope};
 use crate::ports::{Ports, find, frame_or};
@@ -47,10 +44,10 @@ fn write_value<K: Sink>(
     output: &mut K,
 ) -> Result<(), Failed>
     requires { port < 16 }
-    ensures all { (told : ℕ → List Delivery) → HoldPortions asked.now.members told ports.now.groups
-        → OnOk result (Appends (K.held output.old) (K.held output.new) (group_text ports.now.frame port (group_value asked.now.which asked.now.members (told port)))) }
-    ensures part { (told : ℕ → List Delivery) → HoldPortions asked.now.members told ports.now.groups
-        → OnErr result (AppendsPart (K.held output.old) (K.held output.new) (group_text ports.now.frame port (group_value asked.now.which asked.now.members (told port)))) }
+    ensures writes { (told : ℕ → List Delivery)
+        → HoldPortions asked.now.members told ports.now.groups
+        → Writes K.held K.faults output.old output.new result
+        (group_text ports.now.frame port (value_found asked.now told port)) }
     ensures cause { HasCause (K.faults output.old) (K.faults output.new) result }
 {
     let value = find(&ports.groups, port, voters, asked);
@@ -67,12 +64,10 @@ fn write_port<K: Sink>(
     output: &mut K,
 ) -> Result<(), Failed>
     requires { port < 16 }
-    ensures all { (sc : Scenario) (told : ℕ → List Delivery) → IsScopeOf sc scope.now
+    ensures writes { (sc : Scenario) (told : ℕ → List Delivery) → IsScopeOf sc scope.now
         → HoldPortions asked.now.members told ports.now.groups
-        → OnOk result (Appends (K.held output.old) (K.held output.new) (port_text sc ports.now.frame (λ i. group_value asked.now.which asked.now.members (told i)) port)) }
-    ensures part { (sc : Scenario) (told : ℕ → List Delivery) → IsScopeOf sc scope.now
-        → HoldPortions asked.now.members told ports.now.groups
-        → OnErr result (AppendsPart (K.held output.old) (K.held output.new) (port_text sc ports.now.frame (λ i. group_value asked.now.which asked.now.members (told i)) port)) }
+        → Writes K.held K.faults output.old output.new result
+        (port_text sc ports.now.frame (value_found asked.now told) port) }
     ensures cause { HasCause (K.faults output.old) (K.faults output.new) result }
 {
     if is_good_at_last(scope, ports.frame, port) {
@@ -90,12 +85,10 @@ fn write_frame<K: Sink>(
     asked: &Asked,
     output: &mut K,
 ) -> Result<(), Failed>
-    ensures all { (sc : Scenario) (told : ℕ → List Delivery) → IsScopeOf sc scope.now
+    ensures writes { (sc : Scenario) (told : ℕ → List Delivery) → IsScopeOf sc scope.now
         → HoldPortions asked.now.members told ports.now.groups
-        → OnOk result (Appends (K.held output.old) (K.held output.new) (frame_text sc ports.now.frame (λ i. group_value asked.now.which asked.now.members (told i)))) }
-    ensures part { (sc : Scenario) (told : ℕ → List Delivery) → IsScopeOf sc scope.now
-        → HoldPortions asked.now.members told ports.now.groups
-        → OnErr result (AppendsPart (K.held output.old) (K.held output.new) (frame_text sc ports.now.frame (λ i. group_value asked.now.which asked.now.members (told i)))) }
+        → Writes K.held K.faults output.old output.new result
+        (frame_text sc ports.now.frame (value_found asked.now told)) }
     ensures cause { HasCause (K.faults output.old) (K.faults output.new) result }
 {
     for port in 0..scope.shape.biu() {
@@ -113,12 +106,10 @@ fn write_if_over<K: Sink>(
     asked: &Asked,
     output: &mut K,
 ) -> Result<(), Failed>
-    ensures all { (sc : Scenario) (told : ℕ → List Delivery) → IsScopeOf sc scope.now
+    ensures writes { (sc : Scenario) (told : ℕ → List Delivery) → IsScopeOf sc scope.now
         → HoldPortions asked.now.members told ports.now.groups
-        → OnOk result (Appends (K.held output.old) (K.held output.new) (if over then frame_text sc ports.now.frame (λ i. group_value asked.now.which asked.now.members (told i)) else [])) }
-    ensures part { (sc : Scenario) (told : ℕ → List Delivery) → IsScopeOf sc scope.now
-        → HoldPortions asked.now.members told ports.now.groups
-        → OnErr result (AppendsPart (K.held output.old) (K.held output.new) (if over then frame_text sc ports.now.frame (λ i. group_value asked.now.which asked.now.members (told i)) else [])) }
+        → Writes K.held K.faults output.old output.new result
+        (if over then frame_text sc ports.now.frame (value_found asked.now told) else []) }
     ensures cause { HasCause (K.faults output.old) (K.faults output.new) result }
 {
     if over {
@@ -130,7 +121,8 @@ fn write_if_over<K: Sink>(
 
 // Writes the last line, if the turn is the end of the run.
 fn write_ending<K: Sink>(turn: &Turn, frames: u32, output: &mut K) -> Result<(), Failed>
-    ensures { Writes K.held K.faults output.old output.new result (ending_in frames (record_of turn.now)) }
+    ensures { Writes K.held K.faults output.old output.new result
+        (ending_in frames (record_of turn.now)) }
 {
     match turn {
         Turn::Ended => write_line(output, &end_line(frames)),
@@ -152,12 +144,10 @@ pub fn write_turn<K: Sink>(
     asked: &Asked,
     output: &mut K,
 ) -> Result<(), Failed>
-    ensures all { (sc : Scenario) (records : List Record) → IsScopeOf sc scope.now
+    ensures writes { (sc : Scenario) (records : List Record) → IsScopeOf sc scope.now
         → HoldsFrame sc.frames asked.now records ports.now
-        → OnOk result (Appends (K.held output.old) (K.held output.new) (turn_text sc asked.now records (record_of turn.now))) }
-    ensures part { (sc : Scenario) (records : List Record) → IsScopeOf sc scope.now
-        → HoldsFrame sc.frames asked.now records ports.now
-        → OnErr result (AppendsPart (K.held output.old) (K.held output.new) (turn_text sc asked.now records (record_of turn.now))) }
+        → Writes K.held K.faults output.old output.new result
+        (turn_text sc asked.now records (record_of turn.now)) }
     ensures cause { HasCause (K.faults output.old) (K.faults output.new) result }
 {
     let over = ports.frame < frame_or(turn, scope.frames, ports.frame);

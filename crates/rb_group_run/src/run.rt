@@ -31,8 +31,10 @@ pub fn write_groups<K: Sink, D: Drive>(
 ) -> Result<Ending, Failed>
     requires begun { HasGivenNothing world.old }
     requires scope { IsScopeOf world.old.bus scope.now }
-    ensures all { OnOk result (WritesAll world.old.bus asked.now (D.is_plain drive.old) (D.told drive.old) (D.told drive.new) (K.held output.old) (K.held output.new)) }
-    ensures part { OnErr result (WritesPart world.old.bus asked.now (D.is_plain drive.old) (D.told drive.old) (D.told drive.new) (K.held output.old) (K.held output.new)) }
+    ensures all { OnOk result (WritesAll world.old.bus asked.now (D.is_plain drive.old)
+        (D.told drive.old) (D.told drive.new) (K.held output.old) (K.held output.new)) }
+    ensures part { OnErr result (WritesPart world.old.bus asked.now (D.is_plain drive.old)
+        (D.told drive.old) (D.told drive.new) (K.held output.old) (K.held output.new)) }
     ensures ending { IfOk result (EndsWith world.old.bus) }
     ensures cause { HasCause (K.faults output.old) (K.faults output.new) result }
     ensures bus { world.new.bus ≡ world.old.bus }

@@ -1,31 +1,38 @@
-use Rattle.std.proofs.Common.{◌≡◌, ℕ, List, ap, ◌∙◌, subst, rules, arith}
+use Rattle.std.proofs.Common.{◌≡◌, ap, ◌∙◌, subst, rules, arith}
 use Rattle.std.specs.Io.KnownBytes.{Appends}
 use Rattle.std.specs.List.{flat_map}
 use Rattle.rb_base.specs.Counting.{numbers}
 use Rattle.rb_base.specs.Sizes.{Sizes}
 use Rattle.rb_base.proofs.Plain.{on_err}
-use Rattle.rb_group.specs.Groups.{group_value}
-use Rattle.rb_group_run.specs.Replies.{port_text}
+use Rattle.rb_group_run.specs.Replies.{port_text, value_found}
 use Rattle.rb_group_run.proofs.TurnsWritten.{lines_more, lines_part}
 use Rattle.rb_group_run.proofs.report.write_frame.Goals as goal
 
 pub loop-port-preserved : goal.loop-port-preserved
 loop-port-preserved g c = record {
   written = λ sc told is hold.
-      lines_more (port_text sc c.args.ports.now.frame (λ i. group_value c.args.asked.now.which c.args.asked.now.members (told i))) c.loop-port.port _ _ _
-      (c.loop-port.invariant.written sc told is hold) (c.in_ok-write_port.ensures.all sc told is hold);
+      lines_more (port_text sc c.args.ports.now.frame (value_found c.args.asked.now told)) c.loop-port.port _ _ _
+      (c.loop-port.invariant.written sc told is hold) (c.in_ok-write_port.ensures.writes sc told is hold).all;
   later = search rules;
 }
 
-pub returns-in_err-write_port-clause-part : goal.returns-in_err-write_port-clause-part
-returns-in_err-write_port-clause-part g c = λ sc told is hold.
-    let bius : c.biu-port-end.result ≡ sc.sizes.bius = c.biu-port-end.ensures.value ∙ ap (λ (s : Sizes). s.bius) is.sizes_are in
-    on_err _ (lines_part (port_text sc c.args.ports.now.frame (λ i. group_value c.args.asked.now.which c.args.asked.now.members (told i))) c.loop-port.port sc.sizes.bius _ _ _ (omega (arith, bius))
-    (c.loop-port.invariant.written sc told is hold) (c.in_err-write_port.ensures.part sc told is hold))
+pub returns-in_err-write_port-clause-writes : goal.returns-in_err-write_port-clause-writes
+returns-in_err-write_port-clause-writes g c = λ sc told is hold. record {
+  all = search rules;
+  part =
+      let bius : c.biu-port-end.result ≡ sc.sizes.bius = c.biu-port-end.ensures.value ∙ ap (λ (s : Sizes). s.bius) is.sizes_are in
+      on_err _ (lines_part (port_text sc c.args.ports.now.frame (value_found c.args.asked.now told)) c.loop-port.port sc.sizes.bius _ _ _ (omega (arith, bius))
+      (c.loop-port.invariant.written sc told is hold) (c.in_err-write_port.ensures.writes sc told is hold).part);
+  cause = search rules;
+}
 
-pub returns-clause-all : goal.returns-clause-all
-returns-clause-all g c = λ sc told is hold.
-    let bius : c.biu-port-end.result ≡ sc.sizes.bius = c.biu-port-end.ensures.value ∙ ap (λ (s : Sizes). s.bius) is.sizes_are in
-    let all : c.loop-port.port ≡ sc.sizes.bius = omega (arith, bius) in
-    subst (λ n. Appends (g.K.Sink.held c.args.output.now) (g.K.Sink.held c.loop-port.output) (flat_map (port_text sc c.args.ports.now.frame (λ i. group_value c.args.asked.now.which c.args.asked.now.members (told i))) (numbers n))) all
-    (c.loop-port.invariant.written sc told is hold)
+pub returns-clause-writes : goal.returns-clause-writes
+returns-clause-writes g c = λ sc told is hold. record {
+  all =
+      let bius : c.biu-port-end.result ≡ sc.sizes.bius = c.biu-port-end.ensures.value ∙ ap (λ (s : Sizes). s.bius) is.sizes_are in
+      let all : c.loop-port.port ≡ sc.sizes.bius = omega (arith, bius) in
+      subst (λ n. Appends (g.K.Sink.held c.args.output.now) (g.K.Sink.held c.loop-port.output) (flat_map (port_text sc c.args.ports.now.frame (value_found c.args.asked.now told)) (numbers n))) all
+      (c.loop-port.invariant.written sc told is hold);
+  part = search rules;
+  cause = search rules;
+}

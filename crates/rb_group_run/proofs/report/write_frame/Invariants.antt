@@ -5,14 +5,13 @@ use Rattle.std.specs.List.{flat_map}
 use Rattle.rb_base.specs.Counting.{numbers}
 use Rattle.rb_base.specs.declared.values.Delivery.{Delivery}
 use Rattle.rb_rules.specs.Goodness.{Scenario}
-use Rattle.rb_group.specs.Groups.{group_value}
 use Rattle.rb_group_run.specs.Holding.{HoldPortions, IsScopeOf}
-use Rattle.rb_group_run.specs.Replies.{port_text}
+use Rattle.rb_group_run.specs.Replies.{port_text, value_found}
 use Rattle.rb_group_run.proofs.report.write_frame.Given as goal
 
 abbrev pub invariant-loop-port : goal.invariant-loop-port
 invariant-loop-port g l = record {
   written : (sc : Scenario) (told : ℕ → List Delivery) → IsScopeOf sc l.scope → HoldPortions l.asked.members told l.ports.groups
-      → Appends (g.K.Sink.held l.initial.output) (g.K.Sink.held l.output) (flat_map (port_text sc l.ports.frame (λ i. group_value l.asked.which l.asked.members (told i))) (numbers l.port));
+      → Appends (g.K.Sink.held l.initial.output) (g.K.Sink.held l.output) (flat_map (port_text sc l.ports.frame (value_found l.asked told)) (numbers l.port));
   later : g.K.Sink.faults l.initial.output ≤ g.K.Sink.faults l.output;
 }

@@ -21,7 +21,7 @@ returns-in_err-write_turn-clause-part g c =
     let is = c.loop-passed.invariant.written in
     on_err _ (part_written _ _ _ _ _ _ _ _ _ _ _ _ _ c.next-turn.result is (goes c.args.world.now.bus (g.D.Drive.is_plain c.args.drive.now) (g.D.Drive.is_plain c.loop-passed.drive) (g.D.Drive.told c.args.drive.now) (g.D.Drive.told c.loop-passed.drive)
     (g.D.Drive.told c.next-turn.new.self) c.loop-passed.world c.next-turn.new.world is.turns c.next-turn.result is.given c.loop-passed.invariant.stays
-    c.next-turn.ensures.plain c.next-turn.ensures.alike c.next-turn.ensures.bus c.next-turn.ensures.told) (c.in_err-write_turn.ensures.part c.args.world.now.bus (records_in is.turns) c.requires.scope is.frame))
+    c.next-turn.ensures.plain c.next-turn.ensures.alike c.next-turn.ensures.bus c.next-turn.ensures.told) (c.in_err-write_turn.ensures.writes c.args.world.now.bus (records_in is.turns) c.requires.scope is.frame).part)
 
 pub returns-in-Some-clause-all : goal.returns-in-Some-clause-all
 returns-in-Some-clause-all g c =
@@ -29,7 +29,7 @@ returns-in-Some-clause-all g c =
     let ends : end_at (record_of c.next-turn.result) ≡ Some c.in-Some.ending = sym c.ending_at.ensures ∙ c.in-Some.is in
     all_written _ _ _ _ _ _ _ _ _ _ _ _ _ c.next-turn.result c.in-Some.ending is (goes c.args.world.now.bus (g.D.Drive.is_plain c.args.drive.now) (g.D.Drive.is_plain c.loop-passed.drive) (g.D.Drive.told c.args.drive.now) (g.D.Drive.told c.loop-passed.drive)
     (g.D.Drive.told c.next-turn.new.self) c.loop-passed.world c.next-turn.new.world is.turns c.next-turn.result is.given c.loop-passed.invariant.stays
-    c.next-turn.ensures.plain c.next-turn.ensures.alike c.next-turn.ensures.bus c.next-turn.ensures.told) (c.in_ok-write_turn.ensures.all c.args.world.now.bus (records_in is.turns) c.requires.scope is.frame) ends
+    c.next-turn.ensures.plain c.next-turn.ensures.alike c.next-turn.ensures.bus c.next-turn.ensures.told) (c.in_ok-write_turn.ensures.writes c.args.world.now.bus (records_in is.turns) c.requires.scope is.frame).all ends
 
 pub returns-in-Some-clause-ending : goal.returns-in-Some-clause-ending
 returns-in-Some-clause-ending g c =
@@ -46,7 +46,7 @@ loop-passed-preserved g c =
     record {
       written = one_written _ _ _ _ _ _ _ _ _ _ _ _ _ c.next-turn.result c.advance.new.ports is (goes c.args.world.now.bus (g.D.Drive.is_plain c.args.drive.now) (g.D.Drive.is_plain c.loop-passed.drive) (g.D.Drive.told c.args.drive.now) (g.D.Drive.told c.loop-passed.drive)
           (g.D.Drive.told c.next-turn.new.self) c.loop-passed.world c.next-turn.new.world is.turns c.next-turn.result is.given c.loop-passed.invariant.stays
-          c.next-turn.ensures.plain c.next-turn.ensures.alike c.next-turn.ensures.bus c.next-turn.ensures.told) (c.in_ok-write_turn.ensures.all c.args.world.now.bus (records_in is.turns) c.requires.scope is.frame)
+          c.next-turn.ensures.plain c.next-turn.ensures.alike c.next-turn.ensures.bus c.next-turn.ensures.told) (c.in_ok-write_turn.ensures.writes c.args.world.now.bus (records_in is.turns) c.requires.scope is.frame).all
           (frame_next c.args.world.now.bus c.args.scope.now c.args.asked.now (records_in is.turns) (record_of c.next-turn.result) c.loop-passed.ports c.advance.new.ports
           c.requires.scope is.frame c.advance.ensures) going;
       later = search rules;
