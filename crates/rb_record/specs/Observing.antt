@@ -1,12 +1,18 @@
 -- What is written of a log by whom a run tells what a node is given.
-use Rattle.std.specs.Prelude.{ℕ, ◌≡◌, nat_lt, if◌then◌else◌, Option, List, [], ◌∷◌, ◌++◌, IsErr, IsOk, MatchResult}
+use Rattle.std.specs.Prelude.{ℕ, ◌≡◌, nat_lt, if◌then◌else◌, Option, List, [], ◌∷◌, ◌++◌, Result, IfOk, IsErr, IsOk, MatchResult}
 use Rattle.rb_base.specs.declared.event.Event.{Event}
+use Rattle.rb_base.specs.declared.node.NodeName.{NodeName}
 use Rattle.rb_outside.specs.Bytes.{AppendsPart}
 use Rattle.rb_outside.specs.Causes.{HasCause}
 use Rattle.rb_laws_sweeps.specs.Told.{Told}
 use Rattle.rb_record.specs.declared.recorder.Recorder.{Recorder}
 use Rattle.rb_record.specs.Buffering.{PassesOn}
-use Rattle.rb_record.specs.Recording.{MayTell, PassesNext, PassesPartOf}
+use Rattle.rb_record.specs.Recording.{IsRecordedInPart, IsRecordedWhole, MayTell, PassesNext, PassesPartOf, fresh_log}
+use Rattle.rb_rules.specs.Lawful.{IsNodeOf}
+use Rattle.rb_rules.specs.WorldStep.{first_world}
+use Rattle.rb_run.specs.Runs.{EndsWith}
+use Rattle.rb_run.specs.declared.ending.Ending.{Ending}
+use Rattle.rb_world.specs.Worlds.{KeptWorld, Stands}
 
 -- what is told, if it is of the log: an event up to the node's first tick of the frame after the last
 abbrev pub of_log : ℕ → Told → List Event
@@ -42,3 +48,22 @@ pub record Settles {K : Type 0} (held : K → Option (List ℕ)) (faults : K →
   pub next : IsOk before.written → MatchResult after.written
       (λ _. PassesOn before.waiting after.waiting [] (held before.output.now) (held after.output.now))
       (λ _. AppendsPart (held before.output.now) (held after.output.now) before.waiting)
+
+-- a run in which nothing has happened may be recorded for a node of its bus by one that was told nothing
+pub record MayRecord {K : Type 0} (k : KeptWorld) (name : NodeName) (r : Recorder K) : Type 0 where
+  pub begin : Stands k (first_world k.bus)
+  pub node : IsNodeOf k.bus.sizes name
+  pub log : r.log ≡ fresh_log
+  pub frames : r.frames ≡ k.bus.frames
+  pub waiting : r.waiting ≡ []
+  pub written : IsOk r.written
+
+-- the run was taken to its end and recorded, or to where a write failed
+pub record RecordsRun {K E : Type 0} (held : K → Option (List ℕ)) (faults : K → ℕ) (name : NodeName) (k since : KeptWorld) (before after : Recorder K) (result : Result Ending E) : Type 0 where
+  pub recorded : MatchResult result
+      (λ _. IsRecordedWhole k.bus name since after.log after.waiting (held before.output.now) (held after.output.now))
+      (λ _. IsRecordedInPart k.bus name (held before.output.now) (held after.output.now))
+  pub ending : IfOk result (EndsWith k.bus)
+  pub cause : HasCause (faults before.output.now) (faults after.output.now) result
+  pub same_output : after.output.ghost_name ≡ before.output.ghost_name
+  pub bus : since.bus ≡ k.bus

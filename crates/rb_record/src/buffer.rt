@@ -52,7 +52,8 @@ impl Buffer {
         bytes: &ArrayVec<u8, 64>,
         output: &mut K,
     ) -> Result<(), Failed>
-        ensures passes { OnOk result (PassesOn self.old self.new bytes.now.items (K.held output.old) (K.held output.new)) }
+        ensures passes { OnOk result
+            (PassesOn self.old self.new bytes.now.items (K.held output.old) (K.held output.new)) }
         ensures part { OnErr result (AppendsPart (K.held output.old) (K.held output.new) self.old) }
         ensures cause { HasCause (K.faults output.old) (K.faults output.new) result }
     {

@@ -1,9 +1,8 @@
 //! Who writes down what is told of a node.
-ghost use Rattle.std.specs.Prelude.{◌≡◌, ◌++◌, ◌∷◌, [], IsErr, IsOk, MatchResult, OnErr, OnOk};
-ghost use Rattle.std.specs.Io.KnownBytes.{Appends};
+ghost use Rattle.std.specs.Prelude.{◌≡◌, ◌++◌, ◌∷◌, [], IsErr, IsOk, MatchResult};
 ghost use Rattle.rb_log.specs.Writing.{written};
-ghost use Rattle.rb_outside.specs.Bytes.{AppendsPart};
 ghost use Rattle.rb_outside.specs.Causes.{HasCause};
+ghost use Rattle.rb_outside.specs.Writing.{Writes};
 ghost use Rattle.rb_record.specs.Observing.{RecordsNext, Settles};
 ghost use Rattle.rb_record.specs.Recording.{MayTell, PassesNext, PassesPartOf, fresh_log};
 
@@ -22,8 +21,10 @@ fn pass_event<K: Sink>(
     output: &mut K,
 ) -> Result<(), Failed>
     ensures next { MayTell log.old.ticks (event.now ∷ []) → MatchResult result
-        (λ _. PassesNext log.old log.new waiting.old waiting.new (event.now ∷ []) (K.held output.old) (K.held output.new))
-        (λ _. PassesPartOf log.old waiting.old (event.now ∷ []) (K.held output.old) (K.held output.new)) }
+        (λ _. PassesNext log.old log.new waiting.old waiting.new (event.now ∷ [])
+        (K.held output.old) (K.held output.new))
+        (λ _. PassesPartOf log.old waiting.old (event.now ∷ []) (K.held output.old)
+        (K.held output.new)) }
     ensures cause { HasCause (K.faults output.old) (K.faults output.new) result }
 {
     if !log.has_room(event) {
@@ -78,12 +79,8 @@ impl<'a, K: Sink> Recorder<'a, K> {
     /// Writes what waits, and the end of the log.
     pub(crate) fn end(&mut self) -> Result<(), Failed>
         ensures same_output { self.new.output.ghost_name ≡ self.old.output.ghost_name }
-        ensures all { OnOk result (Appends (K.held self.old.output.now) (K.held self.new.output.now)
-            (self.old.waiting ++ written self.old.log.waiting [])) }
-        ensures part { OnErr result (AppendsPart (K.held self.old.output.now) (K.held self.new.output.now)
-            (self.old.waiting ++ written self.old.log.waiting [])) }
-        ensures cause { HasCause (K.faults self.old.output.now) (K.faults self.new.output.now)
-            result }
+        ensures writes { Writes K.held K.faults self.old.output.now self.new.output.now result
+            (self.old.waiting ++ written self.old.log.waiting []) }
     {
         self.waiting.push(&self.log.end(), self.output)?;
         self.waiting.flush(self.output)

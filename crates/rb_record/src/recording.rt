@@ -1,10 +1,11 @@
 //! Taking a run to its end, and writing what one node is given in it.
-ghost use Rattle.std.specs.Prelude.{◌≡◌, [], Option, Some, IfOk, IsOk, MatchResult, OnErr, OnOk};
+ghost use Rattle.std.specs.Prelude.{◌≡◌, Option, Some, IfOk, OnErr, OnOk};
 ghost use Rattle.rb_world_book.specs.Records.{record_of};
 ghost use Rattle.rb_log.specs.Header.{header_of};
 ghost use Rattle.rb_outside.specs.Causes.{HasCause};
 ghost use Rattle.rb_outside.specs.Writing.{Writes};
-ghost use Rattle.rb_record.specs.Recording.{IsRecordedInPart, IsRecordedWhole, WritesAll, WritesPart, fresh_log, timetable_of};
+ghost use Rattle.rb_record.specs.Observing.{MayRecord, RecordsRun};
+ghost use Rattle.rb_record.specs.Recording.{WritesAll, WritesPart, timetable_of};
 ghost use Rattle.rb_rules.specs.Lawful.{IsNodeOf};
 ghost use Rattle.rb_rules.specs.WorldStep.{first_world};
 ghost use Rattle.rb_run.specs.Runs.{EndsWith, end_at};
@@ -21,7 +22,8 @@ use rb_world::{Turn, World};
 // Writes the header.
 fn write_header<K: Sink>(world: &World, node: NodeName, output: &mut K) -> Result<(), Failed>
     requires { IsNodeOf world.now.bus.sizes node }
-    ensures { Writes K.held K.faults output.old output.new result (header_of (timetable_of world.now.bus) node) }
+    ensures { Writes K.held K.faults output.old output.new result
+        (header_of (timetable_of world.now.bus) node) }
 {
     let header = header(world.plan(), node);
     write_all(output, header.as_slice())
@@ -46,20 +48,8 @@ fn record_run<K: Sink>(
     node: NodeName,
     recorder: &mut Recorder<'_, K>,
 ) -> Result<Ending, Failed>
-    requires begin { Stands world.old (first_world world.old.bus) }
-    requires node { IsNodeOf world.old.bus.sizes node }
-    requires log { recorder.old.log ≡ fresh_log }
-    requires frames { recorder.old.frames ≡ world.old.bus.frames }
-    requires waiting { recorder.old.waiting ≡ [] }
-    requires written { IsOk recorder.old.written }
-    ensures recorded { MatchResult result
-        (λ _. IsRecordedWhole world.old.bus node world.new recorder.new.log recorder.new.waiting (K.held recorder.old.output.now) (K.held recorder.new.output.now))
-        (λ _. IsRecordedInPart world.old.bus node (K.held recorder.old.output.now) (K.held recorder.new.output.now)) }
-    ensures ending { IfOk result (EndsWith world.old.bus) }
-    ensures cause { HasCause (K.faults recorder.old.output.now) (K.faults recorder.new.output.now)
-        result }
-    ensures same_output { recorder.new.output.ghost_name ≡ recorder.old.output.ghost_name }
-    ensures bus { world.new.bus ≡ world.old.bus }
+    requires { MayRecord world.old node recorder.old }
+    ensures { RecordsRun K.held K.faults node world.old world.new recorder.old recorder.new result }
 {
     for passed in 0..u64::MAX {
         let turn = world.next_observed(apps, node, recorder);
@@ -87,8 +77,10 @@ pub fn record<K: Sink>(
 ) -> Result<Ending, Failed>
     requires begin { Stands world.old (first_world world.old.bus) }
     requires node { IsNodeOf world.old.bus.sizes node }
-    ensures all { OnOk result (WritesAll world.old.bus node (K.held output.old) (K.held output.new)) }
-    ensures part { OnErr result (WritesPart world.old.bus node (K.held output.old) (K.held output.new)) }
+    ensures all { OnOk result
+        (WritesAll world.old.bus node (K.held output.old) (K.held output.new)) }
+    ensures part { OnErr result
+        (WritesPart world.old.bus node (K.held output.old) (K.held output.new)) }
     ensures ending { IfOk result (EndsWith world.old.bus) }
     ensures cause { HasCause (K.faults output.old) (K.faults output.new) result }
     ensures bus { world.new.bus ≡ world.old.bus }

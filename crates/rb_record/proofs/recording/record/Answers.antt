@@ -30,7 +30,7 @@ returns-in_err-end-clause-part g c =
     (held-as g.K.Sink.held (WritesPart c.args.world.now.bus c.args.node held) _ c.end.new.self.output.now (search rules)
     (end-part c.args.world.now.bus c.args.node c.record_run.new.world c.record_run.new.recorder.log c.record_run.new.recorder.waiting held
     (g.K.Sink.held c.new-recorder.result.output.now) (g.K.Sink.held c.record_run.new.recorder.output.now) (g.K.Sink.held c.end.new.self.output.now)
-    header c.in_ok-ending.ensures.recorded c.in_err-end.ensures.part))
+    header c.in_ok-ending.ensures.recorded c.in_err-end.ensures.writes.part))
 
 pub returns-clause-all : goal.returns-clause-all
 returns-clause-all g c =
@@ -41,4 +41,4 @@ returns-clause-all g c =
     held-as g.K.Sink.held (WritesAll c.args.world.now.bus c.args.node held) _ c.end.new.self.output.now (search rules)
     (all-written c.args.world.now.bus c.args.node c.record_run.new.world c.record_run.new.recorder.log c.record_run.new.recorder.waiting held
     (g.K.Sink.held c.new-recorder.result.output.now) (g.K.Sink.held c.record_run.new.recorder.output.now) (g.K.Sink.held c.end.new.self.output.now)
-    header c.in_ok-ending.ensures.recorded c.in_ok-end.ensures.all)
+    header c.in_ok-ending.ensures.recorded c.in_ok-end.ensures.writes.all)
