@@ -13,7 +13,7 @@ use Rattle.rb_picture.specs.declared.column.Column.{Column}
 use Rattle.rb_picture.specs.declared.sheet.Sheet.{Sheet}
 use Rattle.rb_picture.specs.declared.sheet.View.{View}
 use Rattle.rb_picture.specs.declared.sheet.View.TheVariants.{Panels, Overview}
-use Rattle.rb_picture.specs.Headings.{with_heading, with_key}
+use Rattle.rb_picture.specs.Headings.{with_frames, with_heading, with_key}
 use Rattle.rb_picture.specs.Overview.{is_numbered, newly, with_break, with_break_words, with_frame_number, with_newcomer, with_newcomers, with_newcomers_of, with_outcomes, with_row, with_signature, with_signs, with_slot_range, with_square}
 use Rattle.rb_picture.specs.Sheets.{sheet_height, sheet_width}
 use Rattle.rb_picture.specs.Content.{AddsContent}
@@ -24,7 +24,7 @@ use Rattle.rb_picture.specs.Drawing.{follows, with_breach, with_cell, with_absen
 use Rattle.rb_picture.specs.Picture.{Piece, picture_text, pieces_of, with_part, with_piece, with_pieces}
 use Rattle.rb_picture.specs.Picture.Piece.{Ground, Head, Tick, Cell, Break, Ending}
 use Rattle.rb_picture.specs.Laws.{IsWellFormed}
-use Rattle.rb_picture.proofs.WellFormed.{adds_box, adds_each, adds_if, adds_label, adds_more, adds_nothing}
+use Rattle.rb_picture.proofs.WellFormed.{adds_box, adds_each, adds_either, adds_if, adds_label, adds_more, adds_nothing}
 use Rattle.rb_picture.proofs.Openings.{document}
 
 adds_cell : (extent : Extent) (t : List ℕ) (l : DeliveryLine) → AddsContent t (with_cell extent t l)
@@ -186,9 +186,14 @@ adds_signature : (extent : Extent) (t : List ℕ) → AddsContent t (with_signat
 unfolding with_signature
 adds_signature extent t = adds_more (adds_slot_range extent _) (adds_more (adds_signs _) (adds_outcomes t))
 
+adds_frames : (extent : Extent) (t : List ℕ) → AddsContent t (with_frames extent t)
+unfolding with_frames
+adds_frames extent t =
+    adds_either (nat_lt extent.last extent.first) _ _ _ (adds_label _ _ _ _ _ _) (adds_more (adds_label _ _ _ _ _ _) (adds_label _ _ _ _ _ _))
+
 adds_heading : (sheet : Sheet) (t : List ℕ) → AddsContent t (with_heading sheet t)
 unfolding with_heading
-adds_heading sheet t = adds_more (adds_label _ _ _ _ _ _) (adds_more (adds_label _ _ _ _ _ _) (adds_box _ _ _))
+adds_heading sheet t = adds_more (adds_frames sheet.extent _) (adds_box _ _ _)
 
 adds_key : (view : View) (extent : Extent) (t : List ℕ) → AddsContent t (with_key view extent t)
 adds_key Panels extent t = adds_legend extent t

@@ -41,9 +41,12 @@ unfolding each_below
 adds_each with_one one zero t = adds_nothing
 adds_each with_one one (suc n) t = adds_more (one (each_below with_one n t) n) (adds_each with_one one n t)
 
+pub adds_either : (test : Bool) (t u v : List ℕ) → AddsContent t u → AddsContent t v → AddsContent t (if test then u else v)
+adds_either true t u v first second = first
+adds_either false t u v first second = second
+
 pub adds_if : (test : Bool) (t u : List ℕ) → AddsContent t u → AddsContent t (if test then u else t)
-adds_if true t u adds = adds
-adds_if false t u adds = adds_nothing
+adds_if test t u adds = adds_either test t u t adds adds_nothing
 
 attribute_parts : (t a b c d e : List ℕ) → ((((t ++ a) ++ b) ++ c) ++ d) ++ e ≡ t ++ (a ++ (b ++ (c ++ (d ++ e))))
 attribute_parts t a b c d e = simp append_assoc

@@ -1,10 +1,11 @@
 -- How the top call answers.
-use Rattle.std.specs.Prelude.{⊤, ℕ, ◌≡◌, ◌⊎◌, List, ◌++◌, codes, Option, String}
+use Rattle.std.specs.Prelude.{⊤, ℕ, ◌≡◌, ◌<◌, ◌≤◌, ◌⊎◌, List, ◌++◌, length, codes, Option, Some, String}
 use Rattle.std.specs.Fmt.{decimal}
 use Rattle.std.specs.Io.KnownBytes.{Appends}
 use Rattle.std.specs.declared.alloc.Global.{Global}
 use Rattle.rb_flags.specs.declared.Flag.{Flag}
-use Rattle.rb_outside.specs.Bytes.{AppendsPart, ReadsToEnd}
+use Rattle.rb_outside.specs.Bytes.{AppendsPart, Gave, ReadsToEnd}
+use Rattle.rb_outside.specs.Causes.{Rose}
 use Rattle.rb_picture.specs.declared.form.Form.{Form}
 use Rattle.rb_picture.specs.declared.form.Form.TheVariants.{Draw, Show}
 use Rattle.rb_picture.specs.declared.form.Frames.{Frames}
@@ -14,7 +15,7 @@ use Rattle.rb_picture.specs.declared.reading.Fault.TheVariants as fault
 use Rattle.rb_picture.specs.declared.status.Status.{Status}
 use Rattle.rb_picture.specs.declared.status.Status.TheVariants.{Done, Usage, Refused, TooLong, ReadFault, WriteFault, OutOfMemory}
 use Rattle.rb_picture.specs.declared.style.TheConstants.{STYLE}
-use Rattle.rb_picture.specs.Lines.{FailsAt, IsReport}
+use Rattle.rb_picture.specs.Lines.{AllFit, FailsAt, IsReport}
 use Rattle.rb_picture.specs.Forms.{AskFor, first_of, last_of}
 use Rattle.rb_picture.specs.Pages.{page_text}
 use Rattle.rb_picture.specs.Picture.{asked_of, picture_text}
@@ -138,3 +139,65 @@ pub record Untouched {S K : Type 0} (words : List (String Global)) (status : Sta
   pub unread : status ≡ Usage → source' ≡ source
   pub without_input : (flag : Flag) → AskFor words (Show flag) → source' ≡ source
   pub unwritten : WritesNothing status → sink' ≡ sink
+
+-- The answers that must come.
+
+-- for bytes that were read, where no write fails. Want of memory alone may come in their place
+pub record CompletesOn (bytes : List ℕ) (status : Status) (writes writes' : ℕ) : Type 0 where
+  pub drawn : (lines : List Line) → AllFit lines → IsReport bytes lines → ¬ Rose writes writes' → (status ≡ Done) ⊎ (status ≡ OutOfMemory)
+  pub refused : ((lines : List Line) → ¬ IsReport bytes lines) → ¬ Rose writes writes' → (status ≡ Refused) ⊎ (status ≡ OutOfMemory)
+
+-- the source tells this input, which is within the limit, and no read fails
+pub record IsReadable (input : List ℕ) (left : Option (List ℕ)) (reads reads' : ℕ) : Type 0 where
+  pub told : left ≡ Some input
+  pub within : length input ≤ report_limit
+  pub no_read : ¬ Rose reads reads'
+
+-- to words: for frames as for the bytes of the input, and for a flag Done, unless a write fails
+pub record Completes (words : List (String Global)) (status : Status) (left : Option (List ℕ)) (reads reads' writes writes' : ℕ) : Type 0 where
+  pub drawn : (frames : Frames) (input : List ℕ) → AskFor words (Draw frames) → IsReadable input left reads reads' → CompletesOn input status writes writes'
+  pub shown : (flag : Flag) → AskFor words (Show flag) → ¬ Rose writes writes' → status ≡ Done
+
+-- All that is said of an answer. The source tells what it has left, the sink what it holds, and each counts its faults.
+
+-- a text is written with this answer, or of it a first part
+pub record TextAnswers {K : Type 0} (held : K → Option (List ℕ)) (writes : K → ℕ) (sink sink' : K) (status end : Status) (text : List ℕ) : Type 0 where
+  pub whole : status ≡ end → Appends (held sink) (held sink') text
+  pub part : status ≡ WriteFault → AppendsPart (held sink) (held sink') text
+  pub cause : status ≡ WriteFault → Rose (writes sink) (writes sink')
+  pub either : (status ≡ end) ⊎ (status ≡ WriteFault)
+
+-- bytes were read, for these frames
+pub record BytesAnswers {K : Type 0} (frames : Frames) (bytes : List ℕ) (held : K → Option (List ℕ)) (writes : K → ℕ) (sink sink' : K) (status : Status) : Type 0 where
+  pub done : status ≡ Done → Draws frames bytes (held sink) (held sink')
+  pub refused : status ≡ Refused → Refuses bytes (held sink) (held sink')
+  pub part : status ≡ WriteFault → FailsToWrite frames bytes (held sink) (held sink')
+  pub cause : status ≡ WriteFault → Rose (writes sink) (writes sink')
+  pub memory : status ≡ OutOfMemory → sink' ≡ sink
+  pub one_of : IsOfReport status
+  pub complete : CompletesOn bytes status (writes sink) (writes sink')
+
+-- frames were asked for
+pub record FramesAnswers {S K : Type 0} (frames : Frames) (status : Status) (left : S → Option (List ℕ)) (reads : S → ℕ) (source source' : S)
+    (held : K → Option (List ℕ)) (writes : K → ℕ) (sink sink' : K) : Type 0 where
+  pub known : ¬ (status ≡ Usage)
+  pub done : status ≡ Done → IsDrawn frames (left source) (left source') (held sink) (held sink')
+  pub refused : status ≡ Refused → IsRefused (left source) (left source') (held sink) (held sink')
+  pub part : status ≡ WriteFault → IsDrawnInPart frames (left source) (left source') (held sink) (held sink')
+  pub cause : status ≡ WriteFault → Rose (writes sink) (writes sink')
+  pub too_long : status ≡ TooLong → Gave (left source) (left source') (λ n. report_limit < n)
+  pub read_fault : status ≡ ReadFault → Rose (reads source) (reads source')
+  pub nothing : WritesNothing status → sink' ≡ sink
+  pub complete : (input : List ℕ) → IsReadable input (left source) (reads source) (reads source') → CompletesOn input status (writes sink) (writes sink')
+
+-- words were given
+pub record Answers {S K : Type 0} (words : List (String Global)) (status : Status) (left : S → Option (List ℕ)) (reads : S → ℕ) (source source' : S)
+    (held : K → Option (List ℕ)) (writes : K → ℕ) (sink sink' : K) : Type 0 where
+  pub usage : UsageExactly status words
+  pub untouched : Untouched words status source source' sink sink'
+  pub done : status ≡ Done → IsDone words (left source) (left source') (held sink) (held sink')
+  pub refused : status ≡ Refused → IsRefused (left source) (left source') (held sink) (held sink')
+  pub write_fault : status ≡ WriteFault → IsCutOff words (left source) (left source') (held sink) (held sink') × Rose (writes sink) (writes sink')
+  pub too_long : status ≡ TooLong → Gave (left source) (left source') (λ n. report_limit < n)
+  pub read_fault : status ≡ ReadFault → Rose (reads source) (reads source')
+  pub complete : Completes words status (left source) (reads source) (reads source') (writes sink) (writes sink')

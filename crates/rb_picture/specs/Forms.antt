@@ -24,10 +24,14 @@ IsInRange (Draw All) = ⊤
 IsInRange (Draw (Between first last)) = AreInOrder first last
 IsInRange (Show flag) = ⊤
 
--- the words ask for this
-pub record AskFor (words : List (String Global)) (form : Form) : Type 0 where
-  pub same : map string_bytes words ≡ words_of form
+-- these words are those of the form, whose numbers are in range
+pub record Ask (words : List (List ℕ)) (form : Form) : Type 0 where
+  pub same : words ≡ words_of form
   pub in_range : IsInRange form
+
+-- the words ask for this, byte by byte
+abbrev pub AskFor : List (String Global) → Form → Type 0
+AskFor words form = Ask (map string_bytes words) form
 
 -- the first frame that is drawn, and the last one
 abbrev pub first_of : Frames → ℕ

@@ -1,5 +1,5 @@
 -- What stands above all frames.
-use Rattle.std.specs.Prelude.{ℕ, List, codes}
+use Rattle.std.specs.Prelude.{ℕ, List, [], codes, nat_lt, if◌then◌else◌}
 use Rattle.std.specs.Fmt.{decimal}
 use Rattle.rb_picture.specs.declared.extent.Extent.{Extent}
 use Rattle.rb_picture.specs.declared.sheet.Sheet.{Sheet}
@@ -10,12 +10,17 @@ use Rattle.rb_picture.specs.Markup.{with_box, with_label}
 use Rattle.rb_picture.specs.Overview.{with_signature}
 use Rattle.rb_picture.specs.Sheets.{sheet_height, sheet_width}
 
--- the frames that are drawn
+-- the first and the last frame that are drawn, where any is
+unfoldable pub with_frames : Extent → List ℕ → List ℕ
+with_frames extent text = if nat_lt extent.last extent.first
+    then with_label text 20 28 (codes "title") (codes "no frame") []
+    else with_label (with_label text 20 28 (codes "title") (codes "first frame ") (decimal extent.first))
+    220 28 (codes "title") (codes "last frame ") (decimal extent.last)
+
+-- the page, and the frames that are drawn
 unfoldable pub with_heading : Sheet → List ℕ → List ℕ
 with_heading sheet text =
-    with_label (with_label (with_box text (record { x = 0; y = 0; width = sheet_width sheet; height = sheet_height sheet }) (codes "page"))
-    20 28 (codes "title") (codes "first frame ") (decimal sheet.extent.first))
-    220 28 (codes "title") (codes "last frame ") (decimal sheet.extent.last)
+    with_frames sheet.extent (with_box text (record { x = 0; y = 0; width = sheet_width sheet; height = sheet_height sheet }) (codes "page"))
 
 -- what colours and signs mean
 abbrev pub with_key : View → Extent → List ℕ → List ℕ

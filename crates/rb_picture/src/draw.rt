@@ -1,9 +1,6 @@
 //! The top call.
-ghost use Rattle.std.specs.Prelude.{ℕ, ◌≡◌, ◌≢◌, ◌<◌, ◌≤◌, ◌^◌, ◌⊎◌, length, IfSome, IfNone, IfOk, decimal};
-ghost use Rattle.std.specs.Io.KnownBytes.{Appends};
-ghost use Rattle.rb_outside.specs.Bytes.{AppendsPart, Gave, ReadsToEnd};
-ghost use Rattle.rb_outside.specs.Causes.{Rose};
-ghost use Rattle.rb_picture.specs.Answers.{Draws, FailsToWrite, IsCutOff, IsDone, IsDrawn, IsDrawnInPart, IsOfReport, IsRefused, Refuses, Untouched, UsageExactly, WritesNothing, fault_name, fault_text, picture_of, report_limit};
+ghost use Rattle.std.specs.Prelude.{◌≡◌, ◌≤◌, length, IfOk};
+ghost use Rattle.rb_picture.specs.Answers.{Answers, BytesAnswers, FramesAnswers, TextAnswers, fault_name, fault_text, picture_of};
 ghost use Rattle.rb_picture.specs.Forms.{first_of, last_of};
 ghost use Rattle.rb_picture.specs.Picture.{asked_of};
 
@@ -73,12 +70,8 @@ fn picture_of_frames(alloc: Global, lines: &[Line], frames: Frames) -> Result<Ve
 
 // Writes the line that says where and why bytes are no report.
 fn refuse<K: Sink>(fault: Fault, number: u64, output: &mut K) -> Status
-    ensures refused { result ≡ Status.Refused
-        → Appends (K.held output.old) (K.held output.new) (fault_text fault number) }
-    ensures part { result ≡ Status.WriteFault
-        → AppendsPart (K.held output.old) (K.held output.new) (fault_text fault number) }
-    ensures cause { result ≡ Status.WriteFault → Rose (K.faults output.old) (K.faults output.new) }
-    ensures either { (result ≡ Status.Refused) ⊎ (result ≡ Status.WriteFault) }
+    ensures { TextAnswers K.held K.faults output.old output.new result Status.Refused
+        (fault_text fault number) }
 {
     match write_all(output, fault_line(fault, number).as_str().as_bytes()) {
         Ok(()) => Status::Refused,
@@ -89,15 +82,7 @@ fn refuse<K: Sink>(fault: Fault, number: u64, output: &mut K) -> Status
 // Draws the frames of the report that the bytes are, or writes the line that says why they are
 // none.
 fn draw_bytes<K: Sink>(alloc: Global, bytes: &[u8], frames: Frames, output: &mut K) -> Status
-    ensures done { result ≡ Status.Done
-        → Draws frames bytes.now (K.held output.old) (K.held output.new) }
-    ensures refused { result ≡ Status.Refused
-        → Refuses bytes.now (K.held output.old) (K.held output.new) }
-    ensures part { result ≡ Status.WriteFault
-        → FailsToWrite frames bytes.now (K.held output.old) (K.held output.new) }
-    ensures cause { result ≡ Status.WriteFault → Rose (K.faults output.old) (K.faults output.new) }
-    ensures memory { result ≡ Status.OutOfMemory → output.new ≡ output.old }
-    ensures one_of { IsOfReport result }
+    ensures { BytesAnswers frames bytes.now K.held K.faults output.old output.new result }
 {
     let lines = match lines_in(alloc, bytes) {
         Ok(lines) => lines,
@@ -121,21 +106,8 @@ fn draw_frames<S: Source, K: Sink>(
     input: &mut S,
     output: &mut K,
 ) -> Status
-    ensures known { result ≢ Status.Usage }
-    ensures done { result ≡ Status.Done
-        → IsDrawn frames (S.left input.old) (S.left input.new) (K.held output.old)
-        (K.held output.new) }
-    ensures refused { result ≡ Status.Refused
-        → IsRefused (S.left input.old) (S.left input.new) (K.held output.old) (K.held output.new) }
-    ensures part { result ≡ Status.WriteFault
-        → IsDrawnInPart frames (S.left input.old) (S.left input.new) (K.held output.old)
-        (K.held output.new) }
-    ensures cause { result ≡ Status.WriteFault → Rose (K.faults output.old) (K.faults output.new) }
-    ensures too_long { result ≡ Status.TooLong
-        → Gave (S.left input.old) (S.left input.new) (λ n. report_limit < n) }
-    ensures read_fault { result ≡ Status.ReadFault
-        → Rose (S.faults input.old) (S.faults input.new) }
-    ensures nothing { WritesNothing result → output.new ≡ output.old }
+    ensures { FramesAnswers frames result S.left S.faults input.old input.new
+        K.held K.faults output.old output.new }
 {
     match read_all(alloc, input, REPORT_LIMIT) {
         Ok(bytes) => draw_bytes(alloc, &bytes, frames, output),
@@ -157,28 +129,16 @@ fn draw_frames<S: Source, K: Sink>(
 /// or written. `Refused`: the input is no report; one line `refused CODE NAME LINE` says where and
 /// why. `TooLong`: the source gave more than 67,108,864 bytes. `ReadFault`, `WriteFault`: the
 /// source or the sink failed; what a failing sink took is a first part of what was due.
-/// `OutOfMemory`: an allocation failed before anything was written.
+/// `OutOfMemory`: an allocation failed before anything was written. A report that the source tells
+/// is drawn, and what is none is refused, unless a read, a write or an allocation fails.
 pub fn draw<S: Source, K: Sink>(
     alloc: Global,
     words: &[String],
     input: &mut S,
     output: &mut K,
 ) -> Status
-    ensures usage { UsageExactly result words.now }
-    ensures untouched { Untouched words.now result input.old input.new output.old output.new }
-    ensures done { result ≡ Status.Done
-        → IsDone words.now (S.left input.old) (S.left input.new) (K.held output.old)
-        (K.held output.new) }
-    ensures refused { result ≡ Status.Refused
-        → IsRefused (S.left input.old) (S.left input.new) (K.held output.old) (K.held output.new) }
-    ensures write_fault { result ≡ Status.WriteFault
-        → IsCutOff words.now (S.left input.old) (S.left input.new) (K.held output.old)
-        (K.held output.new)
-        × Rose (K.faults output.old) (K.faults output.new) }
-    ensures too_long { result ≡ Status.TooLong
-        → Gave (S.left input.old) (S.left input.new) (λ n. report_limit < n) }
-    ensures read_fault { result ≡ Status.ReadFault
-        → Rose (S.faults input.old) (S.faults input.new) }
+    ensures { Answers words.now result S.left S.faults input.old input.new
+        K.held K.faults output.old output.new }
 {
     match form_in(words) {
         Some(Form::Draw(frames)) => draw_frames(alloc, frames, input, output),

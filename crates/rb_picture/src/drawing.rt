@@ -1,7 +1,7 @@
 //! The parts of a picture.
 ghost use Rattle.std.specs.Prelude.{◌≡◌, ◌≤◌, OnOk, slice_index_or, codes, length};
 ghost use Rattle.rb_report.specs.Report.{heard_text};
-ghost use Rattle.rb_picture.specs.Headings.{with_heading};
+ghost use Rattle.rb_picture.specs.Headings.{with_frames, with_heading};
 ghost use Rattle.rb_picture.specs.Drawing.{cause_words, follows, look_of, with_absence, with_breach, with_cell, with_cross, with_ending, with_ground, with_last_panel, with_legend, with_marks, with_name, with_names, with_names_of, with_owner, with_panel, with_sender, with_senders, with_slot_number, with_slots, with_state, with_states, with_states_of, with_strokes, with_tick};
 
 use crate::column::Column;
@@ -437,20 +437,21 @@ pub(crate) fn push_legend(out: &mut Vec<u8>, extent: Extent) -> Result<(), OutOf
     push_strokes(out)
 }
 
-/// Which frames are drawn.
-#[tactic(auto, unfolding(crate::specs::Headings::with_heading))]
-pub(crate) fn push_heading(out: &mut Vec<u8>, sheet: Sheet) -> Result<(), OutOfMemory>
-    ensures { OnOk result (out.new.items ≡ with_heading sheet out.old.items) }
+/// Which frames are drawn, where any is.
+#[tactic(auto, unfolding(crate::specs::Headings::with_frames))]
+fn push_frames(out: &mut Vec<u8>, extent: Extent) -> Result<(), OutOfMemory>
+    ensures { OnOk result (out.new.items ≡ with_frames extent out.old.items) }
 {
-    let page = area(0, 0, sheet_width(sheet), sheet_height(sheet));
-    push_box(out, page, "page")?;
+    if extent.last < extent.first {
+        return push_label(out, 20, 28, "title", "no frame", "");
+    }
     push_label(
         out,
         20,
         28,
         "title",
         "first frame ",
-        Buffer::new().format(sheet.extent.first),
+        Buffer::new().format(extent.first),
     )?;
     push_label(
         out,
@@ -458,6 +459,16 @@ pub(crate) fn push_heading(out: &mut Vec<u8>, sheet: Sheet) -> Result<(), OutOfM
         28,
         "title",
         "last frame ",
-        Buffer::new().format(sheet.extent.last),
+        Buffer::new().format(extent.last),
     )
+}
+
+/// The page, and which frames are drawn.
+#[tactic(auto, unfolding(crate::specs::Headings::with_heading))]
+pub(crate) fn push_heading(out: &mut Vec<u8>, sheet: Sheet) -> Result<(), OutOfMemory>
+    ensures { OnOk result (out.new.items ≡ with_heading sheet out.old.items) }
+{
+    let page = area(0, 0, sheet_width(sheet), sheet_height(sheet));
+    push_box(out, page, "page")?;
+    push_frames(out, sheet.extent)
 }

@@ -1,8 +1,6 @@
 //! What the program says of itself.
-ghost use Rattle.std.specs.Prelude.{◌≡◌, ◌⊎◌};
-ghost use Rattle.std.specs.Io.KnownBytes.{Appends};
-ghost use Rattle.rb_outside.specs.Bytes.{AppendsPart};
-ghost use Rattle.rb_outside.specs.Causes.{Rose};
+ghost use Rattle.std.specs.Prelude.{◌≡◌};
+ghost use Rattle.rb_picture.specs.Answers.{TextAnswers};
 ghost use Rattle.rb_picture.specs.Pages.{help_text, page_text};
 
 use crate::status::Status;
@@ -45,12 +43,7 @@ fn page_text(flag: Flag) -> &'static str
 
 /// Writes what the flag asks for.
 pub(crate) fn write_page<K: Sink>(flag: Flag, output: &mut K) -> Status
-    ensures done { result ≡ Status.Done
-        → Appends (K.held output.old) (K.held output.new) (page_text flag) }
-    ensures part { result ≡ Status.WriteFault
-        → AppendsPart (K.held output.old) (K.held output.new) (page_text flag) }
-    ensures cause { result ≡ Status.WriteFault → Rose (K.faults output.old) (K.faults output.new) }
-    ensures either { (result ≡ Status.Done) ⊎ (result ≡ Status.WriteFault) }
+    ensures { TextAnswers K.held K.faults output.old output.new result Status.Done (page_text flag) }
 {
     match write_all(output, page_text(flag).as_bytes()) {
         Ok(()) => Status::Done,
