@@ -6,7 +6,6 @@ use Rattle.std.proofs.lemmas.Option.{same_Some}
 use Rattle.rb_base.specs.Nodes.{Side, other}
 use Rattle.rb_base.specs.Sizes.{Sizes, sync_slot_of}
 use Rattle.rb_base.specs.declared.node.NodeName.{NodeName}
-use Rattle.rb_base.specs.declared.node.NodeName.TheVariants as node
 use Rattle.rb_rules.specs.declared.plan.Plan.{Plan}
 use Rattle.rb_rules.specs.Book.{Each, of_kind}
 use Rattle.rb_rules.specs.Clock.{time_of}

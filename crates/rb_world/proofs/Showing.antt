@@ -30,7 +30,7 @@ use Rattle.rb_laws_events.proofs.DueEvents.{IsDue as IsPending}
 use Rattle.rb_port.specs.Keeping.{KeptPort}
 use Rattle.rb_world.specs.Sites.{KeptSite, number_of}
 use Rattle.rb_world.proofs.Standing.{passing-most}
-use Rattle.rb_world.specs.Showing.{IsInTime, MayShow, MayShowArrival, MayShowTick}
+use Rattle.rb_world.specs.Showing.{IsInTime, IsShownAt, MayShow, MayShowArrival, MayShowTick}
 use Rattle.rb_world.specs.Steps.{MayHappen}
 use Rattle.rb_world.specs.Worlds.{KeptWorld, Stands, due_in}
 use Rattle.rb_world.proofs.Arrivals.{arrival-ready, in-time}
@@ -44,6 +44,9 @@ event-same a b m n x y ea em ex =
     ∙ ap (λ m. let e : Event = record { node = b; quiet = m; kind = x } in e) em
     ∙ ap (λ x. let e : Event = record { node = b; quiet = n; kind = x } in e) ex
 
+shown-as : (sc : Scenario) (me : Side) (i : ℕ) (site : KeptSite) (name : NodeName) (s : Site) → name ≡ name_of me i → IsShownAt sc me i site (name_of me i) s → IsShownAt sc me i site name s
+shown-as sc me i site name s named at = subst (λ n. IsShownAt sc me i site n s) (sym named) at
+
 -- a tick is shown as one
 pub record ShowsTick (sc : Scenario) (me : Side) (i : ℕ) (waits : Pending) (site : KeptSite) (kept : List KeptPort) (name : NodeName) (states : List PortState) (s : Site) : Type 0 where
   pub tick : ℕ
@@ -51,11 +54,11 @@ pub record ShowsTick (sc : Scenario) (me : Side) (i : ℕ) (waits : Pending) (si
   pub may : MayShowTick sc me i tick site kept name states s
 
 pub tick-shows : (sc : Scenario) (me : Side) (i : ℕ) (waits : Pending) (site : KeptSite) (kept : List KeptPort) (time : ℕ) (name : NodeName) (event : Event) (states : List PortState) (s : Site)
-    (word : ℕ) (wanted : Bool) → MayShow sc me i waits site kept time name event states s → event.kind ≡ kind.Tick word wanted → ShowsTick sc me i waits site kept name states s
-tick-shows sc me i waits site kept time name event states s word wanted may is = by waits (subst (Shows waits) is may.shows) may.in_time
+    (word : ℕ) (wanted : Bool) → name ≡ name_of me i → MayShow sc me i waits site kept time event states s → event.kind ≡ kind.Tick word wanted → ShowsTick sc me i waits site kept name states s
+tick-shows sc me i waits site kept time name event states s word wanted named may is = by waits (subst (Shows waits) is may.shows) may.in_time
   where
     by : (p : Pending) → Shows p (kind.Tick word wanted) → IsInTime sc me i s.core p → ShowsTick sc me i p site kept name states s
-    by (Tick k) shows next = record { tick = k; is = refl; may = record { at = may.at; next = next; holds = may.holds } }
+    by (Tick k) shows next = record { tick = k; is = refl; may = record { at = shown-as sc me i site name s named may.at; next = next; holds = may.holds } }
     by (Arrival place c) shows next = absurd shows
 
 -- an arrival is shown as one
@@ -65,9 +68,9 @@ pub record ShowsArrival (sc : Scenario) (me : Side) (i : ℕ) (waits : Pending) 
   pub may : MayShowArrival sc me i site time name s
 
 pub arrival-shows : (sc : Scenario) (me : Side) (i : ℕ) (waits : Pending) (site : KeptSite) (kept : List KeptPort) (time : ℕ) (name : NodeName) (event : Event) (states : List PortState) (s : Site)
-    (from : ℕ) (bytes : ArrayVec ℕ) → MayShow sc me i waits site kept time name event states s → event.kind ≡ kind.Arrive from bytes
+    (from : ℕ) (bytes : ArrayVec ℕ) → name ≡ name_of me i → MayShow sc me i waits site kept time event states s → event.kind ≡ kind.Arrive from bytes
     → ShowsArrival sc me i waits site time name from bytes.items s
-arrival-shows sc me i waits site kept time name event states s from bytes may is = by waits (subst (Shows waits) is may.shows) may.time_is may.in_time
+arrival-shows sc me i waits site kept time name event states s from bytes named may is = by waits (subst (Shows waits) is may.shows) may.time_is may.in_time
   where
     by : (p : Pending) → Shows p (kind.Arrive from bytes) → IsAtTime time p → IsInTime sc me i s.core p → ShowsArrival sc me i p site time name from bytes.items s
     by (Tick k) shows at next = absurd shows
@@ -78,7 +81,7 @@ arrival-shows sc me i waits site kept time name event states s from bytes may is
         record {
           place = place;
           is = ap (Arrival place) same;
-          may = record { at = may.at; in_time = subst (ComesBy (2 ^ 31) (clock_of sc me i)) at next };
+          may = record { at = shown-as sc me i site name s named may.at; in_time = subst (ComesBy (2 ^ 31) (clock_of sc me i)) at next };
         }
 
 -- An event that would be taken.
@@ -125,14 +128,14 @@ takes-due sc w lanes i event name place holds at d shown =
 
 -- All that is needed to show it.
 
-pub record ShowReady (k : KeptWorld) (w : World) (i : ℕ) (me : Side) (j time : ℕ) (name : NodeName) (event : Event) : Type 0 where
+pub record ShowReady (k : KeptWorld) (w : World) (i : ℕ) (me : Side) (j time : ℕ) (event : Event) : Type 0 where
   pub waits : Pending
   pub s : Site
   pub site : KeptSite
   pub kept_there : slice_get (of_kind me k.nodes) j ≡ Some site
   pub inside : j < length (of_kind me k.nodes)
   pub number : number_of site ≡ j
-  pub may : MayShow k.bus me j waits site k.scene.ports.items time name event w.ports s
+  pub may : MayShow k.bus me j waits site k.scene.ports.items time event w.ports s
   pub is : event_at k.bus w i ≡ Some (event_of k.bus w.ports me j s.core waits)
 
 event-is : (sc : Scenario) (w : World) (i : ℕ) (d : Due) (me : Side) (j : ℕ) (p : Pending) (s : Site) → slice_get (due_of sc w) i ≡ Some d → d ≡ record { side = me; node = j; pending = p }
@@ -143,7 +146,7 @@ event-is sc w i d me j p s found is there =
     ∙ ap (option_map (λ (s : Site). event_of sc w.ports me j s.core p)) there
 
 show-happening : (k : KeptWorld) (w : World) (i : ℕ) (d : Due) (me : Side) (j time : ℕ) (name : NodeName) (event : Event) (lanes : Each Lane) → Stands k w
-    → MayHappen k.bus k.nodes (record k.scene { agenda = lanes }) time name event w i d → name ≡ name_of me j → (e : EventKind) → event.kind ≡ e → ShowReady k w i me j time name event
+    → MayHappen k.bus k.nodes (record k.scene { agenda = lanes }) time name event w i d → name ≡ name_of me j → (e : EventKind) → event.kind ≡ e → ShowReady k w i me j time event
 show-happening k w i d me j time name event lanes is may named (kind.Tick word wanted) shown =
     let t = tick-of k.bus k.nodes (record k.scene { agenda = lanes }) time name event w i d me j word wanted may shown named in
     let due : IsPending w (record { side = me; node = j; pending = Tick t.tick }) = subst (IsPending w) t.is (due-reached k.bus w i d may.reached may.found) in
@@ -158,7 +161,7 @@ show-happening k w i d me j time name event lanes is may named (kind.Tick word w
       inside = there.1;
       number = node.number;
       may = record {
-        at = record { within = there.0; named = named; number = node.number; stands = node.site };
+        at = record { within = there.0; named = refl; number = node.number; stands = node.site };
         holds = is.scene.ports;
         shows = subst (λ (d : Due). Shows d.pending event.kind) t.is may.shows;
         time_is = tt;
@@ -180,7 +183,7 @@ show-happening k w i d me j time name event lanes is may named (kind.Arrive from
       inside = (node-there k.bus k.nodes (record k.scene { agenda = lanes }) time name event w i d me j may named).1;
       number = r.node.number;
       may = record {
-        at = record { within = r.within; named = named; number = r.node.number; stands = r.node.site };
+        at = record { within = r.within; named = refl; number = r.node.number; stands = r.node.site };
         holds = is.scene.ports;
         shows = subst (λ (d : Due). Shows d.pending event.kind) r.is may.shows;
         time_is = refl;
@@ -191,7 +194,7 @@ show-happening k w i d me j time name event lanes is may named (kind.Arrive from
 
 pub show-ready : (k : KeptWorld) (w : World) (i place : ℕ) (me : Side) (j : ℕ) (name : NodeName) (event : Event) → Stands k w → i < due_in k
     → StandsAt k.scene.agenda (first_time k.scene.agenda) i name place → IsDue k.bus w k.scene.agenda i name place → ready_event name place (lane_of k.scene.agenda name) ≡ Some event
-    → name ≡ name_of me j → ShowReady k w i me j (first_time k.scene.agenda) name event
+    → name ≡ name_of me j → ShowReady k w i me j (first_time k.scene.agenda) event
 show-ready k w i place me j name event is below at due shown named =
     let lanes : Each Lane = with_lane name (without_ready place (lane_of k.scene.agenda name)) k.scene.agenda in
     let takes : Takes k.scene.agenda i name event lanes = record { place = place; stands = at; taken = shown; left = refl } in
@@ -200,17 +203,16 @@ show-ready k w i place me j name event is below at due shown named =
 
 -- With what is at hand: this site, these ports, this time, the node by its name.
 
-pub may-show : (k : KeptWorld) (w : World) (i : ℕ) (me : Side) (j time : ℕ) (name : NodeName) (event : Event) (site : KeptSite) (ports : List KeptPort)
-    → (r : ShowReady k w i me j (first_time k.scene.agenda) name event) → r.site ≡ site → ports ≡ k.scene.ports.items → time ≡ first_time k.scene.agenda → name ≡ name_of me j
-    → MayShow k.bus me (number_of site) r.waits site ports time (name_of me j) event w.ports r.s
-may-show k w i me j time name event site ports r site_is ports_are time_is named =
-    subst (λ z. MayShow k.bus me (number_of z) r.waits z ports time (name_of me j) event w.ports r.s) site_is
-    (subst (λ n. MayShow k.bus me n r.waits r.site ports time (name_of me j) event w.ports r.s) (sym r.number)
-    (subst (λ n. MayShow k.bus me j r.waits r.site ports time n event w.ports r.s) named
-    (subst (λ t. MayShow k.bus me j r.waits r.site ports t name event w.ports r.s) (sym time_is)
-    (subst (λ ps. MayShow k.bus me j r.waits r.site ps (first_time k.scene.agenda) name event w.ports r.s) (sym ports_are) r.may))))
+pub may-show : (k : KeptWorld) (w : World) (i : ℕ) (me : Side) (j time : ℕ) (event : Event) (site : KeptSite) (ports : List KeptPort)
+    → (r : ShowReady k w i me j (first_time k.scene.agenda) event) → r.site ≡ site → ports ≡ k.scene.ports.items → time ≡ first_time k.scene.agenda
+    → MayShow k.bus me (number_of site) r.waits site ports time event w.ports r.s
+may-show k w i me j time event site ports r site_is ports_are time_is =
+    subst (λ z. MayShow k.bus me (number_of z) r.waits z ports time event w.ports r.s) site_is
+    (subst (λ n. MayShow k.bus me n r.waits r.site ports time event w.ports r.s) (sym r.number)
+    (subst (λ t. MayShow k.bus me j r.waits r.site ports t event w.ports r.s) (sym time_is)
+    (subst (λ ps. MayShow k.bus me j r.waits r.site ps (first_time k.scene.agenda) event w.ports r.s) (sym ports_are) r.may)))
 
-pub event-shown : (k : KeptWorld) (w : World) (i : ℕ) (me : Side) (j : ℕ) (name : NodeName) (event shown : Event) (site : KeptSite)
-    → (r : ShowReady k w i me j (first_time k.scene.agenda) name event) → r.site ≡ site → shown ≡ event_of k.bus w.ports me (number_of site) r.s.core r.waits → event_at k.bus w i ≡ Some shown
-event-shown k w i me j name event shown site r site_is e =
+pub event-shown : (k : KeptWorld) (w : World) (i : ℕ) (me : Side) (j : ℕ) (event shown : Event) (site : KeptSite)
+    → (r : ShowReady k w i me j (first_time k.scene.agenda) event) → r.site ≡ site → shown ≡ event_of k.bus w.ports me (number_of site) r.s.core r.waits → event_at k.bus w i ≡ Some shown
+event-shown k w i me j event shown site r site_is e =
     r.is ∙ ap (λ (x : Event). Some x) (sym (e ∙ ap (λ n. event_of k.bus w.ports me n r.s.core r.waits) (sym (ap number_of site_is) ∙ r.number)))

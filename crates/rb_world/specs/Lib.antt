@@ -1,6 +1,8 @@
 pub mod Calm
 pub mod Buses
 pub mod Worlds
+pub mod Runs
+pub mod Kept
 pub mod Turning
 pub mod Steps
 pub mod Nexts

@@ -41,8 +41,8 @@ IsInTime sc me i c (Tick k) = next_tick sc.sizes sc.plan me i c ≡ Some k
 IsInTime sc me i c (Arrival place a) = ComesBy (2 ^ 31) (clock_of sc me i) a.time
 
 -- this event at this time is what waits there, and may be shown
-pub record MayShow (sc : Scenario) (me : Side) (i : ℕ) (waits : Pending) (site : KeptSite) (kept : List KeptPort) (time : ℕ) (name : NodeName) (event : Event) (ports : List PortState) (s : Site) : Type 0 where
-  pub at : IsShownAt sc me i site name s
+pub record MayShow (sc : Scenario) (me : Side) (i : ℕ) (waits : Pending) (site : KeptSite) (kept : List KeptPort) (time : ℕ) (event : Event) (ports : List PortState) (s : Site) : Type 0 where
+  pub at : IsShownAt sc me i site (name_of me i) s
   pub holds : HoldsPorts sc kept ports
   pub shows : Shows waits event.kind
   pub time_is : IsAtTime time waits

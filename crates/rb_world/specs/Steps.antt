@@ -9,13 +9,13 @@ use Rattle.rb_base.specs.declared.event.Event.{Event}
 use Rattle.rb_base.specs.declared.node.NodeName.{NodeName}
 use Rattle.rb_rules.specs.Book.{Each, Row, of_kind}
 use Rattle.rb_rules.specs.Clock.{ComesBy, Timeline}
-use Rattle.rb_rules.specs.Core.{Act, Core, next_tick}
+use Rattle.rb_rules.specs.Core.{Act, Core, next_tick, pass_to}
 use Rattle.rb_rules.specs.Goodness.{Scenario, clock_of}
 use Rattle.rb_rules.specs.Hearing.{Coming, Span}
 use Rattle.rb_rules.specs.Lawful.{IsLawful, kind_of}
 use Rattle.rb_rules.specs.Links.{name_of}
 use Rattle.rb_rules.specs.Slots.{count_of, first_diagnosis_of}
-use Rattle.rb_rules.specs.WorldStep.{Due, Site, World, after_act, at_node, due_of, happens, pass_and_tick, proceed, span_from, with_act, with_delivery}
+use Rattle.rb_rules.specs.WorldStep.{Due, Site, World, after_act, at_node, due_of, happens, pass_and_tick, proceed, span_from, wants_in, with_act, with_delivery, word_of}
 use Rattle.rb_world_agenda.specs.Agenda.{IsAtTime}
 use Rattle.rb_world_agenda.specs.Holding.{Shows, without_waiting}
 use Rattle.rb_node.specs.Cores.{IsCore, passing_end}
@@ -125,6 +125,14 @@ pub record Ticks (sc : Scenario) (me : Side) (i k : ℕ) (site : KeptSite) (scen
 -- its act
 abbrev pub act_at : Scenario → World → Side → ℕ → ℕ → Site → Act
 act_at sc w me i k s = pass_and_tick sc w.ports me i k s.core
+
+-- the tick has been taken, and gave its act
+abbrev pub HasTicked : Scenario → Side → ℕ → ℕ → KeptSite → Scene → World → Site → Type 0
+HasTicked sc me i k site scene w s = Ticks sc me i k site scene w s (act_at sc w me i k s)
+
+-- the word that the node takes with its tick k
+abbrev pub word_at : Scenario → World → Side → ℕ → ℕ → Site → ℕ
+word_at sc w me i k s = word_of sc w.ports i (wants_in sc me i (pass_to k s.core))
 
 -- Events.
 

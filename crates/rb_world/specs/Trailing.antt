@@ -16,7 +16,7 @@ use Rattle.rb_rules.specs.WorldStep.{Site, Timed, World, at_node, happens}
 use Rattle.rb_rules.specs.WorldStep.Pending.{Tick, Arrival}
 use Rattle.rb_queue.specs.Waiting.{HasLane, Held}
 use Rattle.rb_world_agenda.specs.Holding.{HoldsSites, without_waiting}
-use Rattle.rb_world.specs.Sites.{KeptSite}
+use Rattle.rb_world.specs.Sites.{KeptSite, number_of}
 use Rattle.rb_laws_sweeps.specs.AheadOf.{GoesOnAhead, IsFirstTick, ahead_of, tick_alone, until_tick}
 use Rattle.rb_laws_sweeps.specs.Laws.{NeedsEvent}
 use Rattle.rb_laws_sweeps.specs.Sweeping.{first_of, swept}
@@ -67,6 +67,10 @@ pub record MaySweep (sc : Scenario) (me : Side) (i until : ℕ) (site : KeptSite
   pub lane : HasLane lanes (name_of me i)
   pub rooms : HaveRooms sc lanes
   pub reachable : IsReachable sc me i until s
+
+-- so with the node of which this is kept
+abbrev pub MaySweepAt : Scenario → Side → ℕ → KeptSite → Each Held → Each Site → Site → Type 0
+MaySweepAt sc me until site lanes sites s = MaySweep sc me (number_of site) until site lanes sites s
 
 -- the tick that is pending, if it does not come before this time
 abbrev pub tick_from : ℕ → Option Timed → Option Timed

@@ -42,8 +42,8 @@ impl World {
             → slice_get (of_kind (kind_of node) w.sites) (number_of node) ≡ Some s → result ≡ s.core.state.frame }
     {
         match node {
-            NodeName::Biu(i) => self.bius[usize::from(i)].node().engine().frame(),
-            NodeName::Rmu(i) => self.rmus[usize::from(i)].node().engine().frame(),
+            NodeName::Biu(i) => self.run.bius[usize::from(i)].node().engine().frame(),
+            NodeName::Rmu(i) => self.run.rmus[usize::from(i)].node().engine().frame(),
         }
     }
 }

@@ -103,15 +103,15 @@ fn show<K: Kind>(
     site: &Site<K>,
     ports: &[Port],
     time: u64,
-    node: NodeName,
     event: &Event,
 ) -> Event
     requires may { (waits : Pending) × (states : List PortState) × (s : WorldSite)
-        × MayShow bus.now (side_of K.CODE) (number_of site.now) waits site.now ports.now time node event.now states s }
+        × MayShow bus.now (side_of K.CODE) (number_of site.now) waits site.now ports.now time event.now states s }
     ensures { (waits : Pending) (states : List PortState) (s : WorldSite)
-        → MayShow bus.now (side_of K.CODE) (number_of site.now) waits site.now ports.now time node event.now states s
+        → MayShow bus.now (side_of K.CODE) (number_of site.now) waits site.now ports.now time event.now states s
         → result ≡ event_of bus.now states (side_of K.CODE) (number_of site.now) s.core waits }
 {
+    let node = site.name();
     match &event.kind {
         EventKind::Tick { .. } => show_tick(bus, apps, site, ports, node),
         EventKind::Arrive { from, bytes } => { show_arrival(bus, site, time, node, *from, bytes) }
@@ -127,10 +127,10 @@ impl World {
         ensures some { (w : RunWorld) → Stands self.now w → NeedsEvent self.now.bus w → 1 ≤ result }
         ensures stands { (w : RunWorld) × Stands self.now w }
     {
-        if self.scene.book.has_ended() || self.scene.book.needs_no_event() {
+        if self.run.scene.book.has_ended() || self.run.scene.book.needs_no_event() {
             return 0;
         }
-        self.scene.agenda.due()
+        self.run.scene.agenda.due()
     }
 
     /// The i-th of the events that are due, counted from 0: how many quiet ticks its node has before it, and the arrival, or the tick
@@ -139,26 +139,24 @@ impl World {
         requires below { i < due_in self.now }
         ensures world { (w : RunWorld) → Stands self.now w → event_at self.now.bus w i ≡ Some result }
     {
-        let (node, place) = self.scene.agenda.locate(i);
-        let time = self.scene.agenda.first_time();
-        let event = self.scene.agenda.event(node, place);
+        let (node, place) = self.run.scene.agenda.locate(i);
+        let time = self.run.scene.agenda.first_time();
+        let event = self.run.scene.agenda.event(node, place);
         match node {
             NodeName::Biu(k) => show(
                 &self.bus,
                 apps,
-                &self.bius[usize::from(k)],
-                &self.scene.ports,
+                &self.run.bius[usize::from(k)],
+                &self.run.scene.ports,
                 time,
-                node,
                 &event,
             ),
             NodeName::Rmu(k) => show(
                 &self.bus,
                 apps,
-                &self.rmus[usize::from(k)],
-                &self.scene.ports,
+                &self.run.rmus[usize::from(k)],
+                &self.run.scene.ports,
                 time,
-                node,
                 &event,
             ),
         }

@@ -52,7 +52,7 @@ impl World {
             return;
         };
         if is_good_at_begin(&self.bus, biu, frame) {
-            set_state(&mut self.scene.ports, biu, state);
+            set_state(&mut self.run.scene.ports, biu, state);
         }
     }
 }

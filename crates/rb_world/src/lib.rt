@@ -19,6 +19,7 @@ mod next;
 pub mod observing;
 mod opening;
 mod proceeding;
+mod run;
 mod scene;
 pub mod site;
 mod sweeping;

@@ -15,6 +15,7 @@ ghost use Rattle.rb_world.specs.Worlds.{Stands, last_of};
 
 use crate::last::Last;
 use crate::observing::{Nobody, Observer};
+use crate::run::Setup;
 use crate::taking::last_of;
 use crate::ties::{Ties, choose};
 use crate::trailing::run_ticks;
@@ -42,11 +43,11 @@ impl World {
         ensures world { (w : RunWorld) → Stands self.old w → Gives self.new turn.new (go_on self.old.bus w) }
         ensures bus { self.new.bus ≡ self.old.bus }
     {
-        if self.scene.book.has_ended() {
+        if self.run.scene.book.has_ended() {
             *turn = last_turn(self.last);
             return;
         }
-        self.scene.book.settle_into(Way::ByItself, turn);
+        self.run.scene.book.settle_into(Way::ByItself, turn);
         self.last = last_of(turn);
     }
 
@@ -101,20 +102,16 @@ impl World {
         ensures told { (name : NodeName) → observed ≡ Some name → IsNodeOf self.old.bus.sizes name → (w : RunWorld) (state : ℕ) → Stands self.old w
             → RunsTold T T.observes name observer.old observer.new state self.old self.new turn.new w }
     {
-        if self.scene.book.has_ended() {
+        if self.run.scene.book.has_ended() {
             *turn = last_turn(self.last);
             return;
         }
-        run_ticks(
-            &self.bus,
+        let setup = Setup {
+            bus: &self.bus,
             apps,
-            &mut self.bius,
-            &mut self.rmus,
-            &mut self.scene,
-            turn,
             observed,
-            observer,
-        );
+        };
+        run_ticks(&setup, &mut self.run, turn, observer);
         self.last = last_of(turn);
     }
 

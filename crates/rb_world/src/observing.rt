@@ -17,6 +17,7 @@ ghost use Rattle.rb_world.specs.Steps.{CanHear};
 use crate::Site;
 use crate::bus::Bus;
 use crate::due::{show_arrival, show_tick};
+use crate::run::Setup;
 use rb_base::{Event, Kind, NodeName};
 use rb_port::{Apps, Port};
 use rb_world_agenda::Agenda;
@@ -105,22 +106,20 @@ fn tell_tick<K: Kind, T: Observer>(
 // The observer is told of a node's tick if that node is the one that is observed.
 #[inline(always)]
 pub(crate) fn tell_tick_for<K: Kind, T: Observer>(
-    bus: &Bus,
-    apps: &Apps,
+    setup: &Setup<'_>,
     site: &Site<K>,
     ports: &[Port],
     node: NodeName,
-    observed: Option<NodeName>,
     observer: &mut T,
 )
     requires may { (k : ℕ) × (states : List PortState) × (s : WorldSite)
-        × MayShowTick bus.now (side_of K.CODE) (number_of site.now) k site.now ports.now node states s }
-    ensures { (name : NodeName) → observed ≡ Some name → (k : ℕ) (states : List PortState) (s : WorldSite)
-        → MayShowTick bus.now (side_of K.CODE) (number_of site.now) k site.now ports.now node states s
+        × MayShowTick setup.now.bus.now (side_of K.CODE) (number_of site.now) k site.now ports.now node states s }
+    ensures { (name : NodeName) → setup.now.observed ≡ Some name → (k : ℕ) (states : List PortState) (s : WorldSite)
+        → MayShowTick setup.now.bus.now (side_of K.CODE) (number_of site.now) k site.now ports.now node states s
         → WasTold T T.observes observer.old
-        (if same_node node name then telling bus.now states (side_of K.CODE) (number_of site.now) s (Tick k) ∷ [] else []) observer.new }
+        (if same_node node name then telling setup.now.bus.now states (side_of K.CODE) (number_of site.now) s (Tick k) ∷ [] else []) observer.new }
 {
-    if is_observed(observed, node) {
-        tell_tick(bus, apps, site, ports, node, observer);
+    if is_observed(setup.observed, node) {
+        tell_tick(setup.bus, setup.apps, site, ports, node, observer);
     }
 }

@@ -15,6 +15,7 @@ use crate::Site;
 use crate::bus::Bus;
 use crate::last::Last;
 use crate::proceeding::proceed;
+use crate::run::Run;
 use crate::scene::Scene;
 use crate::ties::Seeding;
 use crate::world::World;
@@ -126,9 +127,7 @@ impl World {
         begin_all(&bus, bus.shape().rmu(), &mut rmus, &mut scene);
         Ok(World {
             bus,
-            bius,
-            rmus,
-            scene,
+            run: Run { bius, rmus, scene },
             seeding: Seeding::new(0),
             last: Last::Quiet,
         })

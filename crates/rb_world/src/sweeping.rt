@@ -13,15 +13,16 @@ ghost use Rattle.rb_laws_sweeps.specs.AheadOf.{until_tick};
 ghost use Rattle.rb_laws_sweeps.specs.Told.{heard};
 ghost use Rattle.rb_world_traffic.specs.Arriving.{number_of as number_in};
 ghost use Rattle.rb_world.specs.Observing.{WasTold, left_below, left_for};
-ghost use Rattle.rb_world.specs.Trailing.{HasCaughtUp, HaveCaughtUp, MayCatchUp, MaySweep, Sweeps, Trails, until_from};
+ghost use Rattle.rb_world.specs.Runs.{nodes_of};
+ghost use Rattle.rb_world.specs.Trailing.{HasCaughtUp, HaveCaughtUp, MayCatchUp, MaySweepAt, Sweeps, Trails, until_from};
 ghost use Rattle.rb_world.specs.Unstamped.{due_before, taken_all};
 
 use crate::Site;
 use crate::bus::Bus;
 use crate::observing::{Observer, is_observed, tell_arrival};
-use crate::scene::Scene;
+use crate::run::{Run, Setup};
 use crate::taking::hear_at;
-use rb_base::{Biu, Kind, NodeName, Rmu};
+use rb_base::{Kind, NodeName};
 use rb_queue::Arrival;
 use rb_world_agenda::Agenda;
 
@@ -35,8 +36,10 @@ pub(crate) fn sweep<K: Kind>(
     agenda: &mut Agenda,
 )
     requires name { node ≡ name_of (side_of K.CODE) (number_of site.old) }
-    requires may { (sites : Each WorldSite) × (s : WorldSite) × MaySweep bus.now (side_of K.CODE) (number_of site.old) until site.old agenda.old sites s }
-    ensures swept { (sites : Each WorldSite) (s : WorldSite) → MaySweep bus.now (side_of K.CODE) (number_of site.old) until site.old agenda.old sites s
+    requires may { (sites : Each WorldSite) × (s : WorldSite)
+        × MaySweepAt bus.now (side_of K.CODE) until site.old agenda.old sites s }
+    ensures swept { (sites : Each WorldSite) (s : WorldSite)
+        → MaySweepAt bus.now (side_of K.CODE) until site.old agenda.old sites s
         → Sweeps bus.now (side_of K.CODE) (number_of site.old) until site.new agenda.new sites s }
     ensures number { number_of site.new ≡ number_of site.old }
     ensures lanes { (other : NodeName) → HasLane agenda.old other → HasLane agenda.new other }
@@ -110,13 +113,17 @@ fn sweep_told<K: Kind, T: Observer>(
     observer: &mut T,
 )
     requires name { node ≡ name_of (side_of K.CODE) (number_of site.old) }
-    requires may { (sites : Each WorldSite) × (s : WorldSite) × MaySweep bus.now (side_of K.CODE) (number_of site.old) until site.old agenda.old sites s }
-    ensures swept { (sites : Each WorldSite) (s : WorldSite) → MaySweep bus.now (side_of K.CODE) (number_of site.old) until site.old agenda.old sites s
+    requires may { (sites : Each WorldSite) × (s : WorldSite)
+        × MaySweepAt bus.now (side_of K.CODE) until site.old agenda.old sites s }
+    ensures swept { (sites : Each WorldSite) (s : WorldSite)
+        → MaySweepAt bus.now (side_of K.CODE) until site.old agenda.old sites s
         → Sweeps bus.now (side_of K.CODE) (number_of site.old) until site.new agenda.new sites s }
     ensures number { number_of site.new ≡ number_of site.old }
     ensures lanes { (other : NodeName) → HasLane agenda.old other → HasLane agenda.new other }
-    ensures told { (sites : Each WorldSite) (s : WorldSite) → MaySweep bus.now (side_of K.CODE) (number_of site.old) until site.old agenda.old sites s
-        → WasTold T T.observes observer.old (heard bus.now (side_of K.CODE) (number_of site.old) until s) observer.new }
+    ensures told { (sites : Each WorldSite) (s : WorldSite)
+        → MaySweepAt bus.now (side_of K.CODE) until site.old agenda.old sites s
+        → WasTold T T.observes observer.old
+        (heard bus.now (side_of K.CODE) (number_of site.old) until s) observer.new }
 {
     'events: loop {
         match agenda.first_before(node, until) {
@@ -135,29 +142,30 @@ fn sweep_told<K: Kind, T: Observer>(
 // The node is swept. If it is the one that is observed, each arrival is told.
 #[inline(always)]
 pub(crate) fn sweep_for<K: Kind, T: Observer>(
-    bus: &Bus,
+    setup: &Setup<'_>,
     node: NodeName,
     until: u64,
     site: &mut Site<K>,
     agenda: &mut Agenda,
-    observed: Option<NodeName>,
     observer: &mut T,
 )
     requires name { node ≡ name_of (side_of K.CODE) (number_of site.old) }
-    requires may { (sites : Each WorldSite) × (s : WorldSite) × MaySweep bus.now (side_of K.CODE) (number_of site.old) until site.old agenda.old sites s }
-    ensures swept { (sites : Each WorldSite) (s : WorldSite) → MaySweep bus.now (side_of K.CODE) (number_of site.old) until site.old agenda.old sites s
-        → Sweeps bus.now (side_of K.CODE) (number_of site.old) until site.new agenda.new sites s }
+    requires may { (sites : Each WorldSite) × (s : WorldSite)
+        × MaySweepAt setup.now.bus.now (side_of K.CODE) until site.old agenda.old sites s }
+    ensures swept { (sites : Each WorldSite) (s : WorldSite)
+        → MaySweepAt setup.now.bus.now (side_of K.CODE) until site.old agenda.old sites s
+        → Sweeps setup.now.bus.now (side_of K.CODE) (number_of site.old) until site.new agenda.new sites s }
     ensures number { number_of site.new ≡ number_of site.old }
     ensures lanes { (other : NodeName) → HasLane agenda.old other → HasLane agenda.new other }
-    ensures told { (name : NodeName) → observed ≡ Some name → (sites : Each WorldSite) (s : WorldSite)
-        → MaySweep bus.now (side_of K.CODE) (number_of site.old) until site.old agenda.old sites s
-        → WasTold T T.observes observer.old (if same_node node name then heard bus.now (side_of K.CODE) (number_of site.old) until s else []) observer.new }
+    ensures told { (name : NodeName) → setup.now.observed ≡ Some name → (sites : Each WorldSite) (s : WorldSite)
+        → MaySweepAt setup.now.bus.now (side_of K.CODE) until site.old agenda.old sites s
+        → WasTold T T.observes observer.old (if same_node node name then heard setup.now.bus.now (side_of K.CODE) (number_of site.old) until s else []) observer.new }
 {
-    if is_observed(observed, node) {
-        sweep_told(bus, node, until, site, agenda, observer);
+    if is_observed(setup.observed, node) {
+        sweep_told(setup.bus, node, until, site, agenda, observer);
         return;
     }
-    sweep(bus, node, until, site, agenda);
+    sweep(setup.bus, node, until, site, agenda);
 }
 
 // The time up to which a node is swept before the tick of another node at this time.
@@ -173,90 +181,82 @@ fn until_before(from: NodeName, time: u64, node: NodeName) -> u64
     }
 }
 
-// One node more is swept up to the tick of a node at this time.
+// One node more is swept up to the tick of a node at a time.
 fn catch_up_at<K: Kind, T: Observer>(
-    bus: &Bus,
-    from: NodeName,
-    time: u64,
+    setup: &Setup<'_>,
+    tick: (NodeName, u64),
     i: usize,
     sites: &mut Vec<Site<K>>,
     agenda: &mut Agenda,
-    observed: Option<NodeName>,
     observer: &mut T,
 )
     requires within { i < length sites.old.items }
-    requires small { time < 18446744073709551615 }
+    requires small { tick.1 < 18446744073709551615 }
     requires may { (first : List KeptSite) × (begun : Each Held) × (nodes : Each WorldSite)
-        × (MayCatchUp bus.now (until_tick (kind_of from) (number_in from) time) (side_of K.CODE) first begun nodes
-        × HaveCaughtUp bus.now (until_tick (kind_of from) (number_in from) time) (side_of K.CODE) i sites.old.items agenda.old nodes) }
+        × (MayCatchUp setup.now.bus.now (until_from (Some tick)) (side_of K.CODE) first begun nodes
+        × HaveCaughtUp setup.now.bus.now (until_from (Some tick)) (side_of K.CODE) i sites.old.items agenda.old nodes) }
     ensures caught { (first : List KeptSite) (begun : Each Held) (nodes : Each WorldSite)
-        → MayCatchUp bus.now (until_tick (kind_of from) (number_in from) time) (side_of K.CODE) first begun nodes
-        → HaveCaughtUp bus.now (until_tick (kind_of from) (number_in from) time) (side_of K.CODE) i sites.old.items agenda.old nodes
-        → HaveCaughtUp bus.now (until_tick (kind_of from) (number_in from) time) (side_of K.CODE) (i + 1) sites.new.items agenda.new nodes }
+        → MayCatchUp setup.now.bus.now (until_from (Some tick)) (side_of K.CODE) first begun nodes
+        → HaveCaughtUp setup.now.bus.now (until_from (Some tick)) (side_of K.CODE) i sites.old.items agenda.old nodes
+        → HaveCaughtUp setup.now.bus.now (until_from (Some tick)) (side_of K.CODE) (i + 1) sites.new.items agenda.new nodes }
     ensures many { length sites.new.items ≡ length sites.old.items }
-    ensures told { (name : NodeName) → observed ≡ Some name → (first : List KeptSite) (begun : Each Held) (nodes : Each WorldSite)
-        → MayCatchUp bus.now (until_tick (kind_of from) (number_in from) time) (side_of K.CODE) first begun nodes
-        → HaveCaughtUp bus.now (until_tick (kind_of from) (number_in from) time) (side_of K.CODE) i sites.old.items agenda.old nodes
+    ensures told { (name : NodeName) → setup.now.observed ≡ Some name
+        → (first : List KeptSite) (begun : Each Held) (nodes : Each WorldSite)
+        → MayCatchUp setup.now.bus.now (until_from (Some tick)) (side_of K.CODE) first begun nodes
+        → HaveCaughtUp setup.now.bus.now (until_from (Some tick)) (side_of K.CODE) i sites.old.items agenda.old nodes
         → WasTold T T.observes observer.old
-        (if same_node (name_of (side_of K.CODE) i) name then left_for bus.now (until_tick (kind_of from) (number_in from) time) nodes name else []) observer.new }
+        (if same_node (name_of (side_of K.CODE) i) name then left_for setup.now.bus.now (until_from (Some tick)) nodes name else []) observer.new }
 {
     let site = &mut sites[i];
     let node = site.name();
-    sweep_for(
-        bus,
-        node,
-        until_before(from, time, node),
-        site,
-        agenda,
-        observed,
-        observer,
-    );
+    let until = until_before(tick.0, tick.1, node);
+    sweep_for(setup, node, until, site, agenda, observer);
 }
 
 // All nodes of a kind are.
 fn catch_up_all<K: Kind, T: Observer>(
-    bus: &Bus,
-    from: NodeName,
-    time: u64,
+    setup: &Setup<'_>,
+    tick: (NodeName, u64),
     sites: &mut Vec<Site<K>>,
     agenda: &mut Agenda,
-    observed: Option<NodeName>,
     observer: &mut T,
 )
-    requires small { time < 18446744073709551615 }
-    requires may { (nodes : Each WorldSite) × MayCatchUp bus.now (until_tick (kind_of from) (number_in from) time) (side_of K.CODE) sites.old.items agenda.old nodes }
-    ensures caught { (nodes : Each WorldSite) → MayCatchUp bus.now (until_tick (kind_of from) (number_in from) time) (side_of K.CODE) sites.old.items agenda.old nodes
-        → HaveCaughtUp bus.now (until_tick (kind_of from) (number_in from) time) (side_of K.CODE) (count_of (side_of K.CODE) bus.now.sizes) sites.new.items agenda.new nodes }
-    ensures told { (name : NodeName) → observed ≡ Some name → (nodes : Each WorldSite)
-        → MayCatchUp bus.now (until_tick (kind_of from) (number_in from) time) (side_of K.CODE) sites.old.items agenda.old nodes
+    requires small { tick.1 < 18446744073709551615 }
+    requires may { (nodes : Each WorldSite)
+        × MayCatchUp setup.now.bus.now (until_from (Some tick)) (side_of K.CODE) sites.old.items agenda.old nodes }
+    ensures caught { (nodes : Each WorldSite)
+        → MayCatchUp setup.now.bus.now (until_from (Some tick)) (side_of K.CODE) sites.old.items agenda.old nodes
+        → HaveCaughtUp setup.now.bus.now (until_from (Some tick)) (side_of K.CODE) (count_of (side_of K.CODE) setup.now.bus.now.sizes) sites.new.items agenda.new nodes }
+    ensures told { (name : NodeName) → setup.now.observed ≡ Some name → (nodes : Each WorldSite)
+        → MayCatchUp setup.now.bus.now (until_from (Some tick)) (side_of K.CODE) sites.old.items agenda.old nodes
         → WasTold T T.observes observer.old
-        (left_below bus.now (until_tick (kind_of from) (number_in from) time) (side_of K.CODE) (count_of (side_of K.CODE) bus.now.sizes) nodes name) observer.new }
+        (left_below setup.now.bus.now (until_from (Some tick)) (side_of K.CODE) (count_of (side_of K.CODE) setup.now.bus.now.sizes) nodes name) observer.new }
 {
     for i in 0..sites.len() {
-        catch_up_at(bus, from, time, i, sites, agenda, observed, observer);
+        catch_up_at(setup, tick, i, sites, agenda, observer);
     }
 }
 
 /// All nodes are swept up to the last tick, if there was one.
 pub(crate) fn catch_up<T: Observer>(
-    bus: &Bus,
+    setup: &Setup<'_>,
     tick: Option<(NodeName, u64)>,
-    bius: &mut Vec<Site<Biu>>,
-    rmus: &mut Vec<Site<Rmu>>,
-    scene: &mut Scene,
-    observed: Option<NodeName>,
+    run: &mut Run,
     observer: &mut T,
 )
     requires small { IfSome tick (λ t. t.1 < 18446744073709551615) }
-    requires trails { (w : RunWorld) × (v : RunWorld) × Trails bus.now (record { bius = bius.old.items; rmus = rmus.old.items }) scene.old (until_from tick) w v }
-    ensures caught { (w : RunWorld) (v : RunWorld) → Trails bus.now (record { bius = bius.old.items; rmus = rmus.old.items }) scene.old (until_from tick) w v
-        → HasCaughtUp bus.now (record { bius = bius.new.items; rmus = rmus.new.items }) scene.new w }
-    ensures told { (name : NodeName) → observed ≡ Some name → IsNodeOf bus.now.sizes name → (w : RunWorld) (v : RunWorld)
-        → Trails bus.now (record { bius = bius.old.items; rmus = rmus.old.items }) scene.old (until_from tick) w v
-        → WasTold T T.observes observer.old (left_for bus.now (until_from tick) v.sites name) observer.new }
+    requires trails { (w : RunWorld) × (v : RunWorld)
+        × Trails setup.now.bus.now (nodes_of run.old) run.old.scene (until_from tick) w v }
+    ensures caught { (w : RunWorld) (v : RunWorld)
+        → Trails setup.now.bus.now (nodes_of run.old) run.old.scene (until_from tick) w v
+        → HasCaughtUp setup.now.bus.now (nodes_of run.new) run.new.scene w }
+    ensures told { (name : NodeName) → setup.now.observed ≡ Some name
+        → IsNodeOf setup.now.bus.now.sizes name → (w : RunWorld) (v : RunWorld)
+        → Trails setup.now.bus.now (nodes_of run.old) run.old.scene (until_from tick) w v
+        → WasTold T T.observes observer.old (left_for setup.now.bus.now (until_from tick) v.sites name) observer.new }
 {
-    if let Some((from, time)) = tick {
-        catch_up_all(bus, from, time, bius, &mut scene.agenda, observed, observer);
-        catch_up_all(bus, from, time, rmus, &mut scene.agenda, observed, observer);
+    if let Some(tick) = tick {
+        catch_up_all(setup, tick, &mut run.bius, &mut run.scene.agenda, observer);
+        catch_up_all(setup, tick, &mut run.rmus, &mut run.scene.agenda, observer);
     }
 }

@@ -8,7 +8,8 @@ ghost use Rattle.rb_rules.specs.WorldStep.{Due, Site as WorldSite, World as RunW
 ghost use Rattle.rb_laws_events.specs.Promise.{NodesKeepThePromise};
 ghost use Rattle.rb_queue.specs.Waiting.{lane_of, with_lane, without_place};
 ghost use Rattle.rb_world.specs.Numbering.{TakesInRounds};
-ghost use Rattle.rb_world.specs.Steps.{CanHear, Happens, MayHappen, MayTick, Ticks, act_at};
+ghost use Rattle.rb_world.specs.Runs.{nodes_of};
+ghost use Rattle.rb_world.specs.Steps.{CanHear, Happens, HasTicked, MayHappen, MayTick};
 ghost use Rattle.rb_world.specs.Turning.{Gives};
 ghost use Rattle.rb_world.specs.Worlds.{Stands, due_in, last_of};
 ghost use Rattle.rb_world_book.specs.declared.turn.Turn.{Turn};
@@ -17,10 +18,11 @@ ghost use Rattle.rb_world_book.specs.Records.{record_of};
 use crate::Site;
 use crate::bus::Bus;
 use crate::last::Last;
+use crate::run::Run;
 use crate::scene::Scene;
 use crate::ticking::tick;
 use crate::world::World;
-use rb_base::{Biu, Event, EventKind, Kind, NodeName, Rmu};
+use rb_base::{Event, EventKind, Kind, NodeName};
 use rb_frame::Spelling;
 use rb_port::Apps;
 use rb_world_agenda::Agenda;
@@ -39,56 +41,41 @@ pub(crate) fn last_of(turn: &Turn) -> Last
     }
 }
 
-// The node takes the tick that is ahead of it.
+// Node `i` of the kind takes the tick that is ahead of it.
 #[inline(always)]
-pub(crate) fn tick_at<K: Kind>(
-    bus: &Bus,
-    apps: &Apps,
-    node: NodeName,
-    i: u8,
-    site: &mut Site<K>,
-    scene: &mut Scene,
-)
+pub(crate) fn tick_at<K: Kind>(bus: &Bus, apps: &Apps, i: u8, site: &mut Site<K>, scene: &mut Scene)
     requires number { i ≡ number_of site.old }
-    requires name { node ≡ name_of (side_of K.CODE) (number_of site.old) }
-    requires may { (k : ℕ) × (w : RunWorld) × (s : WorldSite) × MayTick bus.now (side_of K.CODE) (number_of site.old) k site.old scene.old w s }
-    ensures { (k : ℕ) (w : RunWorld) (s : WorldSite) → MayTick bus.now (side_of K.CODE) (number_of site.old) k site.old scene.old w s
-        → Ticks bus.now (side_of K.CODE) (number_of site.old) k site.new scene.new w s (act_at bus.now w (side_of K.CODE) (number_of site.old) k s) }
+    requires may { (k : ℕ) × (w : RunWorld) × (s : WorldSite)
+        × MayTick bus.now (side_of K.CODE) (number_of site.old) k site.old scene.old w s }
+    ensures { (k : ℕ) (w : RunWorld) (s : WorldSite)
+        → MayTick bus.now (side_of K.CODE) (number_of site.old) k site.old scene.old w s
+        → HasTicked bus.now (side_of K.CODE) (number_of site.old) k site.new scene.new w s }
 {
     if let Some(k) = site.node().next_tick() {
-        tick(bus, apps, node, i, k, site, scene);
+        tick(bus, apps, i, k, site, scene);
     }
 }
 
 // The event happens at its node, at a time.
-fn happen(
-    bus: &Bus,
-    apps: &Apps,
-    bius: &mut Vec<Site<Biu>>,
-    rmus: &mut Vec<Site<Rmu>>,
-    scene: &mut Scene,
-    time: u64,
-    node: NodeName,
-    event: &Event,
-)
+fn happen(bus: &Bus, apps: &Apps, run: &mut Run, time: u64, node: NodeName, event: &Event)
     requires { (w : RunWorld) × (i : ℕ) × (d : Due)
-        × MayHappen bus.now (record { bius = bius.old.items; rmus = rmus.old.items }) scene.old time node event.now w i d }
+        × MayHappen bus.now (nodes_of run.old) run.old.scene time node event.now w i d }
     ensures { (w : RunWorld) (i : ℕ) (d : Due)
-        → MayHappen bus.now (record { bius = bius.old.items; rmus = rmus.old.items }) scene.old time node event.now w i d
-        → Happens bus.now (record { bius = bius.new.items; rmus = rmus.new.items }) scene.new w d }
+        → MayHappen bus.now (nodes_of run.old) run.old.scene time node event.now w i d
+        → Happens bus.now (nodes_of run.new) run.new.scene w d }
 {
     match (&event.kind, node) {
         (EventKind::Tick { .. }, NodeName::Biu(i)) => {
-            tick_at(bus, apps, node, i, &mut bius[usize::from(i)], scene);
+            tick_at(bus, apps, i, &mut run.bius[usize::from(i)], &mut run.scene);
         }
         (EventKind::Tick { .. }, NodeName::Rmu(i)) => {
-            tick_at(bus, apps, node, i, &mut rmus[usize::from(i)], scene);
+            tick_at(bus, apps, i, &mut run.rmus[usize::from(i)], &mut run.scene);
         }
         (EventKind::Arrive { from, bytes }, NodeName::Biu(i)) => {
-            bius[usize::from(i)].arrive(bus.clock(node), time, *from, &Spelling::of(bytes));
+            run.bius[usize::from(i)].arrive(bus.clock(node), time, *from, &Spelling::of(bytes));
         }
         (EventKind::Arrive { from, bytes }, NodeName::Rmu(i)) => {
-            rmus[usize::from(i)].arrive(bus.clock(node), time, *from, &Spelling::of(bytes));
+            run.rmus[usize::from(i)].arrive(bus.clock(node), time, *from, &Spelling::of(bytes));
         }
     }
 }
@@ -102,11 +89,14 @@ pub(crate) fn hear_at<K: Kind>(
     agenda: &mut Agenda,
 )
     requires name { node ≡ name_of (side_of K.CODE) (number_of site.old) }
-    requires may { (c : Coming) × CanHear bus.now (side_of K.CODE) (number_of site.old) node place site.old agenda.old c }
+    requires may { (c : Coming)
+        × CanHear bus.now (side_of K.CODE) (number_of site.old) node place site.old agenda.old c }
     ensures lane { agenda.new ≡ with_lane node (without_place place (lane_of agenda.old node)) agenda.old }
-    ensures stands { (c : Coming) (at : ℕ) (s : WorldSite) → CanHear bus.now (side_of K.CODE) (number_of site.old) node place site.old agenda.old c
+    ensures stands { (c : Coming) (at : ℕ) (s : WorldSite)
+        → CanHear bus.now (side_of K.CODE) (number_of site.old) node place site.old agenda.old c
         → StandsFor bus.now (side_of K.CODE) site.old s
-        → StandsFor bus.now (side_of K.CODE) site.new (after_arrival bus.now (side_of K.CODE) (number_of site.old) at c s) }
+        → StandsFor bus.now (side_of K.CODE) site.new
+        (after_arrival bus.now (side_of K.CODE) (number_of site.old) at c s) }
     ensures number { number_of site.new ≡ number_of site.old }
 {
     let arrival = agenda.arrival(node, place);
@@ -126,19 +116,10 @@ impl World {
         ensures seeding { self.new.seeding ≡ self.old.seeding }
         ensures rounds { (w : RunWorld) → Stands self.old w → TakesInRounds self.old.bus w (take self.old.bus w i) (record_of turn.new) }
     {
-        let time = self.scene.agenda.first_time();
-        let (node, event) = self.scene.agenda.take(i);
-        happen(
-            &self.bus,
-            apps,
-            &mut self.bius,
-            &mut self.rmus,
-            &mut self.scene,
-            time,
-            node,
-            &event,
-        );
-        self.scene.book.settle_into(Way::ByAnEvent, turn);
+        let time = self.run.scene.agenda.first_time();
+        let (node, event) = self.run.scene.agenda.take(i);
+        happen(&self.bus, apps, &mut self.run, time, node, &event);
+        self.run.scene.book.settle_into(Way::ByAnEvent, turn);
         self.last = last_of(turn);
     }
 

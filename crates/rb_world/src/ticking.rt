@@ -2,7 +2,6 @@
 ghost use Rattle.std.specs.Prelude.{◌≡◌, ℕ, ◌<◌, ◌≤◌, ◌^◌, true, IfSome, Option, Some, None, List, length, if◌then◌else◌};
 ghost use Rattle.rb_base.specs.Nodes.{other, side_of};
 ghost use Rattle.rb_base.specs.Nodes.Side.{Biu};
-ghost use Rattle.rb_rules.specs.Core.{pass_to};
 ghost use Rattle.rb_rules.specs.Hearing.{port_at, port_line};
 ghost use Rattle.rb_rules.specs.Lawful.{IsNodeOf, kind_of};
 ghost use Rattle.rb_rules.specs.Ports.{PortState};
@@ -11,13 +10,13 @@ ghost use Rattle.rb_node.specs.Wants.{want_for};
 ghost use Rattle.rb_world.specs.Tells.{row_at};
 ghost use Rattle.rb_world_traffic.specs.Arriving.{number_of as number_in};
 ghost use Rattle.rb_world.specs.Worlds.{HoldsPorts, Surrounds};
-ghost use Rattle.rb_rules.specs.Links.{name_of};
-ghost use Rattle.rb_rules.specs.WorldStep.{Site as WorldSite, World, wants_in, with_delivery, with_epoch, with_message, word_of};
+ghost use Rattle.rb_rules.specs.WorldStep.{Site as WorldSite, World, with_delivery, with_epoch, with_message, word_of};
 ghost use Rattle.rb_world.specs.Sites.{number_of};
-ghost use Rattle.rb_world.specs.Steps.{CanWant, HasRoomFor, IsWordSlot, MayTick, SeesOnlyNodes, Ticks, act_at, closed_if, moved};
+ghost use Rattle.rb_world.specs.Steps.{CanWant, HasRoomFor, HasTicked, IsWordSlot, MayTick, SeesOnlyNodes, closed_if, moved, word_at};
 
 use crate::Site;
 use crate::bus::Bus;
+use crate::opening::name_of;
 use crate::proceeding::{proceed, proceed_within};
 use crate::scene::{Scene, number_of};
 use rb_base::{Delivery, Kind, NodeName};
@@ -169,19 +168,21 @@ fn depart(
 fn tick_with_word<K: Kind>(
     bus: &Bus,
     apps: &Apps,
-    node: NodeName,
     k: u64,
     word: u32,
     site: &mut Site<K>,
     scene: &mut Scene,
 )
-    requires name { node ≡ name_of (side_of K.CODE) (number_of site.old) }
-    requires may { (w : World) × (s : WorldSite) × MayTick bus.now (side_of K.CODE) (number_of site.old) k site.old scene.old w s }
-    requires word { (w : World) (s : WorldSite) → MayTick bus.now (side_of K.CODE) (number_of site.old) k site.old scene.old w s
-        → word ≡ word_of bus.now w.ports (number_of site.old) (wants_in bus.now (side_of K.CODE) (number_of site.old) (pass_to k s.core)) }
-    ensures { (w : World) (s : WorldSite) → MayTick bus.now (side_of K.CODE) (number_of site.old) k site.old scene.old w s
-        → Ticks bus.now (side_of K.CODE) (number_of site.old) k site.new scene.new w s (act_at bus.now w (side_of K.CODE) (number_of site.old) k s) }
+    requires may { (w : World) × (s : WorldSite)
+        × MayTick bus.now (side_of K.CODE) (number_of site.old) k site.old scene.old w s }
+    requires word { (w : World) (s : WorldSite)
+        → MayTick bus.now (side_of K.CODE) (number_of site.old) k site.old scene.old w s
+        → word ≡ word_at bus.now w (side_of K.CODE) (number_of site.old) k s }
+    ensures { (w : World) (s : WorldSite)
+        → MayTick bus.now (side_of K.CODE) (number_of site.old) k site.old scene.old w s
+        → HasTicked bus.now (side_of K.CODE) (number_of site.old) k site.new scene.new w s }
 {
+    let node = site.name();
     let step = site.tick(k, word);
     begin(bus, node, step.epoch, scene);
     close(bus, apps, node, step.closed, site, scene);
@@ -190,54 +191,56 @@ fn tick_with_word<K: Kind>(
     depart(bus, node, frame, k, step.message, scene);
 }
 
-// A node takes its next tick. Most often all that happens at it is that the node says a message within a window.
+// Node `i` of the kind takes its next tick. Most often all that happens at it is that the node says a message within a window.
 #[inline(never)]
 fn tick_in_full<K: Kind>(
     bus: &Bus,
     apps: &Apps,
-    node: NodeName,
     i: u8,
     k: u64,
     site: &mut Site<K>,
     scene: &mut Scene,
 )
     requires number { i ≡ number_of site.old }
-    requires name { node ≡ name_of (side_of K.CODE) (number_of site.old) }
-    requires may { (w : World) × (s : WorldSite) × MayTick bus.now (side_of K.CODE) (number_of site.old) k site.old scene.old w s }
-    ensures { (w : World) (s : WorldSite) → MayTick bus.now (side_of K.CODE) (number_of site.old) k site.old scene.old w s
-        → Ticks bus.now (side_of K.CODE) (number_of site.old) k site.new scene.new w s (act_at bus.now w (side_of K.CODE) (number_of site.old) k s) }
+    requires may { (w : World) × (s : WorldSite)
+        × MayTick bus.now (side_of K.CODE) (number_of site.old) k site.old scene.old w s }
+    ensures { (w : World) (s : WorldSite)
+        → MayTick bus.now (side_of K.CODE) (number_of site.old) k site.old scene.old w s
+        → HasTicked bus.now (side_of K.CODE) (number_of site.old) k site.new scene.new w s }
 {
     let word = word_for(bus, apps, &scene.ports, i, site.node().wants_then());
     if let Some(message) = site.say_alone(word) {
+        let node = name_of::<K>(i);
         proceed_within(bus, node, site, scene);
         let frame = site.node().engine().frame();
         depart(bus, node, frame, k, Some(message), scene);
         return;
     }
-    tick_with_word(bus, apps, node, k, word, site, scene);
+    tick_with_word(bus, apps, k, word, site, scene);
 }
 
-/// A node takes its next tick, which has this number.
+/// Node `i` of the kind takes its next tick, which has this number.
 #[inline(always)]
 pub(crate) fn tick<K: Kind>(
     bus: &Bus,
     apps: &Apps,
-    node: NodeName,
     i: u8,
     k: u64,
     site: &mut Site<K>,
     scene: &mut Scene,
 )
     requires number { i ≡ number_of site.old }
-    requires name { node ≡ name_of (side_of K.CODE) (number_of site.old) }
-    requires may { (w : World) × (s : WorldSite) × MayTick bus.now (side_of K.CODE) (number_of site.old) k site.old scene.old w s }
-    ensures { (w : World) (s : WorldSite) → MayTick bus.now (side_of K.CODE) (number_of site.old) k site.old scene.old w s
-        → Ticks bus.now (side_of K.CODE) (number_of site.old) k site.new scene.new w s (act_at bus.now w (side_of K.CODE) (number_of site.old) k s) }
+    requires may { (w : World) × (s : WorldSite)
+        × MayTick bus.now (side_of K.CODE) (number_of site.old) k site.old scene.old w s }
+    ensures { (w : World) (s : WorldSite)
+        → MayTick bus.now (side_of K.CODE) (number_of site.old) k site.old scene.old w s
+        → HasTicked bus.now (side_of K.CODE) (number_of site.old) k site.new scene.new w s }
 {
     if site.end_window() {
+        let node = name_of::<K>(i);
         close(bus, apps, node, true, site, scene);
         proceed(bus, node, site, scene);
     } else {
-        tick_in_full(bus, apps, node, i, k, site, scene);
+        tick_in_full(bus, apps, i, k, site, scene);
     }
 }

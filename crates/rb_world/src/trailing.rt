@@ -3,9 +3,10 @@ ghost use Rattle.std.specs.Prelude.{◌≡◌, ℕ, ◌<◌, IfSome, IsTrue, Lis
 ghost use Rattle.rb_base.specs.Nodes.{Side, other, side_of};
 ghost use Rattle.rb_rules.specs.Book.{Each, of_kind};
 ghost use Rattle.rb_rules.specs.Lawful.{IsNodeOf};
-ghost use Rattle.rb_rules.specs.Links.{name_of, same_node};
+ghost use Rattle.rb_rules.specs.Links.{same_node};
 ghost use Rattle.rb_rules.specs.WorldStep.{Timed, World as RunWorld};
 ghost use Rattle.rb_world_book.specs.declared.turn.Turn.{Turn};
+ghost use Rattle.rb_world.specs.Runs.{nodes_of};
 ghost use Rattle.rb_world.specs.Sites.{KeptSite};
 ghost use Rattle.rb_world.specs.Observing.{AlongTold, ComesTold, ToldToRecord, WasTold, alone_for};
 ghost use Rattle.rb_world.specs.Trailing.{Along, BehindTick, Comes, ComesToRecord, GoesToTick, MayRun, MayTakeFirst, MayTickFirst, TakesFirst, TakesFirstAt, until_from};
@@ -14,10 +15,12 @@ ghost use Rattle.rb_world.specs.Unstamped.{EndsExactly, MayTakeExactly};
 use crate::Site;
 use crate::bus::Bus;
 use crate::observing::{Observer, is_observed, tell_tick_for};
+use crate::opening::name_of;
+use crate::run::{Run, Setup};
 use crate::scene::Scene;
 use crate::sweeping::{catch_up, sweep_for, take_in_all};
 use crate::taking::tick_at;
-use rb_base::{Biu, Kind, NodeName, Rmu};
+use rb_base::{Kind, NodeName};
 use rb_port::Apps;
 use rb_world_book::{Turn, Way};
 
@@ -31,18 +34,16 @@ fn needs_no_stamps<K: Kind>(node: NodeName, observed: Option<NodeName>, site: &S
     !is_observed(observed, node) && site.node().ends_exact_window()
 }
 
-// The node takes its tick, which comes at this time and needs no stamps. What came to it up to then is taken in first.
+// Node `i` of the kind takes its tick, which comes at this time and needs no stamps. What came to it up to then is taken in first.
 #[inline(always)]
 fn take_exact_tick<K: Kind>(
     bus: &Bus,
     apps: &Apps,
-    node: NodeName,
     i: u8,
     time: u64,
     site: &mut Site<K>,
     scene: &mut Scene,
 )
-    requires name { node ≡ name_of (side_of K.CODE) i }
     requires small { time < 18446744073709551615 }
     requires may { (kept : Each KeptSite) × (until : Side → ℕ → ℕ) × (w : RunWorld) × (v : RunWorld) × (a : Timed) × (own : List KeptSite)
         × MayTakeExactly bus.now kept scene.old until w v (side_of K.CODE) i a time own site.old }
@@ -50,78 +51,61 @@ fn take_exact_tick<K: Kind>(
         → MayTakeExactly bus.now kept scene.old until w v (side_of K.CODE) i a time own site.old
         → TakesFirst bus.now v (side_of K.CODE) i a (slice_set own i site.new) (of_kind (other (side_of K.CODE)) kept) scene.new }
 {
-    take_in_all(node, time + 1, site, &mut scene.agenda);
-    tick_at(bus, apps, node, i, site, scene)
+    take_in_all(name_of::<K>(i), time + 1, site, &mut scene.agenda);
+    tick_at(bus, apps, i, site, scene)
 }
 
 // Node `i` of the kind is swept up to its tick, which comes at this time, and takes it. If it is the node that is observed, it is told first
 // what the node is given.
 #[inline(always)]
 fn take_tick<K: Kind, T: Observer>(
-    bus: &Bus,
-    apps: &Apps,
-    node: NodeName,
+    setup: &Setup<'_>,
     i: u8,
     time: u64,
     sites: &mut Vec<Site<K>>,
     scene: &mut Scene,
-    observed: Option<NodeName>,
     observer: &mut T,
 )
-    requires name { node ≡ name_of (side_of K.CODE) i }
     requires within { i < length sites.old.items }
     requires small { time < 18446744073709551615 }
     requires may { (kept : Each KeptSite) × (until : Side → ℕ → ℕ) × (w : RunWorld) × (v : RunWorld) × (a : Timed)
-        × MayTakeFirst bus.now kept scene.old until w v (side_of K.CODE) i a time sites.old.items }
+        × MayTakeFirst setup.now.bus.now kept scene.old until w v (side_of K.CODE) i a time sites.old.items }
     ensures takes { (kept : Each KeptSite) (until : Side → ℕ → ℕ) (w v : RunWorld) (a : Timed)
-        → MayTakeFirst bus.now kept scene.old until w v (side_of K.CODE) i a time sites.old.items
-        → TakesFirst bus.now v (side_of K.CODE) i a sites.new.items (of_kind (other (side_of K.CODE)) kept) scene.new }
-    ensures told { (name : NodeName) → observed ≡ Some name → (kept : Each KeptSite) (until : Side → ℕ → ℕ) (w v : RunWorld) (a : Timed)
-        → MayTakeFirst bus.now kept scene.old until w v (side_of K.CODE) i a time sites.old.items
-        → WasTold T T.observes observer.old (alone_for bus.now v (side_of K.CODE) i a name) observer.new }
+        → MayTakeFirst setup.now.bus.now kept scene.old until w v (side_of K.CODE) i a time sites.old.items
+        → TakesFirst setup.now.bus.now v (side_of K.CODE) i a sites.new.items (of_kind (other (side_of K.CODE)) kept) scene.new }
+    ensures told { (name : NodeName) → setup.now.observed ≡ Some name
+        → (kept : Each KeptSite) (until : Side → ℕ → ℕ) (w v : RunWorld) (a : Timed)
+        → MayTakeFirst setup.now.bus.now kept scene.old until w v (side_of K.CODE) i a time sites.old.items
+        → WasTold T T.observes observer.old (alone_for setup.now.bus.now v (side_of K.CODE) i a name) observer.new }
 {
+    let node = name_of::<K>(i);
     let site = &mut sites[usize::from(i)];
-    if needs_no_stamps(node, observed, site) {
-        take_exact_tick(bus, apps, node, i, time, site, scene);
+    if needs_no_stamps(node, setup.observed, site) {
+        take_exact_tick(setup.bus, setup.apps, i, time, site, scene);
         return;
     }
-    sweep_for(
-        bus,
-        node,
-        time + 1,
-        site,
-        &mut scene.agenda,
-        observed,
-        observer,
-    );
-    tell_tick_for(bus, apps, site, &scene.ports, node, observed, observer);
-    tick_at(bus, apps, node, i, site, scene);
+    sweep_for(setup, node, time + 1, site, &mut scene.agenda, observer);
+    tell_tick_for(setup, site, &scene.ports, node, observer);
+    tick_at(setup.bus, setup.apps, i, site, scene);
 }
 
 // The first tick of all is taken at its node. Before it the node is swept.
 #[inline(always)]
-fn take_first<T: Observer>(
-    bus: &Bus,
-    apps: &Apps,
-    bius: &mut Vec<Site<Biu>>,
-    rmus: &mut Vec<Site<Rmu>>,
-    scene: &mut Scene,
-    observed: Option<NodeName>,
-    observer: &mut T,
-) -> (NodeName, u64)
+fn take_first<T: Observer>(setup: &Setup<'_>, run: &mut Run, observer: &mut T) -> (NodeName, u64)
     requires may { (until : Side → ℕ → ℕ) × (w : RunWorld) × (v : RunWorld) × (me : Side) × (i : ℕ) × (a : Timed)
-        × BehindTick bus.now (record { bius = bius.old.items; rmus = rmus.old.items }) scene.old until w v me i a }
+        × BehindTick setup.now.bus.now (nodes_of run.old) run.old.scene until w v me i a }
     ensures happens { (until : Side → ℕ → ℕ) (w v : RunWorld) (me : Side) (i : ℕ) (a : Timed)
-        → BehindTick bus.now (record { bius = bius.old.items; rmus = rmus.old.items }) scene.old until w v me i a
-        → TakesFirstAt bus.now (record { bius = bius.new.items; rmus = rmus.new.items }) scene.new v me i a result.0 result.1 }
-    ensures told { (name : NodeName) → observed ≡ Some name → (until : Side → ℕ → ℕ) (w v : RunWorld) (me : Side) (i : ℕ) (a : Timed)
-        → BehindTick bus.now (record { bius = bius.old.items; rmus = rmus.old.items }) scene.old until w v me i a
-        → WasTold T T.observes observer.old (alone_for bus.now v me i a name) observer.new }
+        → BehindTick setup.now.bus.now (nodes_of run.old) run.old.scene until w v me i a
+        → TakesFirstAt setup.now.bus.now (nodes_of run.new) run.new.scene v me i a result.0 result.1 }
+    ensures told { (name : NodeName) → setup.now.observed ≡ Some name
+        → (until : Side → ℕ → ℕ) (w v : RunWorld) (me : Side) (i : ℕ) (a : Timed)
+        → BehindTick setup.now.bus.now (nodes_of run.old) run.old.scene until w v me i a
+        → WasTold T T.observes observer.old (alone_for setup.now.bus.now v me i a name) observer.new }
 {
-    let (node, time) = scene.agenda.first_tick();
+    let (node, time) = run.scene.agenda.first_tick();
     match node {
-        NodeName::Biu(i) => { take_tick(bus, apps, node, i, time, bius, scene, observed, observer) }
-        NodeName::Rmu(i) => { take_tick(bus, apps, node, i, time, rmus, scene, observed, observer) }
+        NodeName::Biu(i) => take_tick(setup, i, time, &mut run.bius, &mut run.scene, observer),
+        NodeName::Rmu(i) => take_tick(setup, i, time, &mut run.rmus, &mut run.scene, observer),
     }
     (node, time)
 }
@@ -129,91 +113,82 @@ fn take_first<T: Observer>(
 // The first tick of all is taken at its node, and what that completes is settled.
 #[inline(always)]
 fn tick_first<T: Observer>(
-    bus: &Bus,
-    apps: &Apps,
-    bius: &mut Vec<Site<Biu>>,
-    rmus: &mut Vec<Site<Rmu>>,
-    scene: &mut Scene,
+    setup: &Setup<'_>,
+    run: &mut Run,
     turn: &mut Turn,
-    observed: Option<NodeName>,
     observer: &mut T,
 ) -> (NodeName, u64)
     requires quiet { turn.old ≡ Turn.Quiet }
     requires may { (until : Side → ℕ → ℕ) × (w : RunWorld) × (v : RunWorld)
-        × MayTickFirst bus.now (record { bius = bius.old.items; rmus = rmus.old.items }) scene.old until w v }
-    ensures goes { (until : Side → ℕ → ℕ) (w v : RunWorld) → MayTickFirst bus.now (record { bius = bius.old.items; rmus = rmus.old.items }) scene.old until w v
-        → GoesToTick bus.now (record { bius = bius.new.items; rmus = rmus.new.items }) scene.new until v result.0 result.1 turn.new }
+        × MayTickFirst setup.now.bus.now (nodes_of run.old) run.old.scene until w v }
+    ensures goes { (until : Side → ℕ → ℕ) (w v : RunWorld)
+        → MayTickFirst setup.now.bus.now (nodes_of run.old) run.old.scene until w v
+        → GoesToTick setup.now.bus.now (nodes_of run.new) run.new.scene until v result.0 result.1 turn.new }
     ensures small { result.1 < 18446744073709551615 }
-    ensures told { (name : NodeName) → observed ≡ Some name → (until : Side → ℕ → ℕ) (w v : RunWorld) (me : Side) (i : ℕ) (a : Timed)
-        → BehindTick bus.now (record { bius = bius.old.items; rmus = rmus.old.items }) scene.old until w v me i a
-        → WasTold T T.observes observer.old (alone_for bus.now v me i a name) observer.new }
+    ensures told { (name : NodeName) → setup.now.observed ≡ Some name
+        → (until : Side → ℕ → ℕ) (w v : RunWorld) (me : Side) (i : ℕ) (a : Timed)
+        → BehindTick setup.now.bus.now (nodes_of run.old) run.old.scene until w v me i a
+        → WasTold T T.observes observer.old (alone_for setup.now.bus.now v me i a name) observer.new }
 {
-    let (node, time) = take_first(bus, apps, bius, rmus, scene, observed, observer);
-    scene.book.settle_into(Way::ByAnEvent, turn);
+    let (node, time) = take_first(setup, run, observer);
+    run.scene.book.settle_into(Way::ByAnEvent, turn);
     (node, time)
 }
 
 // What needs no event is given, or the first tick of all is taken.
 #[inline(always)]
 fn step_on<T: Observer>(
-    bus: &Bus,
-    apps: &Apps,
-    bius: &mut Vec<Site<Biu>>,
-    rmus: &mut Vec<Site<Rmu>>,
-    scene: &mut Scene,
+    setup: &Setup<'_>,
+    run: &mut Run,
     turn: &mut Turn,
     tick: &mut Option<(NodeName, u64)>,
-    observed: Option<NodeName>,
     observer: &mut T,
 )
     requires quiet { turn.old ≡ Turn.Quiet }
     requires small { IfSome tick.old (λ t. t.1 < 18446744073709551615) }
     requires may { (n : ℕ) × (w : RunWorld) × (d : ℕ)
-        × Along bus.now (record { bius = bius.old.items; rmus = rmus.old.items }) scene.old (until_from tick.old) n w d }
-    ensures comes { (n : ℕ) (w : RunWorld) (d : ℕ) → Along bus.now (record { bius = bius.old.items; rmus = rmus.old.items }) scene.old (until_from tick.old) n w d
-        → Comes bus.now (record { bius = bius.new.items; rmus = rmus.new.items }) scene.new (until_from tick.new) n w d turn.new }
+        × Along setup.now.bus.now (nodes_of run.old) run.old.scene (until_from tick.old) n w d }
+    ensures comes { (n : ℕ) (w : RunWorld) (d : ℕ)
+        → Along setup.now.bus.now (nodes_of run.old) run.old.scene (until_from tick.old) n w d
+        → Comes setup.now.bus.now (nodes_of run.new) run.new.scene (until_from tick.new) n w d turn.new }
     ensures small { IfSome tick.new (λ t. t.1 < 18446744073709551615) }
-    ensures told { (name : NodeName) → observed ≡ Some name → IsNodeOf bus.now.sizes name → (a : T) (n : ℕ) (w : RunWorld) (d : ℕ)
-        → AlongTold T T.observes name a observer.old bus.now (record { bius = bius.old.items; rmus = rmus.old.items }) scene.old (until_from tick.old) n w d
-        → ComesTold T T.observes name a observer.new bus.now (record { bius = bius.new.items; rmus = rmus.new.items }) scene.new (until_from tick.new) n w d turn.new }
+    ensures told { (name : NodeName) → setup.now.observed ≡ Some name
+        → IsNodeOf setup.now.bus.now.sizes name → (a : T) (n : ℕ) (w : RunWorld) (d : ℕ)
+        → AlongTold T T.observes name a observer.old setup.now.bus.now (nodes_of run.old) run.old.scene (until_from tick.old) n w d
+        → ComesTold T T.observes name a observer.new setup.now.bus.now (nodes_of run.new) run.new.scene (until_from tick.new) n w d turn.new }
 {
-    if scene.book.needs_no_event() {
-        scene.book.settle_into(Way::ByItself, turn);
+    if run.scene.book.needs_no_event() {
+        run.scene.book.settle_into(Way::ByItself, turn);
         return;
     }
-    *tick = Some(tick_first(bus, apps, bius, rmus, scene, turn, observed, observer));
+    *tick = Some(tick_first(setup, run, turn, observer));
 }
 
 /// Takes the run from tick to tick up to its next record. Before that it has not ended. A run has fewer than 2^64 - 1 events. What the node
 /// that is observed is given up to there is told.
 #[inline(always)]
 pub(crate) fn run_ticks<T: Observer>(
-    bus: &Bus,
-    apps: &Apps,
-    bius: &mut Vec<Site<Biu>>,
-    rmus: &mut Vec<Site<Rmu>>,
-    scene: &mut Scene,
+    setup: &Setup<'_>,
+    run: &mut Run,
     turn: &mut Turn,
-    observed: Option<NodeName>,
     observer: &mut T,
 )
     requires quiet { turn.old ≡ Turn.Quiet }
-    requires may { (w : RunWorld) × MayRun bus.now (record { bius = bius.old.items; rmus = rmus.old.items }) scene.old w }
-    ensures comes { (w : RunWorld) (d : ℕ) → MayRun bus.now (record { bius = bius.old.items; rmus = rmus.old.items }) scene.old w
-        → ComesToRecord bus.now (record { bius = bius.new.items; rmus = rmus.new.items }) scene.new turn.new w d }
-    ensures told { (name : NodeName) → observed ≡ Some name → IsNodeOf bus.now.sizes name → (w : RunWorld) (d : ℕ)
-        → MayRun bus.now (record { bius = bius.old.items; rmus = rmus.old.items }) scene.old w
-        → ToldToRecord T T.observes name observer.old observer.new bus.now (record { bius = bius.new.items; rmus = rmus.new.items }) scene.new turn.new w d }
+    requires may { (w : RunWorld) × MayRun setup.now.bus.now (nodes_of run.old) run.old.scene w }
+    ensures comes { (w : RunWorld) (d : ℕ) → MayRun setup.now.bus.now (nodes_of run.old) run.old.scene w
+        → ComesToRecord setup.now.bus.now (nodes_of run.new) run.new.scene turn.new w d }
+    ensures told { (name : NodeName) → setup.now.observed ≡ Some name
+        → IsNodeOf setup.now.bus.now.sizes name → (w : RunWorld) (d : ℕ)
+        → MayRun setup.now.bus.now (nodes_of run.old) run.old.scene w
+        → ToldToRecord T T.observes name observer.old observer.new setup.now.bus.now (nodes_of run.new) run.new.scene turn.new w d }
 {
     let mut tick = None;
     for passed in 0..u64::MAX {
-        step_on(
-            bus, apps, bius, rmus, scene, turn, &mut tick, observed, observer,
-        );
+        step_on(setup, run, turn, &mut tick, observer);
         if let Turn::Quiet = turn {
             continue;
         }
-        catch_up(bus, tick, bius, rmus, scene, observed, observer);
+        catch_up(setup, tick, run, observer);
         return;
     }
     unreachable!()

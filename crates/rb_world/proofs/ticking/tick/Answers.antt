@@ -1,6 +1,7 @@
 use Rattle.std.proofs.Common.{refl, sym, ap, ◌∙◌, subst, None, true}
 use Rattle.rb_base.specs.Nodes.{side_of}
 use Rattle.rb_rules.specs.Lawful.{kind_of}
+use Rattle.rb_rules.specs.Links.{name_of}
 use Rattle.rb_node.specs.declared.act.Step.{Step}
 use Rattle.rb_world.specs.Sites.{after_tick, number_of}
 use Rattle.rb_world.specs.Tells.{IsTicked}
@@ -21,13 +22,14 @@ close-requires-clause-sources g c =
     let sc = c.args.bus.now in
     let me = side_of g.K.Kind.CODE in
     let site = c.args.site.now in
+    let named = c.name_of-node.ensures ∙ ap (name_of me) c.requires.number in
     let k = c.args.k in
     let w = c.requires.may.0 in
     let s = c.requires.may.1 in
     let may = c.requires.may.2 in
     let ticked : IsTicked sc w.ports me site c.end_window.new.self end k s = c.end_window.ensures.ticked c.if-end_window.true sc w.ports k s may.at.stands may.next in
     λ closed.
-    subst (λ m. SeesOnlyNodes sc m c.end_window.new.self.node.shown) (sym (ap kind_of c.requires.name ∙ kind-named me (number_of site)))
+    subst (λ m. SeesOnlyNodes sc m c.end_window.new.self.node.shown) (sym (ap kind_of named ∙ kind-named me (number_of site)))
     (sees-nodes sc me (number_of site) k site c.args.scene.now w s end c.end_window.new.self.node.shown may ticked.act closed)
 
 pub proceed-requires-clause-may : goal.proceed-requires-clause-may
@@ -35,14 +37,15 @@ proceed-requires-clause-may g c =
     let sc = c.args.bus.now in
     let me = side_of g.K.Kind.CODE in
     let site = c.args.site.now in
+    let named = c.name_of-node.ensures ∙ ap (name_of me) c.requires.number in
     let k = c.args.k in
     let w = c.requires.may.0 in
     let s = c.requires.may.1 in
     let may = c.requires.may.2 in
     let ticked : IsTicked sc w.ports me site c.end_window.new.self end k s = c.end_window.ensures.ticked c.if-end_window.true sc w.ports k s may.at.stands may.next in
     let x = act_of sc w me site k s in
-    let told = told-then sc me k c.args.node site c.end_window.new.self c.args.scene.now c.close.new.scene w s end c.requires.name c.end_window.ensures.same.index may ticked
-    (c.close.ensures.around _ (begin-none sc c.args.scene.now w (kind_of c.args.node) (number_in c.args.node) None refl may.at.surrounds)) in
+    let told = told-then sc me k c.name_of-node.result site c.end_window.new.self c.args.scene.now c.close.new.scene w s end named c.end_window.ensures.same.index may ticked
+    (c.close.ensures.around _ (begin-none sc c.args.scene.now w (kind_of c.name_of-node.result) (number_in c.name_of-node.result) None refl may.at.surrounds)) in
     let ready = may-then sc me k site c.end_window.new.self c.args.scene.now c.close.new.scene w s end c.end_window.ensures.same.index may ticked c.close.ensures.agenda told in
     let z = after_tick sc w.ports me (number_of site) x s in
     let v = told_in sc w me (number_of site) x in
@@ -54,16 +57,17 @@ returns-then-end_window g c =
     let sc = c.args.bus.now in
     let me = side_of g.K.Kind.CODE in
     let site = c.args.site.now in
+    let named = c.name_of-node.ensures ∙ ap (name_of me) c.requires.number in
     let k = c.args.k in
     let ticked : IsTicked sc w.ports me site c.end_window.new.self end k s = c.end_window.ensures.ticked c.if-end_window.true sc w.ports k s may.at.stands may.next in
     let x = act_of sc w me site k s in
-    let told = told-then sc me k c.args.node site c.end_window.new.self c.args.scene.now c.close.new.scene w s end c.requires.name c.end_window.ensures.same.index may ticked
-    (c.close.ensures.around _ (begin-none sc c.args.scene.now w (kind_of c.args.node) (number_in c.args.node) None refl may.at.surrounds)) in
+    let told = told-then sc me k c.name_of-node.result site c.end_window.new.self c.args.scene.now c.close.new.scene w s end named c.end_window.ensures.same.index may ticked
+    (c.close.ensures.around _ (begin-none sc c.args.scene.now w (kind_of c.name_of-node.result) (number_in c.name_of-node.result) None refl may.at.surrounds)) in
     let ready = may-then sc me k site c.end_window.new.self c.args.scene.now c.close.new.scene w s end c.end_window.ensures.same.index may ticked c.close.ensures.agenda told in
     let z = after_tick sc w.ports me (number_of site) x s in
     let v = told_in sc w me (number_of site) x in
     let on : Proceeds sc me (number_of site) c.proceed.new.site c.close.new.scene c.proceed.new.scene v z =
     subst (λ i. Proceeds sc me i c.proceed.new.site c.close.new.scene c.proceed.new.scene v z) c.end_window.ensures.same.index
     (c.proceed.ensures v z (subst (λ i. MayProceed sc me i c.end_window.new.self c.close.new.scene v z) (sym c.end_window.ensures.same.index) ready)) in
-    whole sc me (number_of site) k c.args.node c.proceed.new.site c.close.new.scene c.proceed.new.scene c.proceed.new.scene w s x end c.proceed.new.site.node.seat.state.frame c.requires.name on refl
+    whole sc me (number_of site) k c.name_of-node.result c.proceed.new.site c.close.new.scene c.proceed.new.scene c.proceed.new.scene w s x end c.proceed.new.site.node.seat.state.frame named on refl
     ticked.act.message on.surrounds

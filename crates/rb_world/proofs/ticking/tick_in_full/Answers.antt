@@ -2,6 +2,7 @@ use Rattle.std.proofs.Common.{◌≡◌, is_some, refl, sym, ap, ◌∙◌, subs
 use Rattle.rb_base.specs.Nodes.{other, side_of}
 use Rattle.rb_rules.specs.Core.{pass_to}
 use Rattle.rb_rules.specs.Lawful.{kind_of}
+use Rattle.rb_rules.specs.Links.{name_of}
 use Rattle.rb_rules.specs.WorldStep.{Site as WorldSite, World, proceed, wants_in, word_of}
 use Rattle.rb_node.specs.Cores.{IsCore, Running, next_of}
 use Rattle.rb_slot.specs.Engines.{Seated}
@@ -34,6 +35,7 @@ proceed_within-requires-clause-may g c =
     let sc = c.args.bus.now in
     let me = side_of g.K.Kind.CODE in
     let site = c.args.site.now in
+    let named = c.name_of-node.ensures ∙ ap (name_of me) c.requires.number in
     let after = c.say_alone.new.self in
     let k = c.args.k in
     let w = c.requires.may.0 in
@@ -45,7 +47,7 @@ proceed_within-requires-clause-may g c =
     let ticked = c.say_alone.ensures.ticked (ap is_some c.in-Some.is) sc w.ports k s may.at.stands may.next worded in (
       world_then sc w me site k s,
       site_then sc w me site k s,
-      may-go-on sc me k c.args.node site after c.args.scene.now w s c.say_alone.result c.requires.name c.say_alone.ensures.same.index may ticked,
+      may-go-on sc me k c.name_of-node.result site after c.args.scene.now w s c.say_alone.result named c.say_alone.ensures.same.index may ticked,
     )
 
 pub depart-requires-clause-around : goal.depart-requires-clause-around
@@ -53,6 +55,7 @@ depart-requires-clause-around g c =
     let sc = c.args.bus.now in
     let me = side_of g.K.Kind.CODE in
     let site = c.args.site.now in
+    let named = c.name_of-node.ensures ∙ ap (name_of me) c.requires.number in
     let after = c.say_alone.new.self in
     let k = c.args.k in
     let w = c.requires.may.0 in
@@ -62,7 +65,7 @@ depart-requires-clause-around g c =
     (c.wants_then.ensures s.core (subst (λ n. IsCore n s.core) (sym c.node.ensures) may.at.stands.core) ∙ ap (λ n. want_then me n s.core (next_of me n s.core)) c.node.ensures)
     (subst (λ ps. HoldsPorts sc ps w.ports) (sym c.deref.ensures.value) may.at.surrounds.ports) c.word_for-word.ensures in
     let ticked = c.say_alone.ensures.ticked (ap is_some c.in-Some.is) sc w.ports k s may.at.stands may.next worded in
-    let on = goes-on sc me k c.args.node site after c.args.scene.now c.proceed_within.new.scene w s c.say_alone.result c.requires.name
+    let on = goes-on sc me k c.name_of-node.result site after c.args.scene.now c.proceed_within.new.scene w s c.say_alone.result named
     c.say_alone.ensures.same.index may ticked c.proceed_within.ensures in
     (moved me (number_of site) (proceed sc me (number_of site)) (world_then sc w me site k s), on.surrounds)
 
@@ -71,6 +74,7 @@ depart-requires-clause-room g c =
     let sc = c.args.bus.now in
     let me = side_of g.K.Kind.CODE in
     let site = c.args.site.now in
+    let named = c.name_of-node.ensures ∙ ap (name_of me) c.requires.number in
     let after = c.say_alone.new.self in
     let k = c.args.k in
     let w = c.requires.may.0 in
@@ -80,9 +84,9 @@ depart-requires-clause-room g c =
     (c.wants_then.ensures s.core (subst (λ n. IsCore n s.core) (sym c.node.ensures) may.at.stands.core) ∙ ap (λ n. want_then me n s.core (next_of me n s.core)) c.node.ensures)
     (subst (λ ps. HoldsPorts sc ps w.ports) (sym c.deref.ensures.value) may.at.surrounds.ports) c.word_for-word.ensures in
     let ticked = c.say_alone.ensures.ticked (ap is_some c.in-Some.is) sc w.ports k s may.at.stands may.next worded in
-    let on = goes-on sc me k c.args.node site after c.args.scene.now c.proceed_within.new.scene w s c.say_alone.result c.requires.name
+    let on = goes-on sc me k c.name_of-node.result site after c.args.scene.now c.proceed_within.new.scene w s c.say_alone.result named
     c.say_alone.ensures.same.index may ticked c.proceed_within.ensures in
-    subst (λ m. HasRoomFor sc (other m) c.proceed_within.new.scene) (sym (ap kind_of c.requires.name ∙ kind-named me (number_of site)))
+    subst (λ m. HasRoomFor sc (other m) c.proceed_within.new.scene) (sym (ap kind_of named ∙ kind-named me (number_of site)))
     (room-then sc me (number_of site) c.args.scene.now c.args.scene.now c.proceed_within.new.scene may.message refl on.others)
 
 pub returns-in-Some : goal.returns-in-Some
@@ -91,16 +95,17 @@ returns-in-Some g c =
     let sc = c.args.bus.now in
     let me = side_of g.K.Kind.CODE in
     let site = c.args.site.now in
+    let named = c.name_of-node.ensures ∙ ap (name_of me) c.requires.number in
     let after = c.say_alone.new.self in
     let k = c.args.k in
     let worded = is-word sc me k c.args.i c.word_for-word.result c.wants_then.result c.deref.result.now site c.args.scene.now w s may c.requires.number
     (c.wants_then.ensures s.core (subst (λ n. IsCore n s.core) (sym c.node.ensures) may.at.stands.core) ∙ ap (λ n. want_then me n s.core (next_of me n s.core)) c.node.ensures)
     (subst (λ ps. HoldsPorts sc ps w.ports) (sym c.deref.ensures.value) may.at.surrounds.ports) c.word_for-word.ensures in
     let ticked = c.say_alone.ensures.ticked (ap is_some c.in-Some.is) sc w.ports k s may.at.stands may.next worded in
-    let on = goes-on sc me k c.args.node site after c.args.scene.now c.proceed_within.new.scene w s c.say_alone.result c.requires.name
+    let on = goes-on sc me k c.name_of-node.result site after c.args.scene.now c.proceed_within.new.scene w s c.say_alone.result named
     c.say_alone.ensures.same.index may ticked c.proceed_within.ensures in
-    has-ticked sc me k c.frame-frame.result c.args.node site after c.args.scene.now c.proceed_within.new.scene c.depart.new.scene w s c.say_alone.result c.in-Some.message
-    c.requires.name c.in-Some.is ticked on
+    has-ticked sc me k c.frame-frame.result c.name_of-node.result site after c.args.scene.now c.proceed_within.new.scene c.depart.new.scene w s c.say_alone.result c.in-Some.message
+    named c.in-Some.is ticked on
     (c.frame-frame.ensures ∙ ap (λ (v : Seated). v.state.frame) (c.engine.ensures ∙ ap (λ (n : Running). n.seat) c.node-in-Some.ensures)) c.depart.ensures
 
 pub tick_with_word-requires-clause-word : goal.tick_with_word-requires-clause-word

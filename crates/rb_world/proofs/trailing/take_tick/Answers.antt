@@ -19,17 +19,17 @@ use Rattle.rb_world.proofs.trailing.take_tick.Goals as goal
 
 pub sweep_for-requires-clause-name : goal.sweep_for-requires-clause-name
 sweep_for-requires-clause-name g c =
-    let sc = c.args.bus.now in
+    let sc = c.args.setup.now.bus.now in
     let me = side_of g.K.Kind.CODE in
     let sites = c.args.sites.now.items in
     let site = c.index_mut-site.result.now in
     let there : slice_get sites c.args.i ≡ Some site = indexed sites c.args.i site c.requires.within (c.index_mut-site.ensures.value ∙ ap (λ n. get_or sites n site) c.from.ensures) in
     let both = may-take sc c.requires.may.0 c.args.scene.now c.requires.may.1 c.requires.may.2 c.requires.may.3 me c.args.i c.requires.may.4 c.args.time sites site c.requires.may.5 there in
-    c.requires.name ∙ ap (name_of me) (sym both.0)
+    c.name_of-node.ensures ∙ ap (name_of me) (sym both.0)
 
 pub sweep_for-requires-clause-may : goal.sweep_for-requires-clause-may
 sweep_for-requires-clause-may g c =
-    let sc = c.args.bus.now in
+    let sc = c.args.setup.now.bus.now in
     let me = side_of g.K.Kind.CODE in
     let sites = c.args.sites.now.items in
     let site = c.index_mut-site.result.now in
@@ -39,7 +39,7 @@ sweep_for-requires-clause-may g c =
 
 pub tick_at-requires-clause-number : goal.tick_at-requires-clause-number
 tick_at-requires-clause-number g c =
-    let sc = c.args.bus.now in
+    let sc = c.args.setup.now.bus.now in
     let me = side_of g.K.Kind.CODE in
     let sites = c.args.sites.now.items in
     let site = c.index_mut-site.result.now in
@@ -47,19 +47,9 @@ tick_at-requires-clause-number g c =
     let both = may-take sc c.requires.may.0 c.args.scene.now c.requires.may.1 c.requires.may.2 c.requires.may.3 me c.args.i c.requires.may.4 c.args.time sites site c.requires.may.5 there in
     sym (c.sweep_for.ensures.number ∙ both.0)
 
-pub tick_at-requires-clause-name : goal.tick_at-requires-clause-name
-tick_at-requires-clause-name g c =
-    let sc = c.args.bus.now in
-    let me = side_of g.K.Kind.CODE in
-    let sites = c.args.sites.now.items in
-    let site = c.index_mut-site.result.now in
-    let there : slice_get sites c.args.i ≡ Some site = indexed sites c.args.i site c.requires.within (c.index_mut-site.ensures.value ∙ ap (λ n. get_or sites n site) c.from.ensures) in
-    let both = may-take sc c.requires.may.0 c.args.scene.now c.requires.may.1 c.requires.may.2 c.requires.may.3 me c.args.i c.requires.may.4 c.args.time sites site c.requires.may.5 there in
-    c.requires.name ∙ ap (name_of me) (sym (c.sweep_for.ensures.number ∙ both.0))
-
 pub tick_at-requires-clause-may : goal.tick_at-requires-clause-may
 tick_at-requires-clause-may g c =
-    let sc = c.args.bus.now in
+    let sc = c.args.setup.now.bus.now in
     let me = side_of g.K.Kind.CODE in
     let sites = c.args.sites.now.items in
     let site = c.index_mut-site.result.now in
@@ -79,7 +69,7 @@ tick_at-requires-clause-may g c =
 
 pub returns-clause-takes : goal.returns-clause-takes
 returns-clause-takes g c = λ kept until w v a m.
-    let sc = c.args.bus.now in
+    let sc = c.args.setup.now.bus.now in
     let me = side_of g.K.Kind.CODE in
     let sites = c.args.sites.now.items in
     let site = c.index_mut-site.result.now in
@@ -101,7 +91,7 @@ returns-clause-takes g c = λ kept until w v a m.
 
 pub tell_tick_for-requires : goal.tell_tick_for-requires
 tell_tick_for-requires g c =
-    let sc = c.args.bus.now in
+    let sc = c.args.setup.now.bus.now in
     let me = side_of g.K.Kind.CODE in
     let sites = c.args.sites.now.items in
     let site = c.index_mut-site.result.now in
@@ -122,14 +112,14 @@ tell_tick_for-requires g c =
         a.tick,
         x.ports,
         s,
-        subst (λ ps. MayShowTick sc me (number_of c.sweep_for.new.site) a.tick c.sweep_for.new.site ps c.args.node x.ports s) (sym c.deref.ensures.value)
-            (tick-shown sc me c.args.i a.tick c.sweep_for.new.site (record c.args.scene.now { agenda = c.sweep_for.new.agenda }) x s c.args.node may c.requires.name),
+        subst (λ ps. MayShowTick sc me (number_of c.sweep_for.new.site) a.tick c.sweep_for.new.site ps c.name_of-node.result x.ports s) (sym c.deref.ensures.value)
+            (tick-shown sc me c.args.i a.tick c.sweep_for.new.site (record c.args.scene.now { agenda = c.sweep_for.new.agenda }) x s c.name_of-node.result may c.name_of-node.ensures),
       );
     }
 
 pub returns-clause-told : goal.returns-clause-told
 returns-clause-told g c = λ name is kept until w v a m.
-    let sc = c.args.bus.now in
+    let sc = c.args.setup.now.bus.now in
     let me = side_of g.K.Kind.CODE in
     let sites = c.args.sites.now.items in
     let site = c.index_mut-site.result.now in
@@ -144,22 +134,22 @@ returns-clause-told g c = λ name is kept until w v a m.
     let may : MayTick sc me c.args.i a.tick c.sweep_for.new.site (record c.args.scene.now { agenda = c.sweep_for.new.agenda }) x s =
     may-then sc kept c.args.scene.now until w v me c.args.i a c.args.time sites c.sweep_for.new.site c.sweep_for.new.agenda m sweeps in
     let number : number_of c.sweep_for.new.site ≡ c.args.i = c.sweep_for.ensures.number ∙ both.0 in
-    let heard_it : WasTold _ g.T.Observer.observes c.args.observer.now (if same_node c.args.node name then heard sc me c.args.i (a.time + 1) m.at.first.node else []) c.sweep_for.new.observer =
-    subst (λ t. WasTold _ g.T.Observer.observes c.args.observer.now (if same_node c.args.node name then heard sc me c.args.i (t + 1) m.at.first.node else []) c.sweep_for.new.observer) m.time_is
-    (subst (λ n. WasTold _ g.T.Observer.observes c.args.observer.now (if same_node c.args.node name then heard sc me n (c.args.time + 1) m.at.first.node else []) c.sweep_for.new.observer) both.0
+    let heard_it : WasTold _ g.T.Observer.observes c.args.observer.now (if same_node c.name_of-node.result name then heard sc me c.args.i (a.time + 1) m.at.first.node else []) c.sweep_for.new.observer =
+    subst (λ t. WasTold _ g.T.Observer.observes c.args.observer.now (if same_node c.name_of-node.result name then heard sc me c.args.i (t + 1) m.at.first.node else []) c.sweep_for.new.observer) m.time_is
+    (subst (λ n. WasTold _ g.T.Observer.observes c.args.observer.now (if same_node c.name_of-node.result name then heard sc me n (c.args.time + 1) m.at.first.node else []) c.sweep_for.new.observer) both.0
     (c.sweep_for.ensures.told name is v.sites m.at.first.node may_sweep)) in
-    let ticked : WasTold _ g.T.Observer.observes c.sweep_for.new.observer (if same_node c.args.node name then telling sc v.ports me c.args.i s (Tick a.tick) ∷ [] else []) c.tell_tick_for.new.observer =
-    subst (λ n. WasTold _ g.T.Observer.observes c.sweep_for.new.observer (if same_node c.args.node name then telling sc v.ports me n s (Tick a.tick) ∷ [] else []) c.tell_tick_for.new.observer) number
+    let ticked : WasTold _ g.T.Observer.observes c.sweep_for.new.observer (if same_node c.name_of-node.result name then telling sc v.ports me c.args.i s (Tick a.tick) ∷ [] else []) c.tell_tick_for.new.observer =
+    subst (λ n. WasTold _ g.T.Observer.observes c.sweep_for.new.observer (if same_node c.name_of-node.result name then telling sc v.ports me n s (Tick a.tick) ∷ [] else []) c.tell_tick_for.new.observer) number
     (c.tell_tick_for.ensures name is a.tick x.ports s
-    (subst (λ ps. MayShowTick sc me (number_of c.sweep_for.new.site) a.tick c.sweep_for.new.site ps c.args.node x.ports s) (sym c.deref.ensures.value)
-    (tick-shown sc me c.args.i a.tick c.sweep_for.new.site (record c.args.scene.now { agenda = c.sweep_for.new.agenda }) x s c.args.node may c.requires.name))) in
+    (subst (λ ps. MayShowTick sc me (number_of c.sweep_for.new.site) a.tick c.sweep_for.new.site ps c.name_of-node.result x.ports s) (sym c.deref.ensures.value)
+    (tick-shown sc me c.args.i a.tick c.sweep_for.new.site (record c.args.scene.now { agenda = c.sweep_for.new.agenda }) x s c.name_of-node.result may c.name_of-node.ensures))) in
     subst (λ l. WasTold _ g.T.Observer.observes c.args.observer.now l c.tell_tick_for.new.observer)
-    (alone-told sc v me c.args.i a m.at.first.node c.args.node name c.requires.name m.at.first.there)
+    (alone-told sc v me c.args.i a m.at.first.node c.name_of-node.result name c.name_of-node.ensures m.at.first.there)
     (was-both _ g.T.Observer.observes c.args.observer.now c.sweep_for.new.observer c.tell_tick_for.new.observer _ _ heard_it ticked)
 
 pub returns-then-needs_no_stamps-clause-takes : goal.returns-then-needs_no_stamps-clause-takes
 returns-then-needs_no_stamps-clause-takes g c = λ kept until w v a m.
-    let sc = c.args.bus.now in
+    let sc = c.args.setup.now.bus.now in
     let me = side_of g.K.Kind.CODE in
     let sites = c.args.sites.now.items in
     let site = c.index_mut-site.result.now in
@@ -170,11 +160,11 @@ returns-then-needs_no_stamps-clause-takes g c = λ kept until w v a m.
 
 pub returns-then-needs_no_stamps-clause-told : goal.returns-then-needs_no_stamps-clause-told
 returns-then-needs_no_stamps-clause-told g c = λ name is kept until w v a m.
-    let sc = c.args.bus.now in
+    let sc = c.args.setup.now.bus.now in
     let me = side_of g.K.Kind.CODE in
     let s = m.at.first.node in
-    let apart : same_node c.args.node name ≡ false = c.if-needs_no_stamps.ensures.other refl name is in
+    let apart : same_node c.name_of-node.result name ≡ false = c.if-needs_no_stamps.ensures.other refl name is in
     let nothing : alone_for sc v me c.args.i a name ≡ [] =
-    sym (alone-told sc v me c.args.i a s c.args.node name c.requires.name m.at.first.there)
+    sym (alone-told sc v me c.args.i a s c.name_of-node.result name c.name_of-node.ensures m.at.first.there)
     ∙ ap (λ b. (if b then heard sc me c.args.i (a.time + 1) s else []) ++ (if b then telling sc v.ports me c.args.i (bare sc me c.args.i a s) (Tick a.tick) ∷ [] else [])) apart in
     subst (λ l. WasTold _ g.T.Observer.observes c.args.observer.now l c.args.observer.now) (sym nothing) refl

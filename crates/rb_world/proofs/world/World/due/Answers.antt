@@ -1,5 +1,6 @@
 use Rattle.std.proofs.Common.{◌≡◌, length, sym, ◌∙◌, subst}
 use Rattle.rb_rules.specs.WorldStep.{World as RunWorld, due_of}
+use Rattle.rb_world.specs.Kept.{kept_of}
 use Rattle.rb_world.specs.Worlds.{KeptWorld, Stands, due_in}
 use Rattle.rb_world.proofs.Idle.{all-due, busy, ended-idle, free-idle, length-due, none-due, none-due-then}
 use Rattle.rb_world.proofs.Steps.{some-due}
@@ -8,7 +9,7 @@ use Rattle.rb_world.proofs.world.World.due.Goals.{then-has_ended-via-then-has_en
 
 pub returns-then-has_ended-clause-value : goal.returns-then-has_ended-clause-value
 returns-then-has_ended-clause-value c =
-    let k : KeptWorld = record { bus = c.self.inside.bus; nodes = record { bius = c.self.inside.bius.items; rmus = c.self.inside.rmus.items }; scene = c.self.inside.scene; seeding = c.self.inside.seeding; last = c.self.inside.last } in
+    let k : KeptWorld = kept_of c.self.inside in
     let w : RunWorld = c.self.invariant.0 in
     let is : Stands k w = c.self.invariant.1 in
     subst (λ k. 0 ≡ due_in k) c.self.view_is (elim c.then-has_ended.branch [
@@ -19,7 +20,7 @@ returns-then-has_ended-clause-value c =
 
 pub returns-then-has_ended-clause-world : goal.returns-then-has_ended-clause-world
 returns-then-has_ended-clause-world c =
-    let k : KeptWorld = record { bus = c.self.inside.bus; nodes = record { bius = c.self.inside.bius.items; rmus = c.self.inside.rmus.items }; scene = c.self.inside.scene; seeding = c.self.inside.seeding; last = c.self.inside.last } in
+    let k : KeptWorld = kept_of c.self.inside in
     subst (λ k. (w : RunWorld) → Stands k w → 0 ≡ length (due_of k.bus w)) c.self.view_is (λ w is. elim c.then-has_ended.branch [
       | then-has_ended-via-then-has_ended d ↦ sym (none-due-then k w is (ended-idle k w is (sym (c.has_ended.ensures k.bus w is.scene.book) ∙ d.if-has_ended.true)))
       | then-has_ended-via-else-has_ended+then-needs_no_event d ↦
@@ -28,7 +29,7 @@ returns-then-has_ended-clause-world c =
 
 pub returns-clause-world : goal.returns-clause-world
 returns-clause-world c =
-    let k : KeptWorld = record { bus = c.self.inside.bus; nodes = record { bius = c.self.inside.bius.items; rmus = c.self.inside.rmus.items }; scene = c.self.inside.scene; seeding = c.self.inside.seeding; last = c.self.inside.last } in
+    let k : KeptWorld = kept_of c.self.inside in
     subst (λ k. (w : RunWorld) → Stands k w → c.due.result ≡ length (due_of k.bus w)) c.self.view_is (λ w is.
     length-due k w c.due.result
     (busy k w (sym (c.has_ended.ensures k.bus w is.scene.book) ∙ c.if-has_ended.false) (sym (c.needs_no_event.ensures k.bus w is.scene.book) ∙ c.if-needs_no_event.false))
@@ -36,7 +37,7 @@ returns-clause-world c =
 
 pub returns-clause-value : goal.returns-clause-value
 returns-clause-value c =
-    let k : KeptWorld = record { bus = c.self.inside.bus; nodes = record { bius = c.self.inside.bius.items; rmus = c.self.inside.rmus.items }; scene = c.self.inside.scene; seeding = c.self.inside.seeding; last = c.self.inside.last } in
+    let k : KeptWorld = kept_of c.self.inside in
     let w : RunWorld = c.self.invariant.0 in
     let is : Stands k w = c.self.invariant.1 in
     subst (λ k. c.due.result ≡ due_in k) c.self.view_is (all-due k w c.due.result is

@@ -3,6 +3,7 @@ use Rattle.rb_base.specs.Nodes.Side.{Biu}
 use Rattle.rb_rules.specs.Goodness.{is_good}
 use Rattle.rb_rules.specs.WorldStep.{World as RunWorld, hand}
 use Rattle.rb_laws_events.proofs.WorldBooks.{hand-book}
+use Rattle.rb_world.specs.Kept.{kept_of}
 use Rattle.rb_world.specs.declared.scene.Scene.{Scene}
 use Rattle.rb_world.specs.Worlds.{KeptWorld, Stands}
 use Rattle.rb_world.proofs.Handed.{good-within, hand-at-good, hand-at-other, hand-elsewhere, surrounds-handed}
@@ -10,7 +11,7 @@ use Rattle.rb_world.proofs.world.World.hand.Goals as goal
 
 pub returns-in_default : goal.returns-in_default
 returns-in_default c =
-    let k : KeptWorld = record { bus = c.self.inside.bus; nodes = record { bius = c.self.inside.bius.items; rmus = c.self.inside.rmus.items }; scene = c.self.inside.scene; seeding = c.self.inside.seeding; last = c.self.inside.last } in
+    let k : KeptWorld = kept_of c.self.inside in
     record {
       world = subst (λ (x : KeptWorld). (w : RunWorld) → Stands x w → Stands x (hand x.bus w c.args.biu c.args.state)) c.self.view_is (λ w is.
           hand-elsewhere k w c.args.biu c.args.state is c.in_default.not-Frame);
@@ -21,13 +22,13 @@ returns-in_default c =
 
 pub set_state-requires : goal.set_state-requires
 set_state-requires c =
-    let k : KeptWorld = record { bus = c.self.inside.bus; nodes = record { bius = c.self.inside.bius.items; rmus = c.self.inside.rmus.items }; scene = c.self.inside.scene; seeding = c.self.inside.seeding; last = c.self.inside.last } in
+    let k : KeptWorld = kept_of c.self.inside in
     let good : is_good k.bus Biu c.args.biu c.in-Frame.frame 0 ≡ true = sym c.is_good_at_begin.ensures ∙ c.if-is_good_at_begin.true in
     subst (λ n. c.args.biu < n) (sym c.self.invariant.1.scene.ports.many) (good-within k.bus c.args.biu c.in-Frame.frame 0 good)
 
 pub invariant_of-self : goal.invariant_of-self
 invariant_of-self c =
-    let k : KeptWorld = record { bus = c.self.inside.bus; nodes = record { bius = c.self.inside.bius.items; rmus = c.self.inside.rmus.items }; scene = c.self.inside.scene; seeding = c.self.inside.seeding; last = c.self.inside.last } in
+    let k : KeptWorld = kept_of c.self.inside in
     let scene : Scene = record k.scene { ports = c.set_state.new.ports } in
     let good : is_good k.bus Biu c.args.biu c.in-Frame.frame 0 ≡ true = sym c.is_good_at_begin.ensures ∙ c.if-is_good_at_begin.true in
     let w : RunWorld = c.self.invariant.0 in
@@ -39,7 +40,7 @@ invariant_of-self c =
 
 pub returns-then-is_good_at_begin-clause-world : goal.returns-then-is_good_at_begin-clause-world
 returns-then-is_good_at_begin-clause-world c =
-    let k : KeptWorld = record { bus = c.self.inside.bus; nodes = record { bius = c.self.inside.bius.items; rmus = c.self.inside.rmus.items }; scene = c.self.inside.scene; seeding = c.self.inside.seeding; last = c.self.inside.last } in
+    let k : KeptWorld = kept_of c.self.inside in
     let scene : Scene = record k.scene { ports = c.set_state.new.ports } in
     let good : is_good k.bus Biu c.args.biu c.in-Frame.frame 0 ≡ true = sym c.is_good_at_begin.ensures ∙ c.if-is_good_at_begin.true in
     subst (λ (x : KeptWorld). (w : RunWorld) → Stands x w → Stands (record k { scene = scene }) (hand x.bus w c.args.biu c.args.state)) c.self.view_is (λ w is.
@@ -48,7 +49,7 @@ returns-then-is_good_at_begin-clause-world c =
 
 pub returns-else-is_good_at_begin-clause-world : goal.returns-else-is_good_at_begin-clause-world
 returns-else-is_good_at_begin-clause-world c =
-    let k : KeptWorld = record { bus = c.self.inside.bus; nodes = record { bius = c.self.inside.bius.items; rmus = c.self.inside.rmus.items }; scene = c.self.inside.scene; seeding = c.self.inside.seeding; last = c.self.inside.last } in
+    let k : KeptWorld = kept_of c.self.inside in
     let bad : is_good k.bus Biu c.args.biu c.in-Frame.frame 0 ≡ false = sym c.is_good_at_begin.ensures ∙ c.if-is_good_at_begin.false in
     subst (λ (x : KeptWorld). (w : RunWorld) → Stands x w → Stands x (hand x.bus w c.args.biu c.args.state)) c.self.view_is (λ w is.
     hand-at-other k w c.args.biu c.args.state c.in-Frame.frame is c.in-Frame.is bad)

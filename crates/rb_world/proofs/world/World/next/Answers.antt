@@ -1,4 +1,5 @@
 use Rattle.std.proofs.Common.{◌≡◌, refl, sym, ap, ◌∙◌, subst}
+use Rattle.rb_world.specs.Kept.{kept_of}
 use Rattle.rb_world.specs.declared.ties.Seeding.{Seeding}
 use Rattle.rb_world.specs.Nexts.{RunsOn, begun_with}
 use Rattle.rb_world.specs.Worlds.{KeptWorld}
@@ -9,13 +10,13 @@ use Rattle.rb_world.proofs.world.World.next.Goals as goal
 
 pub invariant_of-self : goal.invariant_of-self
 invariant_of-self g c =
-    let k : KeptWorld = record { bus = c.self-2.inside.bus; nodes = record { bius = c.self-2.inside.bius.items; rmus = c.self-2.inside.rmus.items }; scene = c.self-2.inside.scene; seeding = c.self-2.inside.seeding; last = c.self-2.inside.last } in
+    let k : KeptWorld = kept_of c.self-2.inside in
     let after : Seeding = record { seed = c.begin-seeding.result.seed; draws = c.run_on.new.draws } in
     (c.self-2.invariant.0, with-seeding k c.self-2.invariant.0 after c.self-2.invariant.1)
 
 pub returns-clause-world : goal.returns-clause-world
 returns-clause-world g c =
-    let k : KeptWorld = record { bus = c.self-2.inside.bus; nodes = record { bius = c.self-2.inside.bius.items; rmus = c.self-2.inside.rmus.items }; scene = c.self-2.inside.scene; seeding = c.self-2.inside.seeding; last = c.self-2.inside.last } in
+    let k : KeptWorld = kept_of c.self-2.inside in
     let after : Seeding = record { seed = c.begin-seeding.result.seed; draws = c.run_on.new.draws } in
     let begun : c.begin-seeding.result ≡ begun_with c.args.ties c.args.self.now.seeding =
     c.begin-seeding.ensures ∙ ap (λ (x : KeptWorld). begun_with c.args.ties x.seeding) c.self.view_is in
@@ -27,7 +28,7 @@ returns-clause-world g c =
 
 pub returns-clause-rounds : goal.returns-clause-rounds
 returns-clause-rounds g c =
-    let k : KeptWorld = record { bus = c.self-2.inside.bus; nodes = record { bius = c.self-2.inside.bius.items; rmus = c.self-2.inside.rmus.items }; scene = c.self-2.inside.scene; seeding = c.self-2.inside.seeding; last = c.self-2.inside.last } in
+    let k : KeptWorld = kept_of c.self-2.inside in
     let after : Seeding = record { seed = c.begin-seeding.result.seed; draws = c.run_on.new.draws } in
     let begun : c.begin-seeding.result ≡ begun_with c.args.ties c.args.self.now.seeding =
     c.begin-seeding.ensures ∙ ap (λ (x : KeptWorld). begun_with c.args.ties x.seeding) c.self.view_is in

@@ -1,5 +1,6 @@
 use Rattle.std.proofs.Common.{◌≡◌, is_some, refl, sym, ap, ◌∙◌, subst}
 use Rattle.rb_rules.specs.WorldStep.{World as RunWorld}
+use Rattle.rb_world.specs.Kept.{kept_of}
 use Rattle.rb_world.specs.declared.ties.Seeding.{Seeding}
 use Rattle.rb_world.specs.declared.ties.Ties.TheVariants.{First}
 use Rattle.rb_world.specs.Nexts.{RunsOn, begun_with}
@@ -12,12 +13,12 @@ use Rattle.rb_world.proofs.world.World.next_observed.Goals as goal
 
 pub invariant_of-self : goal.invariant_of-self
 invariant_of-self g c =
-    let k : KeptWorld = record { bus = c.self-2.inside.bus; nodes = record { bius = c.self-2.inside.bius.items; rmus = c.self-2.inside.rmus.items }; scene = c.self-2.inside.scene; seeding = c.self-2.inside.seeding; last = c.self-2.inside.last } in
+    let k : KeptWorld = kept_of c.self-2.inside in
     (c.self-2.invariant.0, with-seeding k c.self-2.invariant.0 c.begin-seeding.result c.self-2.invariant.1)
 
 pub returns-clause-world : goal.returns-clause-world
 returns-clause-world g c =
-    let k : KeptWorld = record { bus = c.self-2.inside.bus; nodes = record { bius = c.self-2.inside.bius.items; rmus = c.self-2.inside.rmus.items }; scene = c.self-2.inside.scene; seeding = c.self-2.inside.seeding; last = c.self-2.inside.last } in
+    let k : KeptWorld = kept_of c.self-2.inside in
     let after : Seeding = c.begin-seeding.result in
     let begun : after ≡ begun_with First c.args.self.now.seeding = c.begin-seeding.ensures ∙ ap (λ (x : KeptWorld). begun_with First x.seeding) c.self.view_is in
     λ w is.
@@ -27,7 +28,7 @@ returns-clause-world g c =
 
 pub returns-clause-told : goal.returns-clause-told
 returns-clause-told g c =
-    let k : KeptWorld = record { bus = c.self-2.inside.bus; nodes = record { bius = c.self-2.inside.bius.items; rmus = c.self-2.inside.rmus.items }; scene = c.self-2.inside.scene; seeding = c.self-2.inside.seeding; last = c.self-2.inside.last } in
+    let k : KeptWorld = kept_of c.self-2.inside in
     let after : Seeding = c.begin-seeding.result in
     let begun : after ≡ begun_with First c.args.self.now.seeding = c.begin-seeding.ensures ∙ ap (λ (x : KeptWorld). begun_with First x.seeding) c.self.view_is in
     λ w is.
@@ -37,7 +38,7 @@ returns-clause-told g c =
 
 pub returns-clause-rounds : goal.returns-clause-rounds
 returns-clause-rounds g c =
-    let k : KeptWorld = record { bus = c.self-2.inside.bus; nodes = record { bius = c.self-2.inside.bius.items; rmus = c.self-2.inside.rmus.items }; scene = c.self-2.inside.scene; seeding = c.self-2.inside.seeding; last = c.self-2.inside.last } in
+    let k : KeptWorld = kept_of c.self-2.inside in
     let after : Seeding = c.begin-seeding.result in
     let begun : after ≡ begun_with First c.args.self.now.seeding = c.begin-seeding.ensures ∙ ap (λ (x : KeptWorld). begun_with First x.seeding) c.self.view_is in
     λ w is.

@@ -2,6 +2,8 @@ use Rattle.std.proofs.Common.{◌≡◌, ℕ, Some, true, false, sym, ◌∙◌,
 use Rattle.rb_base.specs.declared.node.NodeName.{NodeName}
 use Rattle.rb_rules.specs.Lawful.{IsNodeOf}
 use Rattle.rb_rules.specs.WorldStep.{World as RunWorld}
+use Rattle.rb_world.specs.Kept.{kept_of}
+use Rattle.rb_world.specs.Runs.{nodes_of}
 use Rattle.rb_world.specs.declared.ties.Ties.TheVariants.{First}
 use Rattle.rb_world.specs.Nexts.{RunsOn}
 use Rattle.rb_world.specs.Observing.{RunsTold}
@@ -13,40 +15,40 @@ use Rattle.rb_world.proofs.world.World.run_first.Goals as goal
 
 pub returns-then-has_ended-clause-world : goal.returns-then-has_ended-clause-world
 returns-then-has_ended-clause-world g c =
-    let k : KeptWorld = record { bus = c.self.inside.bus; nodes = record { bius = c.self.inside.bius.items; rmus = c.self.inside.rmus.items }; scene = c.self.inside.scene; seeding = c.self.inside.seeding; last = c.self.inside.last } in
+    let k : KeptWorld = kept_of c.self.inside in
     subst (λ (k : KeptWorld). (w : RunWorld) (state : ℕ) → Stands k w → RunsOn First state state k k c.last_turn.result w) c.self.view_is (λ w state is.
     let ended : w.book.ended ≡ true = sym (c.has_ended.ensures k.bus w is.scene.book) ∙ c.if-has_ended.true in
     run-ended k w c.last_turn.result state is ended (c.last_turn.ensures w.turn is.last (reached-ends k.bus w is.reached ended)))
 
 pub run_ticks-requires-clause-may : goal.run_ticks-requires-clause-may
 run_ticks-requires-clause-may g c =
-    let k : KeptWorld = record { bus = c.self.inside.bus; nodes = record { bius = c.self.inside.bius.items; rmus = c.self.inside.rmus.items }; scene = c.self.inside.scene; seeding = c.self.inside.seeding; last = c.self.inside.last } in
+    let k : KeptWorld = kept_of c.self.inside in
     let w : RunWorld = c.self.invariant.0 in
     let is : Stands k w = c.self.invariant.1 in
     (w, may-run k w is (sym (c.has_ended.ensures k.bus w is.scene.book) ∙ c.if-has_ended.false))
 
 pub invariant_of-self : goal.invariant_of-self
 invariant_of-self g c =
-    let k : KeptWorld = record { bus = c.self.inside.bus; nodes = record { bius = c.self.inside.bius.items; rmus = c.self.inside.rmus.items }; scene = c.self.inside.scene; seeding = c.self.inside.seeding; last = c.self.inside.last } in
+    let k : KeptWorld = kept_of c.self.inside in
     let w : RunWorld = c.self.invariant.0 in
     let is : Stands k w = c.self.invariant.1 in
     let going : w.book.ended ≡ false = sym (c.has_ended.ensures k.bus w is.scene.book) ∙ c.if-has_ended.false in
     let comes = c.run_ticks.ensures.comes w 0 (may-run k w is going) in
-    let to = run-to k w (record { bius = c.run_ticks.new.bius.items; rmus = c.run_ticks.new.rmus.items }) c.run_ticks.new.scene c.run_ticks.new.turn c.last_of-self-inside.result 0 is comes
+    let to = run-to k w (nodes_of c.run_ticks.new.run) c.run_ticks.new.run.scene c.run_ticks.new.turn c.last_of-self-inside.result 0 is comes
     c.last_of-self-inside.ensures in
     (to.next, to.gives.stands)
 
 pub returns-clause-world : goal.returns-clause-world
 returns-clause-world g c =
-    let k : KeptWorld = record { bus = c.self.inside.bus; nodes = record { bius = c.self.inside.bius.items; rmus = c.self.inside.rmus.items }; scene = c.self.inside.scene; seeding = c.self.inside.seeding; last = c.self.inside.last } in
-    let after : KeptWorld = record { bus = k.bus; nodes = record { bius = c.run_ticks.new.bius.items; rmus = c.run_ticks.new.rmus.items }; scene = c.run_ticks.new.scene; seeding = k.seeding; last = c.last_of-self-inside.result } in
+    let k : KeptWorld = kept_of c.self.inside in
+    let after : KeptWorld = record { bus = k.bus; nodes = nodes_of c.run_ticks.new.run; scene = c.run_ticks.new.run.scene; seeding = k.seeding; last = c.last_of-self-inside.result } in
     subst (λ (x : KeptWorld). (w : RunWorld) (state : ℕ) → Stands x w → RunsOn First state state x after c.run_ticks.new.turn w) c.self.view_is (λ w state is.
     let going : w.book.ended ≡ false = sym (c.has_ended.ensures k.bus w is.scene.book) ∙ c.if-has_ended.false in
     run-to k w after.nodes after.scene c.run_ticks.new.turn after.last state is (c.run_ticks.ensures.comes w state (may-run k w is going)) c.last_of-self-inside.ensures)
 
 pub returns-then-has_ended-clause-told : goal.returns-then-has_ended-clause-told
 returns-then-has_ended-clause-told g c =
-    let k : KeptWorld = record { bus = c.self.inside.bus; nodes = record { bius = c.self.inside.bius.items; rmus = c.self.inside.rmus.items }; scene = c.self.inside.scene; seeding = c.self.inside.seeding; last = c.self.inside.last } in
+    let k : KeptWorld = kept_of c.self.inside in
     subst (λ (k : KeptWorld). (name : NodeName) → c.args.observed ≡ Some name → IsNodeOf k.bus.sizes name → (w : RunWorld) (state : ℕ) → Stands k w
     → RunsTold _ g.T.Observer.observes name c.args.observer.now c.args.observer.now state k k c.last_turn.result w) c.self.view_is (λ name at node w state is.
     let ended : w.book.ended ≡ true = sym (c.has_ended.ensures k.bus w is.scene.book) ∙ c.if-has_ended.true in
@@ -54,8 +56,8 @@ returns-then-has_ended-clause-told g c =
 
 pub returns-clause-told : goal.returns-clause-told
 returns-clause-told g c =
-    let k : KeptWorld = record { bus = c.self.inside.bus; nodes = record { bius = c.self.inside.bius.items; rmus = c.self.inside.rmus.items }; scene = c.self.inside.scene; seeding = c.self.inside.seeding; last = c.self.inside.last } in
-    let after : KeptWorld = record { bus = k.bus; nodes = record { bius = c.run_ticks.new.bius.items; rmus = c.run_ticks.new.rmus.items }; scene = c.run_ticks.new.scene; seeding = k.seeding; last = c.last_of-self-inside.result } in
+    let k : KeptWorld = kept_of c.self.inside in
+    let after : KeptWorld = record { bus = k.bus; nodes = nodes_of c.run_ticks.new.run; scene = c.run_ticks.new.run.scene; seeding = k.seeding; last = c.last_of-self-inside.result } in
     subst (λ (x : KeptWorld). (name : NodeName) → c.args.observed ≡ Some name → IsNodeOf x.bus.sizes name → (w : RunWorld) (state : ℕ) → Stands x w
     → RunsTold _ g.T.Observer.observes name c.args.observer.now c.run_ticks.new.observer state x after c.run_ticks.new.turn w) c.self.view_is (λ name at node w state is.
     let going : w.book.ended ≡ false = sym (c.has_ended.ensures k.bus w is.scene.book) ∙ c.if-has_ended.false in

@@ -1,7 +1,9 @@
 use Rattle.std.proofs.Common.{◌<◌, sym, subst}
 use Rattle.rb_rules.specs.WorldStep.{World as RunWorld, happens, take}
 use Rattle.rb_world_book.specs.Records.{record_of}
+use Rattle.rb_world.specs.Kept.{kept_of}
 use Rattle.rb_world.specs.Numbering.{TakesInRounds}
+use Rattle.rb_world.specs.Runs.{nodes_of}
 use Rattle.rb_world.specs.Steps.{MayHappen}
 use Rattle.rb_world.specs.Turning.{Gives}
 use Rattle.rb_world.specs.Worlds.{KeptWorld, Stands, due_in}
@@ -12,7 +14,7 @@ use Rattle.rb_world.proofs.world.World.take_into.Goals as goal
 
 pub happen-requires : goal.happen-requires
 happen-requires g c =
-    let k : KeptWorld = record { bus = c.self.inside.bus; nodes = record { bius = c.self.inside.bius.items; rmus = c.self.inside.rmus.items }; scene = c.self.inside.scene; seeding = c.self.inside.seeding; last = c.self.inside.last } in
+    let k : KeptWorld = kept_of c.self.inside in
     let i = c.args.i in
     let below : i < due_in k = subst (λ (k : KeptWorld). i < due_in k) (sym c.self.view_is) c.requires.below in
     let lanes = c.take-node.new.self in
@@ -27,7 +29,7 @@ happen-requires g c =
 
 pub invariant_of-self : goal.invariant_of-self
 invariant_of-self g c =
-    let k : KeptWorld = record { bus = c.self.inside.bus; nodes = record { bius = c.self.inside.bius.items; rmus = c.self.inside.rmus.items }; scene = c.self.inside.scene; seeding = c.self.inside.seeding; last = c.self.inside.last } in
+    let k : KeptWorld = kept_of c.self.inside in
     let i = c.args.i in
     let below : i < due_in k = subst (λ (k : KeptWorld). i < due_in k) (sym c.self.view_is) c.requires.below in
     let lanes = c.take-node.new.self in
@@ -40,14 +42,14 @@ invariant_of-self g c =
     subst (λ t. MayHappen k.bus k.nodes (record k.scene { agenda = lanes }) t name event w i both.0) (sym c.first_time-time.ensures.value) both.1 in
     let happened = c.happen.ensures w i both.0 may in
     let settles = c.settle_into.ensures.settled k.bus (happens k.bus w both.0) happened.surrounds.book in
-    let given = taken k.bus w i both.0 (record { bius = c.happen.new.bius.items; rmus = c.happen.new.rmus.items }) c.happen.new.scene k.seeding c.settle_into.new.self c.settle_into.new.turn
+    let given = taken k.bus w i both.0 (nodes_of c.happen.new.run) c.happen.new.run.scene k.seeding c.settle_into.new.self c.settle_into.new.turn
     c.last_of-self-inside.result is.lawful is.reached may.found happened settles c.last_of-self-inside.ensures in
     (take k.bus w i, given.stands)
 
 pub returns-clause-world : goal.returns-clause-world
 returns-clause-world g c =
     λ w stands.
-    let k : KeptWorld = record { bus = c.self.inside.bus; nodes = record { bius = c.self.inside.bius.items; rmus = c.self.inside.rmus.items }; scene = c.self.inside.scene; seeding = c.self.inside.seeding; last = c.self.inside.last } in
+    let k : KeptWorld = kept_of c.self.inside in
     let i = c.args.i in
     let below : i < due_in k = subst (λ (k : KeptWorld). i < due_in k) (sym c.self.view_is) c.requires.below in
     let lanes = c.take-node.new.self in
@@ -59,14 +61,14 @@ returns-clause-world g c =
     subst (λ t. MayHappen k.bus k.nodes (record k.scene { agenda = lanes }) t name event w i both.0) (sym c.first_time-time.ensures.value) both.1 in
     let happened = c.happen.ensures w i both.0 may in
     let settles = c.settle_into.ensures.settled k.bus (happens k.bus w both.0) happened.surrounds.book in
-    let given = taken k.bus w i both.0 (record { bius = c.happen.new.bius.items; rmus = c.happen.new.rmus.items }) c.happen.new.scene k.seeding c.settle_into.new.self c.settle_into.new.turn
+    let given = taken k.bus w i both.0 (nodes_of c.happen.new.run) c.happen.new.run.scene k.seeding c.settle_into.new.self c.settle_into.new.turn
     c.last_of-self-inside.result is.lawful is.reached may.found happened settles c.last_of-self-inside.ensures in
-    subst (λ (kept : KeptWorld). Gives (record { bus = k.bus; nodes = record { bius = c.happen.new.bius.items; rmus = c.happen.new.rmus.items }; scene = record c.happen.new.scene { book = c.settle_into.new.self }; seeding = k.seeding; last = c.last_of-self-inside.result }) c.settle_into.new.turn (take kept.bus w i)) c.self.view_is given
+    subst (λ (kept : KeptWorld). Gives (record { bus = k.bus; nodes = nodes_of c.happen.new.run; scene = record c.happen.new.run.scene { book = c.settle_into.new.self }; seeding = k.seeding; last = c.last_of-self-inside.result }) c.settle_into.new.turn (take kept.bus w i)) c.self.view_is given
 
 pub returns-clause-rounds : goal.returns-clause-rounds
 returns-clause-rounds g c =
     λ w stands.
-    let k : KeptWorld = record { bus = c.self.inside.bus; nodes = record { bius = c.self.inside.bius.items; rmus = c.self.inside.rmus.items }; scene = c.self.inside.scene; seeding = c.self.inside.seeding; last = c.self.inside.last } in
+    let k : KeptWorld = kept_of c.self.inside in
     let i = c.args.i in
     let below : i < due_in k = subst (λ (k : KeptWorld). i < due_in k) (sym c.self.view_is) c.requires.below in
     let lanes = c.take-node.new.self in
@@ -78,7 +80,7 @@ returns-clause-rounds g c =
     subst (λ t. MayHappen k.bus k.nodes (record k.scene { agenda = lanes }) t name event w i both.0) (sym c.first_time-time.ensures.value) both.1 in
     let happened = c.happen.ensures w i both.0 may in
     let settles = c.settle_into.ensures.settled k.bus (happens k.bus w both.0) happened.surrounds.book in
-    let given = taken k.bus w i both.0 (record { bius = c.happen.new.bius.items; rmus = c.happen.new.rmus.items }) c.happen.new.scene k.seeding c.settle_into.new.self c.settle_into.new.turn
+    let given = taken k.bus w i both.0 (nodes_of c.happen.new.run) c.happen.new.run.scene k.seeding c.settle_into.new.self c.settle_into.new.turn
     c.last_of-self-inside.result is.lawful is.reached may.found happened settles c.last_of-self-inside.ensures in
     subst (λ (kept : KeptWorld). TakesInRounds kept.bus w (take kept.bus w i) (record_of c.settle_into.new.turn)) c.self.view_is
     (taken-in-rounds k.bus _ c.settle_into.new.turn w i both.0 is.lawful is.reached may.found given)
