@@ -2,16 +2,21 @@
 use Rattle.std.specs.Prelude.{ℕ, ◌≡◌, ◌+◌, ◌≤◌, All, List, length}
 use Rattle.rb_base.specs.Nodes.{Side}
 use Rattle.rb_base.specs.Nodes.Side.{Biu, Rmu}
+use Rattle.rb_base.specs.declared.node.NodeName.{NodeName}
 use Rattle.rb_rules.specs.Book.{Each}
 use Rattle.rb_rules.specs.Goodness.{Scenario}
 use Rattle.rb_rules.specs.Clock.{Timeline}
-use Rattle.rb_rules.specs.Lawful.{IsLawful}
+use Rattle.rb_rules.specs.Hearing.{Span}
+use Rattle.rb_rules.specs.Lawful.{IsLawful, kind_of}
 use Rattle.rb_rules.specs.Links.{DelayRules}
+use Rattle.rb_rules.specs.WorldStep.{Site, at_node, says_in}
 use Rattle.rb_world_onset.specs.Faults.{Faults, faults_of}
 use Rattle.rb_plan.specs.Timetable.{Timetable}
-use Rattle.rb_world_traffic.specs.Saying.{KeptSayings, kept_of}
+use Rattle.rb_world_agenda.specs.Holding.{HoldsSites}
+use Rattle.rb_world_traffic.specs.Arriving.{number_of}
+use Rattle.rb_world_traffic.specs.Saying.{KeptSayings, hears, kept_of, with_arrivals}
 use Rattle.rb_laws_events.specs.PendingEvents.{most_pending}
-use Rattle.rb_queue.specs.Waiting.{Held}
+use Rattle.rb_queue.specs.Waiting.{Held, lane_of, with_lane}
 use Rattle.rb_world.specs.Calm.{AreRestless}
 use Rattle.rb_world.specs.declared.calm.Restless.{Restless}
 
@@ -50,3 +55,15 @@ HasRoom sc me lane = most_pending sc me + length sc.says + 1 ≤ lane.room
 pub record HaveRooms (sc : Scenario) (lanes : Each Held) : Type 0 where
   pub bius : All (HasRoom sc Biu) lanes.bius
   pub rmus : All (HasRoom sc Rmu) lanes.rmus
+
+-- Calls.
+
+-- what nodes that are not good say to this one in a window is pending there
+abbrev pub with_said : Scenario → NodeName → Span → Each Held → Each Held
+with_said sc node span lanes =
+    with_lane node (with_arrivals (says_in sc (kind_of node) (number_of node) span) (lane_of lanes node)) lanes
+
+-- so at its site
+abbrev pub HasSaid : Scenario → NodeName → Span → Each Held → Each Held → Type 0
+HasSaid sc node span before after = (sites : Each Site) → HoldsSites sc.sizes before sites
+    → HoldsSites sc.sizes after (at_node (kind_of node) (number_of node) (hears sc node span) sites)

@@ -1,10 +1,12 @@
 -- What happens at one node, as it is done in parts.
-use Rattle.std.specs.Prelude.{⊤, ℕ, ◌≡◌, ◌+◌, ◌<◌, ◌≤◌, ◌^◌, true, Option, Some, None, IfSome, All, get_or, length, slice_get}
+use Rattle.std.specs.Prelude.{⊤, [], ℕ, ◌≡◌, ◌+◌, ◌<◌, ◌≤◌, ◌^◌, true, Option, Some, None, IfSome, All, get_or, length, slice_get}
 use Rattle.rb_base.specs.Nodes.{Side, other}
 use Rattle.rb_base.specs.Nodes.Side.{Biu}
 use Rattle.rb_base.specs.Sizes.{Sizes}
 use Rattle.rb_base.specs.declared.values.See.TheVariants.{Nothing}
 use Rattle.rb_rules.specs.declared.closing.Closed.{Closed}
+use Rattle.rb_rules.specs.declared.message.Message.{Message}
+use Rattle.rb_rules.specs.declared.record.Epoch.{Epoch}
 use Rattle.rb_base.specs.declared.event.Event.{Event}
 use Rattle.rb_base.specs.declared.node.NodeName.{NodeName}
 use Rattle.rb_rules.specs.Book.{Each, Row, of_kind}
@@ -15,7 +17,7 @@ use Rattle.rb_rules.specs.Hearing.{Coming, Span}
 use Rattle.rb_rules.specs.Lawful.{IsLawful, kind_of}
 use Rattle.rb_rules.specs.Links.{name_of}
 use Rattle.rb_rules.specs.Slots.{count_of, first_diagnosis_of}
-use Rattle.rb_rules.specs.WorldStep.{Due, Site, World, after_act, at_node, due_of, happens, pass_and_tick, proceed, span_from, wants_in, with_act, with_delivery, word_of}
+use Rattle.rb_rules.specs.WorldStep.{Due, Site, World, after_act, after_arrival, at_node, await, due_of, happens, pass_and_tick, proceed, span_from, wants_in, with_act, with_delivery, with_epoch, with_message, word_of}
 use Rattle.rb_world_agenda.specs.Agenda.{IsAtTime}
 use Rattle.rb_world_agenda.specs.Holding.{Shows, without_waiting}
 use Rattle.rb_node.specs.Cores.{IsCore, passing_end}
@@ -69,6 +71,11 @@ pub record IsCoreAt (sc : Scenario) (me : Side) (node : NodeName) (site : KeptSi
   pub there : (s : Site) → slice_get (of_kind me w.sites) (number_in node) ≡ Some s → s.core ≡ c
   pub none_ahead : (s : Site) → slice_get (of_kind me w.sites) (number_in node) ≡ Some s → s.ahead ≡ None
 
+-- in each world that has such a core there, its next tick is pending now
+abbrev pub AwaitsNext : Scenario → Side → NodeName → KeptSite → Scene → Scene → Type 0
+AwaitsNext sc me node site before after = (w : World) (c : Core) → IsCoreAt sc me node site c w → Surrounds sc before w
+    → Surrounds sc after (moved (kind_of node) (number_in node) (await sc me (number_in node) []) w)
+
 -- nothing has changed in the lanes of the other kind's nodes
 abbrev pub OthersStay : Side → Scene → Scene → Type 0
 OthersStay me before after = of_kind (other me) after.agenda ≡ of_kind (other me) before.agenda
@@ -78,6 +85,19 @@ pub record Proceeds (sc : Scenario) (me : Side) (i : ℕ) (site : KeptSite) (bef
   pub node : IsNode sc me i site (proceed sc me i s)
   pub surrounds : Surrounds sc after (moved me i (proceed sc me i) w)
   pub others : OthersStay me before after
+
+-- a node of which this is kept may go on
+abbrev pub CanProceed : Scenario → Side → KeptSite → Scene → Type 0
+CanProceed sc me site scene = (w : World) × (s : Site) × MayProceed sc me (number_of site) site scene w s
+
+-- and then it does: this was kept of it and of what surrounds the nodes, and now that is
+abbrev pub HasProceeded : Scenario → Side → KeptSite → KeptSite → Scene → Scene → Type 0
+HasProceeded sc me before after around scene =
+    (w : World) (s : Site) → MayProceed sc me (number_of before) before around w s → Proceeds sc me (number_of before) after around scene w s
+
+-- this was kept of what surrounds the nodes of a world, and now that is, and stands for the world changed so
+abbrev pub Changes : Scenario → Scene → Scene → (World → World) → Type 0
+Changes sc before after change = (w : World) → Surrounds sc before w → Surrounds sc after (change w)
 
 -- Ticks.
 
@@ -104,6 +124,14 @@ abbrev pub closed_if : Scenario → NodeName → Option Closed → Row → World
 closed_if sc node None row w = w
 closed_if sc node (Some c) row w = closed_at sc node c row w
 
+-- a node has begun a frame, if one begins
+abbrev pub begun_at : Scenario → NodeName → Option Epoch → World → World
+begun_at sc node epoch w = moved (kind_of node) (number_in node) (with_epoch sc w.ports (kind_of node) (number_in node) epoch) w
+
+-- a node has sent a message at tick k, if it has one to send
+abbrev pub sent_by : Scenario → NodeName → ℕ → ℕ → Option Message → World → World
+sent_by sc node frame k message w = record w { sites = with_message sc (kind_of node) (number_in node) frame k message w.sites }
+
 -- there is room for one event more at each node of a kind
 abbrev pub HasRoomFor : Scenario → Side → Scene → Type 0
 HasRoomFor sc me scene = (j : ℕ) → j < count_of me sc.sizes → 1 ≤ spare_of (lane_of scene.agenda (name_of me j))
@@ -129,6 +157,15 @@ act_at sc w me i k s = pass_and_tick sc w.ports me i k s.core
 -- the tick has been taken, and gave its act
 abbrev pub HasTicked : Scenario → Side → ℕ → ℕ → KeptSite → Scene → World → Site → Type 0
 HasTicked sc me i k site scene w s = Ticks sc me i k site scene w s (act_at sc w me i k s)
+
+-- a node of which this is kept may take tick k
+abbrev pub CanTick : Scenario → Side → ℕ → KeptSite → Scene → Type 0
+CanTick sc me k site scene = (w : World) × (s : Site) × MayTick sc me (number_of site) k site scene w s
+
+-- and then it does: this was kept of it and of what surrounds the nodes, and now that is
+abbrev pub DoesTick : Scenario → Side → ℕ → KeptSite → KeptSite → Scene → Scene → Type 0
+DoesTick sc me k before after around scene =
+    (w : World) (s : Site) → MayTick sc me (number_of before) k before around w s → HasTicked sc me (number_of before) k after scene w s
 
 -- the word that the node takes with its tick k
 abbrev pub word_at : Scenario → World → Side → ℕ → ℕ → Site → ℕ
@@ -171,3 +208,12 @@ pub record CanHear (sc : Scenario) (me : Side) (i : ℕ) (name : NodeName) (plac
   pub stands : slice_get (lane_of lanes name).arrivals place ≡ Some c
   pub in_time : ComesBy (passing_end me site.node) (clock_of sc me i) c.time
   pub sender : c.from < count_of (other me) site.node.seat.sizes
+
+-- so of some arrival
+abbrev pub CanHearAt : Scenario → Side → NodeName → ℕ → KeptSite → Each Held → Type 0
+CanHearAt sc me node place site lanes = (c : Coming) × CanHear sc me (number_of site) node place site lanes c
+
+-- and then it has come: this was kept of the node, and now that is
+abbrev pub HasHeard : Scenario → Side → NodeName → ℕ → KeptSite → KeptSite → Each Held → Type 0
+HasHeard sc me node place before after lanes = (c : Coming) (at : ℕ) (s : Site) → CanHear sc me (number_of before) node place before lanes c
+    → StandsFor sc me before s → StandsFor sc me after (after_arrival sc me (number_of before) at c s)

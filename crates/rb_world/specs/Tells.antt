@@ -1,5 +1,5 @@
 -- What a node tells of itself, by what is kept.
-use Rattle.std.specs.Prelude.{ℕ, ◌≡◌, ◌==◌, ◌&&◌, not, Bool, Option, Some, None, List, option_map, get_or, slice_index, if◌then◌else◌}
+use Rattle.std.specs.Prelude.{ℕ, ◌≡◌, ◌==◌, ◌&&◌, not, false, Bool, Option, Some, None, List, option_map, get_or, slice_index, if◌then◌else◌}
 use Rattle.rb_base.specs.Nodes.{Side}
 use Rattle.rb_base.specs.declared.values.See.{See}
 use Rattle.rb_base.specs.declared.values.See.TheVariants.{Nothing}
@@ -7,15 +7,19 @@ use Rattle.rb_rules.specs.declared.closing.Closed.{Closed}
 use Rattle.rb_rules.specs.declared.record.Epoch.{Epoch}
 use Rattle.rb_rules.specs.Book.{Begun, Row}
 use Rattle.rb_rules.specs.ExactStage.{each_node}
-use Rattle.rb_rules.specs.Goodness.{Scenario}
-use Rattle.rb_rules.specs.Hearing.{begun_of, judged_see}
+use Rattle.rb_rules.specs.Clock.{Timeline}
+use Rattle.rb_rules.specs.Core.{is_tick, next_tick, pass_to, tick}
+use Rattle.rb_rules.specs.Goodness.{Scenario, clock_of}
+use Rattle.rb_rules.specs.Hearing.{Coming, begun_of, judged_see}
 use Rattle.rb_rules.specs.NodeState.{NodeState, trusted_of}
 use Rattle.rb_rules.specs.Ports.{PortState}
-use Rattle.rb_rules.specs.WorldStep.{Site, pass_and_tick}
+use Rattle.rb_rules.specs.SyncStage.{new_epoch_of}
+use Rattle.rb_rules.specs.WorldStep.{Site, after_arrival, pass_and_tick, span_from, wants_in, word_of}
 use Rattle.rb_node.specs.Acts.{IsAct}
 use Rattle.rb_node.specs.Cores.{IsCore}
+use Rattle.rb_node.specs.Ends.{EndsExactWindow, IsWithinExactWindow}
 use Rattle.rb_node.specs.declared.act.Step.{Step}
-use Rattle.rb_world.specs.Sites.{KeptSite, Stands, after_tick, number_of}
+use Rattle.rb_world.specs.Sites.{KeptSite, Stands, after_tick, number_of, taken_in}
 
 -- what was seen of each source, with the time kept in place of a stamp
 abbrev pub sees_at : List ℕ → Closed → List See
@@ -31,11 +35,15 @@ row_at me i st times c = record {
   line = option_map (λ d. record { receiver = i; sender = d.sender; value = d.value }) c.delivered;
 }
 
+-- so of the stage that it shows
+abbrev pub row_shown : Side → ℕ → KeptSite → Row
+row_shown me i k = row_at me i k.node.seat.state k.times k.node.shown
+
 -- what it has told of the last stage once a tick has closed a window, or has not. Of the tail, stage 4, it tells nothing
 abbrev pub row_after : Side → KeptSite → Bool → Option Row → Option Row
 row_after me k closed before =
     if closed && not (k.node.shown.place.stage == 4)
-    then Some (row_at me (number_of k) k.node.seat.state k.times k.node.shown)
+    then Some (row_shown me (number_of k) k)
     else before
 
 -- what it has told of the last frame once this one began, if any did
@@ -52,3 +60,60 @@ pub record IsTicked (sc : Scenario) (ports : List PortState) (me : Side) (before
   pub row : (after_tick sc ports me (number_of before) (pass_and_tick sc ports me (number_of before) k s.core) s).row ≡ row_after me after step.closed s.row
   pub begun : (after_tick sc ports me (number_of before) (pass_and_tick sc ports me (number_of before) k s.core) s).begun
       ≡ begun_after sc ports me (number_of before) step.epoch s.begun
+
+-- Next ticks.
+
+-- Of each site for which this was kept the next tick that isn't quiet has been taken, and this step is what it gave
+abbrev pub TakesNext : Side → KeptSite → KeptSite → Step → Type 0
+TakesNext me before after step = (sc : Scenario) (ports : List PortState) (k : ℕ) (s : Site) → Stands sc me before s
+    → next_tick sc.sizes sc.plan me (number_of before) s.core ≡ Some k → IsTicked sc ports me before after step k s
+
+-- so, where this is the word that the node wants for it
+abbrev pub TakesNextWith : Side → ℕ → KeptSite → KeptSite → Step → Type 0
+TakesNextWith me word before after step = (sc : Scenario) (ports : List PortState) (k : ℕ) (s : Site) → Stands sc me before s
+    → next_tick sc.sizes sc.plan me (number_of before) s.core ≡ Some k
+    → word ≡ word_of sc ports (number_of before) (wants_in sc me (number_of before) (pass_to k s.core))
+    → IsTicked sc ports me before after step k s
+
+-- so with tick k, be it quiet or not
+abbrev pub TakesTickWith : Side → ℕ → ℕ → KeptSite → KeptSite → Step → Type 0
+TakesTickWith me k word before after step = (sc : Scenario) (ports : List PortState) (s : Site) → Stands sc me before s
+    → word ≡ word_of sc ports (number_of before) (wants_in sc me (number_of before) (pass_to k s.core))
+    → IsTicked sc ports me before after step k s
+
+-- the next tick that isn't quiet ends a window of a slot before the sync slot
+abbrev pub EndsNext : Side → KeptSite → Type 0
+EndsNext me kept = (sc : Scenario) (s : Site) → Stands sc me kept s
+    → (k : ℕ) × ((next_tick sc.sizes sc.plan me (number_of kept) s.core ≡ Some k) × EndsExactWindow sc.sizes sc.plan me s.core.state k)
+
+-- if that is all that happens at it, and so no frame begins and nothing is sent, then P
+abbrev pub IfEndsNext : Side → KeptSite → Type 0 → Type 0
+IfEndsNext me kept P = (sc : Scenario) (k : ℕ) (s : Site) → Stands sc me kept s
+    → next_tick sc.sizes sc.plan me (number_of kept) s.core ≡ Some k
+    → is_tick (new_epoch_of sc.plan me s.core.state) k ≡ false → EndsExactWindow sc.sizes sc.plan me s.core.state k
+    → (tick sc.sizes sc.plan me (number_of kept) (pass_to k s.core) 0).message ≡ None → P
+
+-- it lies within such a window
+abbrev pub LiesWithin : Side → KeptSite → Type 0
+LiesWithin me kept = (sc : Scenario) (s : Site) → Stands sc me kept s
+    → (k : ℕ) × ((next_tick sc.sizes sc.plan me (number_of kept) s.core ≡ Some k) × IsWithinExactWindow sc.sizes sc.plan me s.core.state k)
+
+-- if it does, then P
+abbrev pub IfLiesWithin : Side → KeptSite → Type 0 → Type 0
+IfLiesWithin me kept P = (sc : Scenario) (k : ℕ) (s : Site) → Stands sc me kept s
+    → next_tick sc.sizes sc.plan me (number_of kept) s.core ≡ Some k → IsWithinExactWindow sc.sizes sc.plan me s.core.state k → P
+
+-- no window begins with the node's next tick
+abbrev pub EntersNone : Side → KeptSite → Type 0
+EntersNone me kept = (sc : Scenario) (s : Site) → Stands sc me kept s → span_from sc.sizes sc.plan me s.core.state s.core.had ≡ None
+
+-- Arrivals.
+
+-- this has come to the node, of which that was kept, and it has the stamp that this clock gives it
+abbrev pub HasComeBy : Side → Timeline → Coming → KeptSite → KeptSite → Type 0
+HasComeBy me clock c before after = (sc : Scenario) (place : ℕ) (s : Site) → clock ≡ clock_of sc me (number_of before)
+    → Stands sc me before s → Stands sc me after (after_arrival sc me (number_of before) place c s)
+
+-- so with the stamp of the node's next tick
+abbrev pub HasTakenIn : Side → Coming → KeptSite → KeptSite → Type 0
+HasTakenIn me c before after = (sc : Scenario) (s : Site) → Stands sc me before s → Stands sc me after (taken_in sc me c s)

@@ -1,11 +1,13 @@
 -- A node before a tick that ends a window of a slot before the sync slot. What comes to it until then is taken in unstamped, in any order.
-use Rattle.std.specs.Prelude.{ℕ, ◌≡◌, ◌+◌, nat_lt, Some, List, [], ◌∷◌, filter, slice_get}
-use Rattle.rb_base.specs.Nodes.{Side}
+use Rattle.std.specs.Prelude.{ℕ, ◌≡◌, ◌+◌, ◌<◌, nat_lt, All, Some, List, [], ◌∷◌, filter, slice_get}
+use Rattle.rb_base.specs.Nodes.{Side, other}
+use Rattle.rb_base.specs.declared.node.NodeName.{NodeName}
 use Rattle.rb_rules.specs.Book.{Each}
 use Rattle.rb_rules.specs.Core.{Core}
 use Rattle.rb_rules.specs.Goodness.{Scenario}
 use Rattle.rb_rules.specs.Hearing.{Coming}
 use Rattle.rb_rules.specs.Links.{name_of}
+use Rattle.rb_rules.specs.Slots.{count_of}
 use Rattle.rb_rules.specs.WorldStep.{Site, Timed, World}
 use Rattle.rb_node.specs.Cores.{IsCore, Running, next_of}
 use Rattle.rb_node.specs.Ends.{EndsExactWindow}
@@ -23,6 +25,19 @@ abbrev pub taken_all : Scenario → Side → List Coming → Site → Site
 taken_all sc me [] s = s
 taken_all sc me (c ∷ cs) s = taken_all sc me cs (taken_in sc me c s)
 
+-- in each site for which this was kept, those that come before a time have been taken in
+abbrev pub TakesInDue : Side → ℕ → List Coming → KeptSite → KeptSite → Type 0
+TakesInDue me until cs before after =
+    (sc : Scenario) (s : Site) → StandsFor sc me before s → StandsFor sc me after (taken_all sc me (due_before until cs) s)
+
+-- they come of sources of the node's bus
+abbrev pub AreOfSources : Side → KeptSite → List Coming → Type 0
+AreOfSources me site cs = All (λ c. c.from < count_of (other me) site.node.seat.sizes) cs
+
+-- nothing that comes to the node before a time is pending, nor its tick
+abbrev pub with_nothing_before : ℕ → NodeName → Each Held → Each Held
+with_nothing_before until node lanes = with_lane node (without_tick (without_before until (lane_of lanes node))) lanes
+
 -- the site swept up to its tick and without it, but with this core
 abbrev pub bare_with : Scenario → Side → ℕ → Timed → Core → Site → Site
 bare_with sc me i a core s = record (bare sc me i a s) { core = core }
@@ -32,7 +47,7 @@ bare_with sc me i a core s = record (bare sc me i a s) { core = core }
 pub record TakenUp (sc : Scenario) (me : Side) (i : ℕ) (a : Timed) (held : Each Held) (before site : KeptSite) (lanes : Each Held) (s : Site) : Type 0 where
   pub seat : site.node.seat ≡ before.node.seat
   pub stands : StandsFor sc me site (taken_all sc me (due_before (a.time + 1) s.coming) s)
-  pub left : lanes ≡ with_lane (name_of me i) (without_tick (without_before (a.time + 1) (lane_of held (name_of me i)))) held
+  pub left : lanes ≡ with_nothing_before (a.time + 1) (name_of me i) held
 
 -- whatever came to it, the next busy tick of the node ends a window of a slot before the sync slot
 abbrev pub EndsExactly : Side → Running → Type 0

@@ -39,7 +39,8 @@ impl World {
     pub fn frame(&self, node: NodeName) -> u32
         requires node { IsNodeOf self.now.bus.sizes node }
         ensures world { (w : RunWorld) → Stands self.now w → (s : WorldSite)
-            → slice_get (of_kind (kind_of node) w.sites) (number_of node) ≡ Some s → result ≡ s.core.state.frame }
+            → slice_get (of_kind (kind_of node) w.sites) (number_of node) ≡ Some s
+            → result ≡ s.core.state.frame }
     {
         match node {
             NodeName::Biu(i) => self.run.bius[usize::from(i)].node().engine().frame(),

@@ -3,19 +3,18 @@ ghost use Rattle.std.specs.Prelude.{◌≡◌, ◌+◌, ◌<◌, ◌≤◌, ◌^
 ghost use Rattle.rb_base.specs.Nodes.{other};
 ghost use Rattle.rb_base.specs.Nodes.Side.{Biu as biu, Rmu as rmu};
 ghost use Rattle.rb_rules.specs.Book.{Each};
-ghost use Rattle.rb_rules.specs.WorldStep.{Site, at_node, first_world, says_in};
+ghost use Rattle.rb_rules.specs.WorldStep.{Site, first_world};
 ghost use Rattle.rb_laws_events.specs.PendingEvents.{most_pending};
 ghost use Rattle.rb_node.specs.Acts.{IsSendable, span_in};
-ghost use Rattle.rb_queue.specs.Waiting.{HasLane, lane_of, spare_of, with_lane};
+ghost use Rattle.rb_queue.specs.Waiting.{HasLane, lane_of, spare_of};
 ghost use Rattle.rb_world_agenda.specs.Holding.{HoldsSites};
 ghost use Rattle.rb_rules.specs.Goodness.{clock_of};
 ghost use Rattle.rb_rules.specs.Lawful.{IsLawful, IsNodeOf, is_node_good, kind_of};
 ghost use Rattle.rb_world_book.specs.Holding.{Holds};
 ghost use Rattle.rb_scenario.specs.Acceptance.{as_scenario};
 ghost use Rattle.rb_world_traffic.specs.Arriving.{AreRunning, HaveRoom, number_of};
-ghost use Rattle.rb_world_traffic.specs.Saying.{hears, kept_of, with_arrivals};
 ghost use Rattle.rb_world_traffic.specs.Departing.{with_sent};
-ghost use Rattle.rb_world.specs.Buses.{HaveRooms};
+ghost use Rattle.rb_world.specs.Buses.{HasSaid, HaveRooms, with_said};
 ghost use Rattle.rb_world.specs.Calm.{is_calm};
 
 use crate::calm::{Restless, is_outside, restless_nodes};
@@ -56,9 +55,12 @@ impl Model for Bus {
 
     ghost Value = { Scenario };
 
-    ghost view = { λ b. scenario_of b.plan b.frames b.requests b.words b.apps b.clocks b.delays b.onsets b.sayings };
+    ghost view = { λ b. scenario_of b.plan b.frames b.requests b.words b.apps b.clocks b.delays
+        b.onsets b.sayings };
 
-    ghost invariant = { λ b. IsBus b.says (scenario_of b.plan b.frames b.requests b.words b.apps b.clocks b.delays b.onsets b.sayings) b.onsets b.sayings b.restless_biu b.restless_rmu };
+    ghost invariant = { λ b. IsBus b.says
+        (scenario_of b.plan b.frames b.requests b.words b.apps b.clocks b.delays b.onsets b.sayings)
+        b.onsets b.sayings b.restless_biu b.restless_rmu };
 }
 
 impl Bus {
@@ -161,7 +163,8 @@ impl Bus {
         self.onsets.is_good(node, span.place.frame, span.place.slot)
     }
 
-    /// Whether in this frame and in the next the node is good, and no entry for it speaks of them or of frames on both sides.
+    /// Whether in this frame and in the next the node is good, and no entry for it speaks of them
+    /// or of frames on both sides.
     #[inline(always)]
     pub fn is_calm(&self, node: NodeName, frame: u32) -> bool
         requires { IsNodeOf self.now.sizes node }
@@ -200,9 +203,8 @@ impl Bus {
         requires spare { length self.now.says ≤ spare_of (lane_of agenda.old node) }
         requires stage { 1 ≤ span.now.place.stage }
         requires first { span.now.first ≤ 2 ^ 31 }
-        ensures lanes { agenda.new ≡ with_lane node (with_arrivals (says_in self.now (kind_of node) (number_of node) (span_in span.now)) (lane_of agenda.old node)) agenda.old }
-        ensures world { (sites : Each Site) → HoldsSites self.now.sizes agenda.old sites
-            → HoldsSites self.now.sizes agenda.new (at_node (kind_of node) (number_of node) (hears self.now node (span_in span.now)) sites) }
+        ensures lanes { agenda.new ≡ with_said self.now node (span_in span.now) agenda.old }
+        ensures world { HasSaid self.now node (span_in span.now) agenda.old agenda.new }
     {
         let span = rb_world_traffic::Span {
             place: span.place,
@@ -219,8 +221,10 @@ impl Bus {
         requires tick { departure.now.tick ≤ 2 ^ 31 }
         requires message { IsSendable departure.now.message }
         requires room { HaveRoom (other (kind_of departure.now.from)) running agenda.old }
-        ensures world { (sites : Each Site) → AreRunning (other (kind_of departure.now.from)) running sites
-            → HoldsSites self.now.sizes agenda.old sites → HoldsSites self.now.sizes agenda.new (with_sent self.now departure.now sites) }
+        ensures world { (sites : Each Site)
+            → AreRunning (other (kind_of departure.now.from)) running sites
+            → HoldsSites self.now.sizes agenda.old sites
+            → HoldsSites self.now.sizes agenda.new (with_sent self.now departure.now sites) }
         ensures rooms { HaveRooms self.now agenda.old → HaveRooms self.now agenda.new }
     {
         let clock = self.clock(departure.from);

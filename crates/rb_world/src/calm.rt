@@ -1,5 +1,5 @@
 //! Nodes to which nothing new comes for some frames.
-ghost use Rattle.std.specs.Prelude.{◌≡◌, ◌<◌, ◌≤◌, Option, ℕ, get_or, length, nat_lt};
+ghost use Rattle.std.specs.Prelude.{◌≡◌, ◌≤◌, length};
 ghost use Rattle.rb_base.specs.Nodes.{side_of};
 ghost use Rattle.rb_rules.specs.Slots.{count_of};
 ghost use Rattle.rb_world.specs.Calm.{AreRestless, first_restless, is_outside, last_restless};
@@ -8,7 +8,8 @@ use crate::opening::name_of;
 use rb_base::Kind;
 use rb_world_traffic::Sayings;
 
-/// The frames of a node, from the first to the last, in which it may not be good or something may be said to it.
+/// The frames of a node, from the first to the last, in which it may not be good or something may
+/// be said to it.
 #[derive(Clone, Copy, Debug, PartialEq, Eq)]
 pub struct Restless {
     pub first: u64,

@@ -1,5 +1,5 @@
 //! Who takes a world from record to record.
-ghost use Rattle.std.specs.Prelude.{◌≡◌, ⊤, IsTrue, IfOk, [], Bool, List, None, Option, false, is_some, not, true};
+ghost use Rattle.std.specs.Prelude.{◌≡◌, ⊤, IsTrue, IfOk, [], Bool, List, None, Option, is_some, not, true};
 ghost use Rattle.rb_rules.specs.WorldStep.{World as RunWorld};
 ghost use Rattle.rb_world_book.specs.Records.{record_of};
 ghost use Rattle.rb_world_book.specs.declared.turn.Turn.{Turn};
@@ -18,8 +18,9 @@ use rb_world_book::{SlotLine, SlotRecord, Turn};
 use std::alloc::Global;
 use std::marker::Model;
 
-/// A drive takes a world to its next record, by first choices, and gives a turn. A plain drive gives that record. One that is not plain
-/// may give other ticks, times, masks, states, losses and values in its lines.
+/// A drive takes a world to its next record, by first choices, and gives a turn. A plain drive
+/// gives that record. One that is not plain may give other ticks, times, masks, states, losses and
+/// values in its lines.
 pub trait Drive {
     /// Whether it gives the world's records as they are. No call changes that.
     ghost is_plain: { Self → Bool };
@@ -35,11 +36,13 @@ pub trait Drive {
 
     /// The next turn. It is told with the others, or from here on nothing is told.
     fn next(&mut self, world: &mut World, apps: &Apps) -> Turn
-        ensures plain { IsTrue (is_plain self.old) → (w : RunWorld) → Stands world.old w → GoesToNext First world.old world.new result w }
+        ensures plain { IsTrue (is_plain self.old) → (w : RunWorld) → Stands world.old w
+            → GoesToNext First world.old world.new result w }
         ensures rounds { IsTrue (is_plain self.old) → (w : RunWorld) → Stands world.old w
             → GoesInRounds world.old world.new result w }
         ensures record { is_some (record_of result) ≡ true }
-        ensures alike { (w : RunWorld) → Stands world.old w → GoesAlike world.old world.new result w }
+        ensures alike { (w : RunWorld) → Stands world.old w
+            → GoesAlike world.old world.new result w }
         ensures bus { world.new.bus ≡ world.old.bus }
         ensures stays { is_plain self.new ≡ is_plain self.old }
         ensures told { Tells (told self.old) (told self.new) result }
@@ -74,8 +77,8 @@ impl Drive for FirstDrive {
     }
 }
 
-/// A drive that keeps the turns that it gave, and tells them as long as there is room for all. With a mask it gives Fault in place of each
-/// value that a slot's record has, and is not plain.
+/// A drive that keeps the turns that it gave, and tells them as long as there is room for all. With
+/// a mask it gives Fault in place of each value that a slot's record has, and is not plain.
 #[derive(Drop)]
 pub struct MemDrive {
     turns: Vec<Turn>,
@@ -90,7 +93,12 @@ impl Model for MemDrive {
 
     ghost Value = { KeptTurns };
 
-    ghost view = { λ d. record { turns = d.turns.items; room = d.room; telling = d.telling; mask = d.mask } };
+    ghost view = { λ d. record {
+      turns = d.turns.items;
+      room = d.room;
+      telling = d.telling;
+      mask = d.mask;
+    } };
 
     ghost invariant = { λ d. (length d.turns.items ≤ d.room) × (d.room ≤ vec_capacity d.turns) };
 }
@@ -128,7 +136,8 @@ fn given(turn: Turn, mask: bool) -> Turn
 impl MemDrive {
     /// A drive that tells at most so many turns. It takes memory for all of them here.
     pub fn new(alloc: Global, room: usize, mask: bool) -> Result<MemDrive, OutOfMemory>
-        ensures { IfOk result (λ d. d ≡ record { turns = []; room = room; telling = true; mask = mask }) }
+        ensures { IfOk result (λ d. d
+            ≡ record { turns = []; room = room; telling = true; mask = mask }) }
     {
         match Vec::with_capacity(alloc, room) {
             Ok(turns) => Ok(MemDrive {

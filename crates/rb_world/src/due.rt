@@ -1,14 +1,13 @@
 //! What may be taken.
-ghost use Rattle.std.specs.Prelude.{◌≡◌, ℕ, ◌<◌, ◌≤◌, Option, Some, List, is_some, length, option_map, IsSome, ◌↔◌};
+ghost use Rattle.std.specs.Prelude.{◌≡◌, ℕ, ◌<◌, ◌≤◌, Option, Some, List, is_some, length};
 ghost use Rattle.rb_base.specs.Nodes.{side_of};
 ghost use Rattle.rb_base.specs.Sizes.{Sizes};
-ghost use Rattle.rb_base.specs.declared.event.Event.{Event as Happening};
 ghost use Rattle.rb_rules.specs.Ports.{PortState};
 ghost use Rattle.rb_rules.specs.WorldStep.{Pending, Site as WorldSite, World as RunWorld, due_of, event_at, event_of};
 ghost use Rattle.rb_rules.specs.WorldStep.Pending.{Arrival, Tick};
 ghost use Rattle.rb_node.specs.Wants.{want_for};
 ghost use Rattle.rb_world.specs.Sites.{number_of};
-ghost use Rattle.rb_world.specs.Showing.{MayShow, MayShowArrival, MayShowTick};
+ghost use Rattle.rb_world.specs.Showing.{CanShow, CanShowTick, MayShow, MayShowArrival, MayShowTick};
 ghost use Rattle.rb_world.specs.Worlds.{NeedsEvent, Stands, due_in};
 
 use crate::Site;
@@ -33,7 +32,8 @@ fn copied(bytes: &[u8]) -> ArrayVec<u8, 32>
 
 // Whether this is a word.
 fn is_word(want: Want) -> bool
-    ensures { (sizes : Sizes) (slot : Option ℕ) → want ≡ want_for sizes slot → result ≡ is_some slot }
+    ensures { (sizes : Sizes) (slot : Option ℕ) → want ≡ want_for sizes slot
+        → result ≡ is_some slot }
 {
     match want {
         Want::Nothing => false,
@@ -50,10 +50,10 @@ pub(crate) fn show_tick<K: Kind>(
     ports: &[Port],
     node: NodeName,
 ) -> Event
-    requires may { (k : ℕ) × (states : List PortState) × (s : WorldSite)
-        × MayShowTick bus.now (side_of K.CODE) (number_of site.now) k site.now ports.now node states s }
+    requires may { CanShowTick bus.now (side_of K.CODE) node site.now ports.now }
     ensures { (k : ℕ) (states : List PortState) (s : WorldSite)
-        → MayShowTick bus.now (side_of K.CODE) (number_of site.now) k site.now ports.now node states s
+        → MayShowTick bus.now (side_of K.CODE) (number_of site.now) k site.now ports.now
+        node states s
         → result ≡ event_of bus.now states (side_of K.CODE) (number_of site.now) s.core (Tick k) }
 {
     let own = site.node();
@@ -81,7 +81,8 @@ pub(crate) fn show_arrival<K: Kind>(
     from: u8,
     bytes: &ArrayVec<u8, 32>,
 ) -> Event
-    requires may { (s : WorldSite) × MayShowArrival bus.now (side_of K.CODE) (number_of site.now) site.now time node s }
+    requires may { (s : WorldSite)
+        × MayShowArrival bus.now (side_of K.CODE) (number_of site.now) site.now time node s }
     ensures { (states : List PortState) (place : ℕ) (s : WorldSite)
         → MayShowArrival bus.now (side_of K.CODE) (number_of site.now) site.now time node s
         → result ≡ event_of bus.now states (side_of K.CODE) (number_of site.now) s.core
@@ -105,10 +106,10 @@ fn show<K: Kind>(
     time: u64,
     event: &Event,
 ) -> Event
-    requires may { (waits : Pending) × (states : List PortState) × (s : WorldSite)
-        × MayShow bus.now (side_of K.CODE) (number_of site.now) waits site.now ports.now time event.now states s }
+    requires may { CanShow bus.now (side_of K.CODE) site.now ports.now time event.now }
     ensures { (waits : Pending) (states : List PortState) (s : WorldSite)
-        → MayShow bus.now (side_of K.CODE) (number_of site.now) waits site.now ports.now time event.now states s
+        → MayShow bus.now (side_of K.CODE) (number_of site.now) waits site.now ports.now time
+        event.now states s
         → result ≡ event_of bus.now states (side_of K.CODE) (number_of site.now) s.core waits }
 {
     let node = site.name();
@@ -119,11 +120,13 @@ fn show<K: Kind>(
 }
 
 impl World {
-    /// How many events may be taken: those of the least time at which any is pending. None where the next record needs no event,
-    /// and none after the last. Where it needs one, at least one may be taken.
+    /// How many events may be taken: those of the least time at which any is pending. None where
+    /// the next record needs no event, and none after the last. Where it needs one, at least one
+    /// may be taken.
     pub fn due(&self) -> usize
         ensures value { result ≡ due_in self.now }
-        ensures world { (w : RunWorld) → Stands self.now w → result ≡ length (due_of self.now.bus w) }
+        ensures world { (w : RunWorld) → Stands self.now w
+            → result ≡ length (due_of self.now.bus w) }
         ensures some { (w : RunWorld) → Stands self.now w → NeedsEvent self.now.bus w → 1 ≤ result }
         ensures stands { (w : RunWorld) × Stands self.now w }
     {
@@ -133,11 +136,13 @@ impl World {
         self.run.scene.agenda.due()
     }
 
-    /// The i-th of the events that are due, counted from 0: how many quiet ticks its node has before it, and the arrival, or the tick
-    /// with the word that it takes. `wanted` says whether the node asks for a word: its request, or what its port offers now.
+    /// The i-th of the events that are due, counted from 0: how many quiet ticks its node has
+    /// before it, and the arrival, or the tick with the word that it takes. `wanted` says whether
+    /// the node asks for a word: its request, or what its port offers now.
     pub fn event(&self, apps: &Apps, i: usize) -> Event
         requires below { i < due_in self.now }
-        ensures world { (w : RunWorld) → Stands self.now w → event_at self.now.bus w i ≡ Some result }
+        ensures world { (w : RunWorld) → Stands self.now w
+            → event_at self.now.bus w i ≡ Some result }
     {
         let (node, place) = self.run.scene.agenda.locate(i);
         let time = self.run.scene.agenda.first_time();

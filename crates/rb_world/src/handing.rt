@@ -33,20 +33,24 @@ fn is_good_at_begin(bus: &Bus, biu: u8, frame: u32) -> bool
 // The application at BIU `biu` has this state.
 fn set_state(ports: &mut Vec<Port>, biu: u8, state: u64)
     requires { biu < length ports.old.items }
-    ensures { (sc : Scenario) (states : List PortState) → HoldsPorts sc ports.old.items states → HoldsPorts sc ports.new.items (with_state biu state states) }
+    ensures { (sc : Scenario) (states : List PortState) → HoldsPorts sc ports.old.items states
+        → HoldsPorts sc ports.new.items (with_state biu state states) }
 {
     ports[usize::from(biu)].set(state);
 }
 
 impl World {
-    /// Hands a state to the application at BIU `biu`, where the last turn was the record of a frame, no event was taken since, and
-    /// the BIU is good at that frame's begin. It is the state that the record's port line would have shown. Nothing else changes, and
-    /// nothing at all elsewhere.
+    /// Hands a state to the application at BIU `biu`, where the last turn was the record of a
+    /// frame, no event was taken since, and the BIU is good at that frame's begin. It is the state
+    /// that the record's port line would have shown. Nothing else changes, and nothing at all
+    /// elsewhere.
     pub fn hand(&mut self, biu: u8, state: u64)
-        ensures world { (w : RunWorld) → Stands self.old w → Stands self.new (hand self.old.bus w biu state) }
+        ensures world { (w : RunWorld) → Stands self.old w
+            → Stands self.new (hand self.old.bus w biu state) }
         ensures bus { self.new.bus ≡ self.old.bus }
         ensures seeding { self.new.seeding ≡ self.old.seeding }
-        ensures rounds { (w : RunWorld) → Stands self.old w → (hand self.old.bus w biu state).book ≡ w.book }
+        ensures rounds { (w : RunWorld) → Stands self.old w
+            → (hand self.old.bus w biu state).book ≡ w.book }
     {
         let Last::Frame(frame) = self.last else {
             return;

@@ -1,5 +1,5 @@
 //! How a run comes to its next record.
-ghost use Rattle.std.specs.Prelude.{◌≡◌, ℕ, true, Option, Some, is_some};
+ghost use Rattle.std.specs.Prelude.{◌≡◌, ℕ, true, Option, is_some};
 ghost use Rattle.rb_rules.specs.Book.{Record};
 ghost use Rattle.rb_rules.specs.Lawful.{IsNodeOf};
 ghost use Rattle.rb_rules.specs.WorldStep.{World as RunWorld, go_on};
@@ -9,9 +9,10 @@ ghost use Rattle.rb_world_book.specs.Records.{record_of};
 ghost use Rattle.rb_world.specs.declared.ties.Ties.TheVariants.{First};
 ghost use Rattle.rb_world.specs.Nexts.{GoesToNext, RunsOn, TakesStep, is_last};
 ghost use Rattle.rb_world.specs.Numbering.{GoesInRounds};
-ghost use Rattle.rb_world.specs.Observing.{RunsTold, TellsToNext};
+ghost use Rattle.rb_world.specs.Observing.{TellsToNext};
 ghost use Rattle.rb_world.specs.Turning.{Gives};
 ghost use Rattle.rb_world.specs.Worlds.{Stands, last_of};
+ghost use Rattle.rb_world.specs.Telling.{TellsRunOn};
 
 use crate::last::Last;
 use crate::observing::{Nobody, Observer};
@@ -36,11 +37,12 @@ fn last_turn(last: Last) -> Turn
 }
 
 impl World {
-    // Gives what needs no event, and after the last record that record again. The turn is `Quiet` before, here and in what follows,
-    // and is written over where a record is given.
+    // Gives what needs no event, and after the last record that record again. The turn is `Quiet`
+    // before, here and in what follows, and is written over where a record is given.
     fn go_on(&mut self, turn: &mut Turn)
         requires { turn.old ≡ Turn.Quiet }
-        ensures world { (w : RunWorld) → Stands self.old w → Gives self.new turn.new (go_on self.old.bus w) }
+        ensures world { (w : RunWorld) → Stands self.old w
+            → Gives self.new turn.new (go_on self.old.bus w) }
         ensures bus { self.new.bus ≡ self.old.bus }
     {
         if self.run.scene.book.has_ended() {
@@ -55,7 +57,8 @@ impl World {
     #[inline(never)]
     fn step_counted(&mut self, apps: &Apps, ties: Ties, draws: &mut Draws, turn: &mut Turn)
         requires { turn.old ≡ Turn.Quiet }
-        ensures world { (w : RunWorld) → Stands self.old w → TakesStep ties draws.old.state draws.new.state self.old self.new turn.new w }
+        ensures world { (w : RunWorld) → Stands self.old w
+            → TakesStep ties draws.old.state draws.new.state self.old self.new turn.new w }
         ensures bus { self.new.bus ≡ self.old.bus }
     {
         let due = self.due();
@@ -72,7 +75,8 @@ impl World {
     fn run_counted(&mut self, apps: &Apps, ties: Ties, draws: &mut Draws, turn: &mut Turn)
         requires stands { (w : RunWorld) × Stands self.old w }
         requires quiet { turn.old ≡ Turn.Quiet }
-        ensures world { (w : RunWorld) → Stands self.old w → RunsOn ties draws.old.state draws.new.state self.old self.new turn.new w }
+        ensures world { (w : RunWorld) → Stands self.old w
+            → RunsOn ties draws.old.state draws.new.state self.old self.new turn.new w }
         ensures bus { self.new.bus ≡ self.old.bus }
     {
         for passed in 0..u64::MAX {
@@ -85,8 +89,8 @@ impl World {
         unreachable!()
     }
 
-    // The run goes on to its next record, from tick to tick, where the first event that is due is taken each time. The observer is
-    // told what the observed node is given on the way.
+    // The run goes on to its next record, from tick to tick, where the first event that is due is
+    // taken each time. The observer is told what the observed node is given on the way.
     #[inline(always)]
     fn run_first<T: Observer>(
         &mut self,
@@ -97,10 +101,11 @@ impl World {
     )
         requires stands { (w : RunWorld) × Stands self.old w }
         requires quiet { turn.old ≡ Turn.Quiet }
-        ensures world { (w : RunWorld) (state : ℕ) → Stands self.old w → RunsOn First state state self.old self.new turn.new w }
+        ensures world { (w : RunWorld) (state : ℕ) → Stands self.old w
+            → RunsOn First state state self.old self.new turn.new w }
         ensures bus { self.new.bus ≡ self.old.bus }
-        ensures told { (name : NodeName) → observed ≡ Some name → IsNodeOf self.old.bus.sizes name → (w : RunWorld) (state : ℕ) → Stands self.old w
-            → RunsTold T T.observes name observer.old observer.new state self.old self.new turn.new w }
+        ensures told { TellsRunOn T T.observes observed self.old self.new turn.new
+            observer.old observer.new }
     {
         if self.run.scene.book.has_ended() {
             *turn = last_turn(self.last);
@@ -115,13 +120,14 @@ impl World {
         self.last = last_of(turn);
     }
 
-    // The run goes on to its next record where no node is observed. It is a call of its own, so that the turn which `next` gives is
-    // made where it is wanted, and not copied.
+    // The run goes on to its next record where no node is observed. It is a call of its own, so
+    // that the turn which `next` gives is made where it is wanted, and not copied.
     #[inline(never)]
     fn run_unobserved(&mut self, apps: &Apps, turn: &mut Turn)
         requires stands { (w : RunWorld) × Stands self.old w }
         requires quiet { turn.old ≡ Turn.Quiet }
-        ensures world { (w : RunWorld) (state : ℕ) → Stands self.old w → RunsOn First state state self.old self.new turn.new w }
+        ensures world { (w : RunWorld) (state : ℕ) → Stands self.old w
+            → RunsOn First state state self.old self.new turn.new w }
         ensures bus { self.new.bus ≡ self.old.bus }
     {
         self.run_first(apps, turn, None, &mut Nobody);
@@ -132,7 +138,8 @@ impl World {
     fn run_on(&mut self, apps: &Apps, ties: Ties, draws: &mut Draws, turn: &mut Turn)
         requires stands { (w : RunWorld) × Stands self.old w }
         requires quiet { turn.old ≡ Turn.Quiet }
-        ensures world { (w : RunWorld) → Stands self.old w → RunsOn ties draws.old.state draws.new.state self.old self.new turn.new w }
+        ensures world { (w : RunWorld) → Stands self.old w
+            → RunsOn ties draws.old.state draws.new.state self.old self.new turn.new w }
         ensures bus { self.new.bus ≡ self.old.bus }
     {
         match ties {
@@ -141,14 +148,17 @@ impl World {
         }
     }
 
-    /// The next record: a record that needs no event is given by itself, else events that are due are taken, chosen by `ties`, until
-    /// a record comes with one. After the last record, `Ended` or a breach, it is that record again. The turn is never `Quiet`.
+    /// The next record: a record that needs no event is given by itself, else events that are due
+    /// are taken, chosen by `ties`, until a record comes with one. After the last record, `Ended`
+    /// or a breach, it is that record again. The turn is never `Quiet`.
     #[inline(always)]
     pub fn next(&mut self, apps: &Apps, ties: Ties) -> Turn
-        ensures world { (w : RunWorld) → Stands self.old w → GoesToNext ties self.old self.new result w }
+        ensures world { (w : RunWorld) → Stands self.old w
+            → GoesToNext ties self.old self.new result w }
         ensures record { is_some (record_of result) ≡ true }
         ensures bus { self.new.bus ≡ self.old.bus }
-        ensures rounds { (w : RunWorld) → Stands self.old w → GoesInRounds self.old self.new result w }
+        ensures rounds { (w : RunWorld) → Stands self.old w
+            → GoesInRounds self.old self.new result w }
         ensures nodes { (w : RunWorld) → Stands self.new w → NodesKeepThePromise self.new.bus w }
     {
         let mut seeding = self.seeding.begin(ties);
@@ -158,9 +168,10 @@ impl World {
         turn
     }
 
-    /// The next record by first choices, as `next` gives it. Up to its event, an observer is told one after another what a node of the bus
-    /// is given: each event with the frame in which the node stood before it. What is given after the event of the record is told by the
-    /// next call. After the last record nothing is told.
+    /// The next record by first choices, as `next` gives it. Up to its event, an observer is told
+    /// one after another what a node of the bus is given: each event with the frame in which the
+    /// node stood before it. What is given after the event of the record is told by the next call.
+    /// After the last record nothing is told.
     pub fn next_observed<T: Observer>(
         &mut self,
         apps: &Apps,
@@ -168,11 +179,14 @@ impl World {
         observer: &mut T,
     ) -> Turn
         requires node { IsNodeOf self.old.bus.sizes node }
-        ensures world { (w : RunWorld) → Stands self.old w → GoesToNext First self.old self.new result w }
-        ensures told { (w : RunWorld) → Stands self.old w → TellsToNext T T.observes node observer.old observer.new self.old self.new result w }
+        ensures world { (w : RunWorld) → Stands self.old w
+            → GoesToNext First self.old self.new result w }
+        ensures told { (w : RunWorld) → Stands self.old w
+            → TellsToNext T T.observes node observer.old observer.new self.old self.new result w }
         ensures record { is_some (record_of result) ≡ true }
         ensures bus { self.new.bus ≡ self.old.bus }
-        ensures rounds { (w : RunWorld) → Stands self.old w → GoesInRounds self.old self.new result w }
+        ensures rounds { (w : RunWorld) → Stands self.old w
+            → GoesInRounds self.old self.new result w }
     {
         let seeding = self.seeding.begin(Ties::First);
         let mut turn = Turn::Quiet;

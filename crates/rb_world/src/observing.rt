@@ -1,5 +1,5 @@
 //! Who is told what one node is given while a run goes on.
-ghost use Rattle.std.specs.Prelude.{◌≡◌, ⊤, [], ◌∷◌, ℕ, List, Option, Some, if◌then◌else◌};
+ghost use Rattle.std.specs.Prelude.{◌≡◌, ⊤, [], ℕ, List, Some};
 ghost use Rattle.rb_base.specs.Nodes.{side_of};
 ghost use Rattle.rb_base.specs.declared.node.NodeName.{NodeName};
 ghost use Rattle.rb_rules.specs.Goodness.{Scenario};
@@ -10,9 +10,9 @@ ghost use Rattle.rb_rules.specs.WorldStep.{Site as WorldSite};
 ghost use Rattle.rb_rules.specs.WorldStep.Pending.{Arrival, Tick};
 ghost use Rattle.rb_world.specs.Sites.{Stands as StandsFor, number_of};
 ghost use Rattle.rb_laws_sweeps.specs.Told.{Told, telling};
-ghost use Rattle.rb_world.specs.Observing.{WasTold};
-ghost use Rattle.rb_world.specs.Showing.{MayShowTick};
-ghost use Rattle.rb_world.specs.Steps.{CanHear};
+ghost use Rattle.rb_world.specs.Showing.{CanShowTick, MayShowTick};
+ghost use Rattle.rb_world.specs.Steps.{CanHear, CanHearAt};
+ghost use Rattle.rb_world.specs.Telling.{TellsTickFor};
 
 use crate::Site;
 use crate::bus::Bus;
@@ -55,7 +55,8 @@ pub(crate) fn is_observed(observed: Option<NodeName>, node: NodeName) -> bool
 
 // The frame in which a node stands.
 fn frame_of<K: Kind>(site: &Site<K>) -> u32
-    ensures { (sc : Scenario) (s : WorldSite) → StandsFor sc (side_of K.CODE) site.now s → result ≡ s.core.state.frame }
+    ensures { (sc : Scenario) (s : WorldSite) → StandsFor sc (side_of K.CODE) site.now s
+        → result ≡ s.core.state.frame }
 {
     site.node().engine().frame()
 }
@@ -71,10 +72,11 @@ pub(crate) fn tell_arrival<K: Kind, T: Observer>(
 )
     requires name { node ≡ name_of (side_of K.CODE) (number_of site.now) }
     requires stands { (s : WorldSite) × StandsFor bus.now (side_of K.CODE) site.now s }
-    requires may { (c : Coming) × CanHear bus.now (side_of K.CODE) (number_of site.now) node place site.now agenda.now c }
-    ensures { (c : Coming) (at : ℕ) (s : WorldSite) → CanHear bus.now (side_of K.CODE) (number_of site.now) node place site.now agenda.now c
-        → StandsFor bus.now (side_of K.CODE) site.now s
-        → T.observes observer.old (telling bus.now [] (side_of K.CODE) (number_of site.now) s (Arrival at c)) observer.new }
+    requires may { CanHearAt bus.now (side_of K.CODE) node place site.now agenda.now }
+    ensures { (c : Coming) (at : ℕ) (s : WorldSite)
+        → CanHear bus.now (side_of K.CODE) (number_of site.now) node place site.now agenda.now c
+        → StandsFor bus.now (side_of K.CODE) site.now s → T.observes observer.old
+        (telling bus.now [] (side_of K.CODE) (number_of site.now) s (Arrival at c)) observer.new }
 {
     let arrival = agenda.arrival(node, place);
     let time = arrival.time();
@@ -93,11 +95,12 @@ fn tell_tick<K: Kind, T: Observer>(
     node: NodeName,
     observer: &mut T,
 )
-    requires may { (k : ℕ) × (states : List PortState) × (s : WorldSite)
-        × MayShowTick bus.now (side_of K.CODE) (number_of site.now) k site.now ports.now node states s }
+    requires may { CanShowTick bus.now (side_of K.CODE) node site.now ports.now }
     ensures { (k : ℕ) (states : List PortState) (s : WorldSite)
-        → MayShowTick bus.now (side_of K.CODE) (number_of site.now) k site.now ports.now node states s
-        → T.observes observer.old (telling bus.now states (side_of K.CODE) (number_of site.now) s (Tick k)) observer.new }
+        → MayShowTick bus.now (side_of K.CODE) (number_of site.now) k site.now ports.now
+        node states s
+        → T.observes observer.old
+        (telling bus.now states (side_of K.CODE) (number_of site.now) s (Tick k)) observer.new }
 {
     let event = show_tick(bus, apps, site, ports, node);
     observer.observe(frame_of(site), &event);
@@ -112,12 +115,9 @@ pub(crate) fn tell_tick_for<K: Kind, T: Observer>(
     node: NodeName,
     observer: &mut T,
 )
-    requires may { (k : ℕ) × (states : List PortState) × (s : WorldSite)
-        × MayShowTick setup.now.bus.now (side_of K.CODE) (number_of site.now) k site.now ports.now node states s }
-    ensures { (name : NodeName) → setup.now.observed ≡ Some name → (k : ℕ) (states : List PortState) (s : WorldSite)
-        → MayShowTick setup.now.bus.now (side_of K.CODE) (number_of site.now) k site.now ports.now node states s
-        → WasTold T T.observes observer.old
-        (if same_node node name then telling setup.now.bus.now states (side_of K.CODE) (number_of site.now) s (Tick k) ∷ [] else []) observer.new }
+    requires may { CanShowTick setup.now.bus.now (side_of K.CODE) node site.now ports.now }
+    ensures { TellsTickFor T T.observes setup.now.bus.now setup.now.observed (side_of K.CODE) node
+        site.now ports.now observer.old observer.new }
 {
     if is_observed(setup.observed, node) {
         tell_tick(setup.bus, setup.apps, site, ports, node, observer);

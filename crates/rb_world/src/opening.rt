@@ -33,7 +33,8 @@ fn add_port(ports: &mut Vec<Port>, port: Port) -> Result<(), OutOfMemory>
 
 // The ports of all BIUs.
 fn open_ports(alloc: Global, bus: &Bus) -> Result<Vec<Port>, OutOfMemory>
-    ensures { IfOk result (λ ports. HoldsPorts bus.now ports.items (map (port_at bus.now []) (numbers bus.now.sizes.bius))) }
+    ensures { IfOk result (λ ports. HoldsPorts bus.now ports.items
+        (map (port_at bus.now []) (numbers bus.now.sizes.bius))) }
 {
     let biu = bus.shape().biu();
     let mut ports = Vec::with_capacity(alloc, usize::from(biu))?;
@@ -93,7 +94,8 @@ pub(crate) fn name_of<K: Kind>(i: u8) -> NodeName
 fn begin<K: Kind>(bus: &Bus, i: u8, sites: &mut Vec<Site<K>>, scene: &mut Scene)
     requires within { i < count_of (side_of K.CODE) bus.now.sizes }
     requires lawful { IsLawful bus.now }
-    requires begun { (w : RunWorld) × HaveBegun bus.now (side_of K.CODE) i sites.old.items scene.old w }
+    requires begun { (w : RunWorld)
+        × HaveBegun bus.now (side_of K.CODE) i sites.old.items scene.old w }
     ensures { (w : RunWorld) → HaveBegun bus.now (side_of K.CODE) i sites.old.items scene.old w
         → HaveBegun bus.now (side_of K.CODE) (i + 1) sites.new.items scene.new w }
 {
@@ -105,7 +107,8 @@ fn begin_all<K: Kind>(bus: &Bus, count: u8, sites: &mut Vec<Site<K>>, scene: &mu
     requires count { count ≡ count_of (side_of K.CODE) bus.now.sizes }
     requires fresh { AreFresh bus.now (side_of K.CODE) sites.old.items }
     requires may { (w : RunWorld) × MayBegin bus.now (side_of K.CODE) scene.old w }
-    ensures { (w : RunWorld) → MayBegin bus.now (side_of K.CODE) scene.old w → HaveBegun bus.now (side_of K.CODE) count sites.new.items scene.new w }
+    ensures { (w : RunWorld) → MayBegin bus.now (side_of K.CODE) scene.old w
+        → HaveBegun bus.now (side_of K.CODE) count sites.new.items scene.new w }
 {
     for i in 0..count {
         begin(bus, i, sites, scene);
@@ -113,7 +116,8 @@ fn begin_all<K: Kind>(bus: &Bus, count: u8, sites: &mut Vec<Site<K>>, scene: &mu
 }
 
 impl World {
-    /// The run of a scenario before its first event. All memory is taken here: no other call of the world takes any.
+    /// The run of a scenario before its first event. All memory is taken here: no other call of the
+    /// world takes any.
     pub fn open(alloc: Global, scenario: Scenario) -> Result<World, OutOfMemory>
         requires { IsLawful (as_scenario scenario) }
         ensures stands { IfOk result (λ w. Stands w (first_world (as_scenario scenario))) }

@@ -1,14 +1,13 @@
 //! A node goes on to its next tick.
-ghost use Rattle.std.specs.Prelude.{◌≡◌, ◌<◌, ◌≤◌, ◌==◌, ◌&&◌, [], None, not};
+ghost use Rattle.std.specs.Prelude.{◌≡◌, ◌<◌, ◌≤◌, ◌==◌, ◌&&◌, None, not};
 ghost use Rattle.rb_base.specs.Nodes.{has, set_of, side_of};
-ghost use Rattle.rb_rules.specs.Core.{Core};
 ghost use Rattle.rb_rules.specs.Lawful.{IsNodeOf, kind_of};
 ghost use Rattle.rb_rules.specs.Links.{name_of};
-ghost use Rattle.rb_rules.specs.WorldStep.{Site as WorldSite, World, await, span_from, stop};
+ghost use Rattle.rb_rules.specs.WorldStep.{Site as WorldSite, World, span_from, stop};
 ghost use Rattle.rb_queue.specs.Waiting.{lane_of, spare_of};
 ghost use Rattle.rb_world.specs.Sites.{Stands, number_of};
 ghost use Rattle.rb_world_traffic.specs.Arriving.{number_of as number_in};
-ghost use Rattle.rb_world.specs.Steps.{IsCoreAt, MayProceed, OthersStay, Proceeds, moved};
+ghost use Rattle.rb_world.specs.Steps.{AwaitsNext, CanProceed, HasProceeded, OthersStay, moved};
 ghost use Rattle.rb_world.specs.Worlds.{Surrounds};
 
 use crate::Site;
@@ -34,8 +33,7 @@ fn await_tick<K: Kind>(bus: &Bus, node: NodeName, site: &Site<K>, scene: &mut Sc
     requires around { (w : World) × Surrounds bus.now scene.old w }
     requires spare { 1 ≤ spare_of (lane_of scene.old.agenda node) }
     ensures others { OthersStay (kind_of node) scene.old scene.new }
-    ensures around { (w : World) (c : Core) → IsCoreAt bus.now (side_of K.CODE) node site.now c w → Surrounds bus.now scene.old w
-        → Surrounds bus.now scene.new (moved (kind_of node) (number_in node) (await bus.now (side_of K.CODE) (number_in node) []) w) }
+    ensures around { AwaitsNext bus.now (side_of K.CODE) node site.now scene.old scene.new }
 {
     if let Some(tick) = site.node().next_tick() {
         let time = bus.clock(node).at(tick);
@@ -48,7 +46,8 @@ fn stop_at(bus: &Bus, node: NodeName, scene: &mut Scene)
     requires node { IsNodeOf bus.now.sizes node }
     requires around { (w : World) × Surrounds bus.now scene.old w }
     ensures others { OthersStay (kind_of node) scene.old scene.new }
-    ensures around { (w : World) → Surrounds bus.now scene.old w → Surrounds bus.now scene.new (moved (kind_of node) (number_in node) stop w) }
+    ensures around { (w : World) → Surrounds bus.now scene.old w
+        → Surrounds bus.now scene.new (moved (kind_of node) (number_in node) stop w) }
 {
     scene.agenda.drop_all(node);
     match node {
@@ -57,13 +56,13 @@ fn stop_at(bus: &Bus, node: NodeName, scene: &mut Scene)
     }
 }
 
-// The node goes on to its next tick where it may stop, or be told something, in a window that begins.
+// The node goes on to its next tick where it may stop, or be told something, in a window that
+// begins.
 #[inline(always)]
 fn proceed_in_full<K: Kind>(bus: &Bus, node: NodeName, site: &mut Site<K>, scene: &mut Scene)
     requires name { node ≡ name_of (side_of K.CODE) (number_of site.old) }
-    requires may { (w : World) × (s : WorldSite) × MayProceed bus.now (side_of K.CODE) (number_of site.old) site.old scene.old w s }
-    ensures { (w : World) (s : WorldSite) → MayProceed bus.now (side_of K.CODE) (number_of site.old) site.old scene.old w s
-        → Proceeds bus.now (side_of K.CODE) (number_of site.old) site.new scene.old scene.new w s }
+    requires may { CanProceed bus.now (side_of K.CODE) site.old scene.old }
+    ensures { HasProceeded bus.now (side_of K.CODE) site.old site.new scene.old scene.new }
 {
     if let Some(span) = site.entering() {
         if !bus.is_good(node, &span) {
@@ -76,14 +75,13 @@ fn proceed_in_full<K: Kind>(bus: &Bus, node: NodeName, site: &mut Site<K>, scene
     await_tick(bus, node, site, scene);
 }
 
-/// The node goes on to its next tick. At a window's begin a node that is not good there stops, and to the others comes what they
-/// are told in it.
+/// The node goes on to its next tick. At a window's begin a node that is not good there stops, and
+/// to the others comes what they are told in it.
 #[inline(always)]
 pub(crate) fn proceed<K: Kind>(bus: &Bus, node: NodeName, site: &mut Site<K>, scene: &mut Scene)
     requires name { node ≡ name_of (side_of K.CODE) (number_of site.old) }
-    requires may { (w : World) × (s : WorldSite) × MayProceed bus.now (side_of K.CODE) (number_of site.old) site.old scene.old w s }
-    ensures { (w : World) (s : WorldSite) → MayProceed bus.now (side_of K.CODE) (number_of site.old) site.old scene.old w s
-        → Proceeds bus.now (side_of K.CODE) (number_of site.old) site.new scene.old scene.new w s }
+    requires may { CanProceed bus.now (side_of K.CODE) site.old scene.old }
+    ensures { HasProceeded bus.now (side_of K.CODE) site.old site.new scene.old scene.new }
 {
     if bus.is_calm(node, site.node().engine().frame()) {
         await_tick(bus, node, site, scene);
@@ -96,11 +94,10 @@ pub(crate) fn proceed<K: Kind>(bus: &Bus, node: NodeName, site: &mut Site<K>, sc
 #[inline(always)]
 pub(crate) fn proceed_within<K: Kind>(bus: &Bus, node: NodeName, site: &Site<K>, scene: &mut Scene)
     requires name { node ≡ name_of (side_of K.CODE) (number_of site.now) }
-    requires may { (w : World) × (s : WorldSite) × MayProceed bus.now (side_of K.CODE) (number_of site.now) site.now scene.old w s }
+    requires may { CanProceed bus.now (side_of K.CODE) site.now scene.old }
     requires within { (s : WorldSite) → Stands bus.now (side_of K.CODE) site.now s
         → span_from bus.now.sizes bus.now.plan (side_of K.CODE) s.core.state s.core.had ≡ None }
-    ensures { (w : World) (s : WorldSite) → MayProceed bus.now (side_of K.CODE) (number_of site.now) site.now scene.old w s
-        → Proceeds bus.now (side_of K.CODE) (number_of site.now) site.now scene.old scene.new w s }
+    ensures { HasProceeded bus.now (side_of K.CODE) site.now site.now scene.old scene.new }
 {
     await_tick(bus, node, site, scene);
 }

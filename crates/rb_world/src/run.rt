@@ -13,7 +13,8 @@ pub struct Run {
     pub scene: Scene,
 }
 
-/// What stays while a run goes on to its next record: the bus, the applications, and which node is observed, if one is.
+/// What stays while a run goes on to its next record: the bus, the applications, and which node is
+/// observed, if one is.
 #[derive(Clone, Copy)]
 pub struct Setup<'a> {
     pub bus: &'a Bus,

@@ -1,22 +1,17 @@
 //! One node of a world.
-ghost use Rattle.std.specs.Prelude.{◌≡◌, ℕ, ◌-◌, ◌^◌, ◌<◌, ◌≤◌, ◌&&◌, false, true, is_some, max, IfSome, IsTrue, List, None, Some, option_map, slice_set, unwrap_or};
-ghost use Rattle.rb_base.specs.Nodes.{Side, other, side_of};
+ghost use Rattle.std.specs.Prelude.{◌≡◌, ◌^◌, ◌<◌, ◌≤◌, false, true, is_some, max, IfSome, IsTrue, None, option_map, slice_set};
+ghost use Rattle.rb_base.specs.Nodes.{other, side_of};
 ghost use Rattle.rb_rules.specs.Clock.{ComesBy};
-ghost use Rattle.rb_rules.specs.Core.{Core, is_tick, next_tick, pass_to, tick};
-ghost use Rattle.rb_rules.specs.Hearing.{begun_of};
+ghost use Rattle.rb_rules.specs.Core.{Core, pass_to, tick};
 ghost use Rattle.rb_rules.specs.Links.{name_of};
-ghost use Rattle.rb_rules.specs.Goodness.{Scenario, clock_of};
-ghost use Rattle.rb_rules.specs.Ports.{PortState};
+ghost use Rattle.rb_rules.specs.Goodness.{Scenario};
 ghost use Rattle.rb_rules.specs.Slots.{count_of};
-ghost use Rattle.rb_rules.specs.SyncStage.{new_epoch_of};
-ghost use Rattle.rb_rules.specs.WorldStep.{Site as WorldSite, after_arrival, fresh_site, proceed, span_from, stop, wants_in, word_of};
+ghost use Rattle.rb_rules.specs.WorldStep.{Site as WorldSite, fresh_site, span_from, stop};
 ghost use Rattle.rb_node.specs.Acts.{IsSendable, span_in};
 ghost use Rattle.rb_node.specs.Cores.{IsCore, IsSameNode, passing_end};
-ghost use Rattle.rb_node.specs.Ends.{EndsExactWindow, IsWithinExactWindow};
-ghost use Rattle.rb_node.specs.Wants.{want_for};
 ghost use Rattle.rb_slot.specs.Engines.{nothing_shown};
-ghost use Rattle.rb_world.specs.Sites.{KeptSite, Stands, goes_on, number_of, taken_in};
-ghost use Rattle.rb_world.specs.Tells.{IsTicked};
+ghost use Rattle.rb_world.specs.Sites.{KeptSite, Stands, number_of};
+ghost use Rattle.rb_world.specs.Tells.{EndsNext, EntersNone, HasComeBy, HasTakenIn, IfEndsNext, IfLiesWithin, LiesWithin, TakesNext, TakesNextWith, TakesTickWith};
 
 use rb_base::{Kind, MOST_TICKS, NodeName};
 use rb_clock::Clock;
@@ -26,8 +21,9 @@ use rb_plan::Feasible;
 use rb_rules::{Message, NodeLine};
 use std::marker::Model;
 
-/// One node of a world, for both kinds by one code: its core, whether it runs, and for each source the reference time of what
-/// came of it last. Where one message came of a source since the last close, that is the time of it.
+/// One node of a world, for both kinds by one code: its core, whether it runs, and for each source
+/// the reference time of what came of it last. Where one message came of a source since the last
+/// close, that is the time of it.
 #[derive(Drop)]
 pub struct Site<K: Kind> {
     node: Node<K>,
@@ -80,7 +76,8 @@ fn name_of(code: u8, number: u8) -> NodeName
 }
 
 impl<K: Kind> Site<K> {
-    /// A node of the plan's bus, of kind K with this number among those of its kind, which runs. Nothing has come to it.
+    /// A node of the plan's bus, of kind K with this number among those of its kind, which runs.
+    /// Nothing has come to it.
     pub fn new(plan: &Feasible, index: u8) -> Site<K>
         requires { index < count_of (side_of K.CODE) plan.now.sizes }
         ensures stands { (sc : Scenario) → plan.now.sizes ≡ sc.sizes → plan.now.plan ≡ sc.plan
@@ -95,7 +92,8 @@ impl<K: Kind> Site<K> {
         }
     }
 
-    /// The node: its next tick and what it wants for it, its engine, and what it showed of the window that it closed last.
+    /// The node: its next tick and what it wants for it, its engine, and what it showed of the
+    /// window that it closed last.
     pub fn node(&self) -> &Node<K>
         ensures { result.now ≡ self.now.node }
     {
@@ -119,7 +117,8 @@ impl<K: Kind> Site<K> {
     /// The window that begins with the node's next tick. None exactly where none does.
     pub fn entering(&self) -> Option<Span>
         ensures { (sc : Scenario) (s : WorldSite) → Stands sc (side_of K.CODE) self.now s
-            → option_map span_in result ≡ span_from sc.sizes sc.plan (side_of K.CODE) s.core.state s.core.had }
+            → option_map span_in result
+            ≡ span_from sc.sizes sc.plan (side_of K.CODE) s.core.state s.core.had }
     {
         self.node.entering()
     }
@@ -133,16 +132,14 @@ impl<K: Kind> Site<K> {
         self.runs = false;
     }
 
-    /// A message or other bytes come to the node from a source at a reference time, no later than its next busy tick, by the
-    /// node's clock. The quiet ticks before its stamp pass.
+    /// A message or other bytes come to the node from a source at a reference time, no later than
+    /// its next busy tick, by the node's clock. The quiet ticks before its stamp pass.
     #[inline(always)]
     pub fn arrive(&mut self, clock: &Clock, time: u64, from: u8, bytes: &Spelling)
         requires in_time { ComesBy (passing_end (side_of K.CODE) self.old.node) clock.now time }
         requires source { from < count_of (other (side_of K.CODE)) self.old.node.seat.sizes }
-        ensures stands { (sc : Scenario) (place : ℕ) (s : WorldSite) → clock.now ≡ clock_of sc (side_of K.CODE) (number_of self.old)
-            → Stands sc (side_of K.CODE) self.old s
-            → Stands sc (side_of K.CODE) self.new
-            (after_arrival sc (side_of K.CODE) (number_of self.old) place (record { time = time; from = from; bytes = bytes.now }) s) }
+        ensures stands { HasComeBy (side_of K.CODE) clock.now
+            (record { time = time; from = from; bytes = bytes.now }) self.old self.new }
         ensures rest { self.new ≡ record self.old {
           node = record self.old.node { had = self.new.node.had; inbox = self.new.node.inbox };
           times = slice_set self.old.times from time;
@@ -155,14 +152,14 @@ impl<K: Kind> Site<K> {
         self.take_in(time, from, bytes);
     }
 
-    /// A message or other bytes come to the node from a source at a reference time, and no tick passes before them: they have the
-    /// stamp of its next tick, and not their own. It is for a node whose next busy tick depends on no stamp.
+    /// A message or other bytes come to the node from a source at a reference time, and no tick
+    /// passes before them: they have the stamp of its next tick, and not their own. It is for a
+    /// node whose next busy tick depends on no stamp.
     #[inline(always)]
     pub fn take_in(&mut self, time: u64, from: u8, bytes: &Spelling)
         requires source { from < count_of (other (side_of K.CODE)) self.old.node.seat.sizes }
-        ensures stands { (sc : Scenario) (s : WorldSite) → Stands sc (side_of K.CODE) self.old s
-            → Stands sc (side_of K.CODE) self.new
-            (taken_in sc (side_of K.CODE) (record { time = time; from = from; bytes = bytes.now }) s) }
+        ensures stands { HasTakenIn (side_of K.CODE)
+            (record { time = time; from = from; bytes = bytes.now }) self.old self.new }
         ensures rest { self.new ≡ record self.old {
           node = record self.old.node { inbox = self.new.node.inbox };
           times = slice_set self.old.times from time;
@@ -173,13 +170,12 @@ impl<K: Kind> Site<K> {
         keep_time(&mut self.times, from, time);
     }
 
-    /// Tick k of the node's clock, at the latest its next busy one, with the word that it wants for it. The quiet ticks before
-    /// it pass. What the node then shows of a stage, with `times` in place of stamps, is what it tells of it.
+    /// Tick k of the node's clock, at the latest its next busy one, with the word that it wants for
+    /// it. The quiet ticks before it pass. What the node then shows of a stage, with `times` in
+    /// place of stamps, is what it tells of it.
     pub fn tick(&mut self, k: u64, word: u32) -> Step
         requires { k ≤ passing_end (side_of K.CODE) self.old.node }
-        ensures ticked { (sc : Scenario) (ports : List PortState) (s : WorldSite) → Stands sc (side_of K.CODE) self.old s
-            → word ≡ word_of sc ports (number_of self.old) (wants_in sc (side_of K.CODE) (number_of self.old) (pass_to k s.core))
-            → IsTicked sc ports (side_of K.CODE) self.old self.new result k s }
+        ensures ticked { TakesTickWith (side_of K.CODE) k word self.old self.new result }
         ensures shown { result.closed ≡ false → self.new.node.shown ≡ self.old.node.shown }
         ensures rest { self.new ≡ record self.old { node = self.new.node } }
         ensures message { IfSome result.message IsSendable }
@@ -190,23 +186,16 @@ impl<K: Kind> Site<K> {
         self.node.step(word)
     }
 
-    /// If all that happens at the node's next busy tick is that a window of a slot before the sync slot ends, the node has that
-    /// tick, and the result is true: it sends nothing and begins no frame. The quiet ticks before it pass. What the node then
-    /// shows of the stage, with `times` in place of stamps, is what it tells of it. Else nothing changes.
+    /// If all that happens at the node's next busy tick is that a window of a slot before the sync
+    /// slot ends, the node has that tick, and the result is true: it sends nothing and begins no
+    /// frame. The quiet ticks before it pass. What the node then shows of the stage, with `times`
+    /// in place of stamps, is what it tells of it. Else nothing changes.
     #[inline(always)]
     pub fn end_window(&mut self) -> bool
-        ensures ticked { IsTrue result → (sc : Scenario) (ports : List PortState) (k : ℕ) (s : WorldSite)
-            → Stands sc (side_of K.CODE) self.old s
-            → next_tick sc.sizes sc.plan (side_of K.CODE) (number_of self.old) s.core ≡ Some k
-            → IsTicked sc ports (side_of K.CODE) self.old self.new (record { epoch = None; message = None; closed = true }) k s }
-        ensures only { IsTrue result → (sc : Scenario) (s : WorldSite) → Stands sc (side_of K.CODE) self.old s
-            → (k : ℕ) × ((next_tick sc.sizes sc.plan (side_of K.CODE) (number_of self.old) s.core ≡ Some k)
-            × EndsExactWindow sc.sizes sc.plan (side_of K.CODE) s.core.state k) }
-        ensures otherwise { (sc : Scenario) (k : ℕ) (s : WorldSite) → Stands sc (side_of K.CODE) self.old s
-            → next_tick sc.sizes sc.plan (side_of K.CODE) (number_of self.old) s.core ≡ Some k
-            → is_tick (new_epoch_of sc.plan (side_of K.CODE) s.core.state) k ≡ false
-            → EndsExactWindow sc.sizes sc.plan (side_of K.CODE) s.core.state k
-            → (tick sc.sizes sc.plan (side_of K.CODE) (number_of self.old) (pass_to k s.core) 0).message ≡ None → IsTrue result }
+        ensures ticked { IsTrue result → TakesNext (side_of K.CODE) self.old self.new
+            (record { epoch = None; message = None; closed = true }) }
+        ensures only { IsTrue result → EndsNext (side_of K.CODE) self.old }
+        ensures otherwise { IfEndsNext (side_of K.CODE) self.old (IsTrue result) }
         ensures stays { result ≡ false → self.new ≡ self.old }
         ensures rest { self.new ≡ record self.old { node = self.new.node } }
         ensures same { IsSameNode self.old.node self.new.node }
@@ -214,24 +203,18 @@ impl<K: Kind> Site<K> {
         self.node.end_window()
     }
 
-    /// If the node's next busy tick lies within a window of a slot before the sync slot, all that happens at it is that the node says
-    /// a message. Then the node has that tick with the word that it wants for it, and the result is the message. The quiet ticks
-    /// before it pass, and no window begins with the tick after it. Else nothing changes, and it is None.
+    /// If the node's next busy tick lies within a window of a slot before the sync slot, all that
+    /// happens at it is that the node says a message. Then the node has that tick with the word
+    /// that it wants for it, and the result is the message. The quiet ticks before it pass, and no
+    /// window begins with the tick after it. Else nothing changes, and it is None.
     #[inline(always)]
     pub fn say_alone(&mut self, word: u32) -> Option<Message>
-        ensures ticked { is_some result ≡ true → (sc : Scenario) (ports : List PortState) (k : ℕ) (s : WorldSite)
-            → Stands sc (side_of K.CODE) self.old s
-            → next_tick sc.sizes sc.plan (side_of K.CODE) (number_of self.old) s.core ≡ Some k
-            → word ≡ word_of sc ports (number_of self.old) (wants_in sc (side_of K.CODE) (number_of self.old) (pass_to k s.core))
-            → IsTicked sc ports (side_of K.CODE) self.old self.new (record { epoch = None; message = result; closed = false }) k s }
-        ensures only { is_some result ≡ true → (sc : Scenario) (s : WorldSite) → Stands sc (side_of K.CODE) self.old s
-            → (k : ℕ) × ((next_tick sc.sizes sc.plan (side_of K.CODE) (number_of self.old) s.core ≡ Some k)
-            × IsWithinExactWindow sc.sizes sc.plan (side_of K.CODE) s.core.state k) }
-        ensures otherwise { (sc : Scenario) (k : ℕ) (s : WorldSite) → Stands sc (side_of K.CODE) self.old s
-            → next_tick sc.sizes sc.plan (side_of K.CODE) (number_of self.old) s.core ≡ Some k
-            → IsWithinExactWindow sc.sizes sc.plan (side_of K.CODE) s.core.state k → is_some result ≡ true }
-        ensures inside { is_some result ≡ true → (sc : Scenario) (s : WorldSite) → Stands sc (side_of K.CODE) self.new s
-            → span_from sc.sizes sc.plan (side_of K.CODE) s.core.state s.core.had ≡ None }
+        ensures ticked { is_some result ≡ true
+            → TakesNextWith (side_of K.CODE) word self.old self.new
+            (record { epoch = None; message = result; closed = false }) }
+        ensures only { is_some result ≡ true → LiesWithin (side_of K.CODE) self.old }
+        ensures otherwise { IfLiesWithin (side_of K.CODE) self.old (is_some result ≡ true) }
+        ensures inside { is_some result ≡ true → EntersNone (side_of K.CODE) self.new }
         ensures stays { is_some result ≡ false → self.new ≡ self.old }
         ensures shown { self.new.node.shown ≡ self.old.node.shown }
         ensures rest { self.new ≡ record self.old { node = self.new.node } }

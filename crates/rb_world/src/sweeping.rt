@@ -1,21 +1,19 @@
 //! How arrivals that were left behind are taken.
-ghost use Rattle.std.specs.Prelude.{◌≡◌, [], ◌∷◌, ℕ, ◌+◌, ◌<◌, ◌≤◌, All, IfSome, List, Some, if◌then◌else◌, length};
-ghost use Rattle.rb_base.specs.Nodes.{Side, other, side_of};
-ghost use Rattle.rb_rules.specs.Book.{Each};
-ghost use Rattle.rb_rules.specs.Goodness.{Scenario};
-ghost use Rattle.rb_rules.specs.Lawful.{IsNodeOf, kind_of};
-ghost use Rattle.rb_rules.specs.Links.{name_of, same_node};
+ghost use Rattle.std.specs.Prelude.{◌≡◌, [], ◌∷◌, ◌<◌, IfSome, length};
+ghost use Rattle.rb_base.specs.Nodes.{other, side_of};
+ghost use Rattle.rb_rules.specs.Lawful.{kind_of};
+ghost use Rattle.rb_rules.specs.Links.{name_of};
 ghost use Rattle.rb_rules.specs.Slots.{count_of};
-ghost use Rattle.rb_rules.specs.WorldStep.{Site as WorldSite, World as RunWorld};
-ghost use Rattle.rb_queue.specs.Waiting.{HasLane, Held, lane_of, with_lane, without_before, without_tick};
-ghost use Rattle.rb_world.specs.Sites.{KeptSite, Stands as StandsFor, number_of};
+ghost use Rattle.rb_rules.specs.WorldStep.{World as RunWorld};
+ghost use Rattle.rb_queue.specs.Waiting.{HasLane, lane_of};
+ghost use Rattle.rb_world.specs.Sites.{number_of};
 ghost use Rattle.rb_laws_sweeps.specs.AheadOf.{until_tick};
-ghost use Rattle.rb_laws_sweeps.specs.Told.{heard};
 ghost use Rattle.rb_world_traffic.specs.Arriving.{number_of as number_in};
-ghost use Rattle.rb_world.specs.Observing.{WasTold, left_below, left_for};
 ghost use Rattle.rb_world.specs.Runs.{nodes_of};
-ghost use Rattle.rb_world.specs.Trailing.{HasCaughtUp, HaveCaughtUp, MayCatchUp, MaySweepAt, Sweeps, Trails, until_from};
-ghost use Rattle.rb_world.specs.Unstamped.{due_before, taken_all};
+ghost use Rattle.rb_world.specs.Trailing.{Trails, until_from};
+ghost use Rattle.rb_world.specs.Unstamped.{AreOfSources, TakesInDue, with_nothing_before};
+ghost use Rattle.rb_world.specs.Calls.{CanCatchUpAll, CanCatchUpAt, CanSweep, CatchesUp, CatchesUpAll, CatchesUpAt, HasSwept, KeepsLanes};
+ghost use Rattle.rb_world.specs.Telling.{TellsCatchUp, TellsCatchUpAll, TellsCatchUpAt, TellsSweep, TellsSweepFor};
 
 use crate::Site;
 use crate::bus::Bus;
@@ -26,7 +24,8 @@ use rb_base::{Kind, NodeName};
 use rb_queue::Arrival;
 use rb_world_agenda::Agenda;
 
-/// What comes to the node before this time is taken, one arrival after another, and with it a tick of the node before then.
+/// What comes to the node before this time is taken, one arrival after another, and with it a tick
+/// of the node before then.
 #[inline(always)]
 pub(crate) fn sweep<K: Kind>(
     bus: &Bus,
@@ -36,13 +35,11 @@ pub(crate) fn sweep<K: Kind>(
     agenda: &mut Agenda,
 )
     requires name { node ≡ name_of (side_of K.CODE) (number_of site.old) }
-    requires may { (sites : Each WorldSite) × (s : WorldSite)
-        × MaySweepAt bus.now (side_of K.CODE) until site.old agenda.old sites s }
-    ensures swept { (sites : Each WorldSite) (s : WorldSite)
-        → MaySweepAt bus.now (side_of K.CODE) until site.old agenda.old sites s
-        → Sweeps bus.now (side_of K.CODE) (number_of site.old) until site.new agenda.new sites s }
+    requires may { CanSweep bus.now (side_of K.CODE) until site.old agenda.old }
+    ensures swept { HasSwept bus.now (side_of K.CODE) until site.old site.new
+        agenda.old agenda.new }
     ensures number { number_of site.new ≡ number_of site.old }
-    ensures lanes { (other : NodeName) → HasLane agenda.old other → HasLane agenda.new other }
+    ensures lanes { KeepsLanes agenda.old agenda.new }
 {
     let clock = bus.clock(node);
     'events: loop {
@@ -69,9 +66,9 @@ pub(crate) fn sweep<K: Kind>(
 // An arrival is taken in unstamped, if it comes before this time.
 #[inline(always)]
 fn take_in_before<K: Kind>(until: u64, arrival: &Arrival, site: &mut Site<K>)
-    requires sender { arrival.now.from < count_of (other (side_of K.CODE)) site.old.node.seat.sizes }
-    ensures stands { (sc : Scenario) (s : WorldSite) → StandsFor sc (side_of K.CODE) site.old s
-        → StandsFor sc (side_of K.CODE) site.new (taken_all sc (side_of K.CODE) (due_before until (arrival.now ∷ [])) s) }
+    requires sender { arrival.now.from
+        < count_of (other (side_of K.CODE)) site.old.node.seat.sizes }
+    ensures stands { TakesInDue (side_of K.CODE) until (arrival.now ∷ []) site.old site.new }
     ensures seat { site.new.node.seat ≡ site.old.node.seat }
 {
     let time = arrival.time();
@@ -80,8 +77,8 @@ fn take_in_before<K: Kind>(until: u64, arrival: &Arrival, site: &mut Site<K>)
     }
 }
 
-/// All that comes to the node before this time is taken in, unstamped and in the order of pushing. Neither that nor the node's tick is
-/// pending any more.
+/// All that comes to the node before this time is taken in, unstamped and in the order of pushing.
+/// Neither that nor the node's tick is pending any more.
 #[inline(always)]
 pub(crate) fn take_in_all<K: Kind>(
     node: NodeName,
@@ -90,11 +87,11 @@ pub(crate) fn take_in_all<K: Kind>(
     agenda: &mut Agenda,
 )
     requires lane { HasLane agenda.old node }
-    requires senders { All (λ c. c.from < count_of (other (side_of K.CODE)) site.old.node.seat.sizes) (lane_of agenda.old node).arrivals }
-    ensures stands { (sc : Scenario) (s : WorldSite) → StandsFor sc (side_of K.CODE) site.old s
-        → StandsFor sc (side_of K.CODE) site.new (taken_all sc (side_of K.CODE) (due_before until (lane_of agenda.old node).arrivals) s) }
+    requires senders { AreOfSources (side_of K.CODE) site.old (lane_of agenda.old node).arrivals }
+    ensures stands { TakesInDue (side_of K.CODE) until (lane_of agenda.old node).arrivals
+        site.old site.new }
     ensures seat { site.new.node.seat ≡ site.old.node.seat }
-    ensures lanes { agenda.new ≡ with_lane node (without_tick (without_before until (lane_of agenda.old node))) agenda.old }
+    ensures lanes { agenda.new ≡ with_nothing_before until node agenda.old }
 {
     for arrival in agenda.waiting(node) {
         take_in_before(until, arrival, site);
@@ -103,7 +100,8 @@ pub(crate) fn take_in_all<K: Kind>(
     agenda.take_tick(node);
 }
 
-// What comes to the node before this time is taken, and each arrival is told to an observer before it is taken.
+// What comes to the node before this time is taken, and each arrival is told to an observer before
+// it is taken.
 fn sweep_told<K: Kind, T: Observer>(
     bus: &Bus,
     node: NodeName,
@@ -113,17 +111,13 @@ fn sweep_told<K: Kind, T: Observer>(
     observer: &mut T,
 )
     requires name { node ≡ name_of (side_of K.CODE) (number_of site.old) }
-    requires may { (sites : Each WorldSite) × (s : WorldSite)
-        × MaySweepAt bus.now (side_of K.CODE) until site.old agenda.old sites s }
-    ensures swept { (sites : Each WorldSite) (s : WorldSite)
-        → MaySweepAt bus.now (side_of K.CODE) until site.old agenda.old sites s
-        → Sweeps bus.now (side_of K.CODE) (number_of site.old) until site.new agenda.new sites s }
+    requires may { CanSweep bus.now (side_of K.CODE) until site.old agenda.old }
+    ensures swept { HasSwept bus.now (side_of K.CODE) until site.old site.new
+        agenda.old agenda.new }
     ensures number { number_of site.new ≡ number_of site.old }
-    ensures lanes { (other : NodeName) → HasLane agenda.old other → HasLane agenda.new other }
-    ensures told { (sites : Each WorldSite) (s : WorldSite)
-        → MaySweepAt bus.now (side_of K.CODE) until site.old agenda.old sites s
-        → WasTold T T.observes observer.old
-        (heard bus.now (side_of K.CODE) (number_of site.old) until s) observer.new }
+    ensures lanes { KeepsLanes agenda.old agenda.new }
+    ensures told { TellsSweep T T.observes bus.now (side_of K.CODE) until site.old agenda.old
+        observer.old observer.new }
 {
     'events: loop {
         match agenda.first_before(node, until) {
@@ -150,16 +144,13 @@ pub(crate) fn sweep_for<K: Kind, T: Observer>(
     observer: &mut T,
 )
     requires name { node ≡ name_of (side_of K.CODE) (number_of site.old) }
-    requires may { (sites : Each WorldSite) × (s : WorldSite)
-        × MaySweepAt setup.now.bus.now (side_of K.CODE) until site.old agenda.old sites s }
-    ensures swept { (sites : Each WorldSite) (s : WorldSite)
-        → MaySweepAt setup.now.bus.now (side_of K.CODE) until site.old agenda.old sites s
-        → Sweeps setup.now.bus.now (side_of K.CODE) (number_of site.old) until site.new agenda.new sites s }
+    requires may { CanSweep setup.now.bus.now (side_of K.CODE) until site.old agenda.old }
+    ensures swept { HasSwept setup.now.bus.now (side_of K.CODE) until site.old site.new
+        agenda.old agenda.new }
     ensures number { number_of site.new ≡ number_of site.old }
-    ensures lanes { (other : NodeName) → HasLane agenda.old other → HasLane agenda.new other }
-    ensures told { (name : NodeName) → setup.now.observed ≡ Some name → (sites : Each WorldSite) (s : WorldSite)
-        → MaySweepAt setup.now.bus.now (side_of K.CODE) until site.old agenda.old sites s
-        → WasTold T T.observes observer.old (if same_node node name then heard setup.now.bus.now (side_of K.CODE) (number_of site.old) until s else []) observer.new }
+    ensures lanes { KeepsLanes agenda.old agenda.new }
+    ensures told { TellsSweepFor T T.observes setup.now.bus.now setup.now.observed (side_of K.CODE)
+        node until site.old agenda.old observer.old observer.new }
 {
     if is_observed(setup.observed, node) {
         sweep_told(setup.bus, node, until, site, agenda, observer);
@@ -171,7 +162,8 @@ pub(crate) fn sweep_for<K: Kind, T: Observer>(
 // The time up to which a node is swept before the tick of another node at this time.
 fn until_before(from: NodeName, time: u64, node: NodeName) -> u64
     requires { time < 18446744073709551615 }
-    ensures { result ≡ until_tick (kind_of from) (number_in from) time (kind_of node) (number_in node) }
+    ensures { result ≡ until_tick (kind_of from) (number_in from) time (kind_of node)
+        (number_in node) }
 {
     match (from, node) {
         (NodeName::Biu(i), NodeName::Biu(j)) => if i < j { time } else { time + 1 },
@@ -192,20 +184,13 @@ fn catch_up_at<K: Kind, T: Observer>(
 )
     requires within { i < length sites.old.items }
     requires small { tick.1 < 18446744073709551615 }
-    requires may { (first : List KeptSite) × (begun : Each Held) × (nodes : Each WorldSite)
-        × (MayCatchUp setup.now.bus.now (until_from (Some tick)) (side_of K.CODE) first begun nodes
-        × HaveCaughtUp setup.now.bus.now (until_from (Some tick)) (side_of K.CODE) i sites.old.items agenda.old nodes) }
-    ensures caught { (first : List KeptSite) (begun : Each Held) (nodes : Each WorldSite)
-        → MayCatchUp setup.now.bus.now (until_from (Some tick)) (side_of K.CODE) first begun nodes
-        → HaveCaughtUp setup.now.bus.now (until_from (Some tick)) (side_of K.CODE) i sites.old.items agenda.old nodes
-        → HaveCaughtUp setup.now.bus.now (until_from (Some tick)) (side_of K.CODE) (i + 1) sites.new.items agenda.new nodes }
+    requires may { CanCatchUpAt setup.now.bus.now tick (side_of K.CODE) i
+        sites.old.items agenda.old }
+    ensures caught { CatchesUpAt setup.now.bus.now tick (side_of K.CODE) i
+        sites.old.items sites.new.items agenda.old agenda.new }
     ensures many { length sites.new.items ≡ length sites.old.items }
-    ensures told { (name : NodeName) → setup.now.observed ≡ Some name
-        → (first : List KeptSite) (begun : Each Held) (nodes : Each WorldSite)
-        → MayCatchUp setup.now.bus.now (until_from (Some tick)) (side_of K.CODE) first begun nodes
-        → HaveCaughtUp setup.now.bus.now (until_from (Some tick)) (side_of K.CODE) i sites.old.items agenda.old nodes
-        → WasTold T T.observes observer.old
-        (if same_node (name_of (side_of K.CODE) i) name then left_for setup.now.bus.now (until_from (Some tick)) nodes name else []) observer.new }
+    ensures told { TellsCatchUpAt T T.observes setup.now.bus.now setup.now.observed tick
+        (side_of K.CODE) i sites.old.items agenda.old observer.old observer.new }
 {
     let site = &mut sites[i];
     let node = site.name();
@@ -222,15 +207,12 @@ fn catch_up_all<K: Kind, T: Observer>(
     observer: &mut T,
 )
     requires small { tick.1 < 18446744073709551615 }
-    requires may { (nodes : Each WorldSite)
-        × MayCatchUp setup.now.bus.now (until_from (Some tick)) (side_of K.CODE) sites.old.items agenda.old nodes }
-    ensures caught { (nodes : Each WorldSite)
-        → MayCatchUp setup.now.bus.now (until_from (Some tick)) (side_of K.CODE) sites.old.items agenda.old nodes
-        → HaveCaughtUp setup.now.bus.now (until_from (Some tick)) (side_of K.CODE) (count_of (side_of K.CODE) setup.now.bus.now.sizes) sites.new.items agenda.new nodes }
-    ensures told { (name : NodeName) → setup.now.observed ≡ Some name → (nodes : Each WorldSite)
-        → MayCatchUp setup.now.bus.now (until_from (Some tick)) (side_of K.CODE) sites.old.items agenda.old nodes
-        → WasTold T T.observes observer.old
-        (left_below setup.now.bus.now (until_from (Some tick)) (side_of K.CODE) (count_of (side_of K.CODE) setup.now.bus.now.sizes) nodes name) observer.new }
+    requires may { CanCatchUpAll setup.now.bus.now tick (side_of K.CODE)
+        sites.old.items agenda.old }
+    ensures caught { CatchesUpAll setup.now.bus.now tick (side_of K.CODE)
+        sites.old.items sites.new.items agenda.old agenda.new }
+    ensures told { TellsCatchUpAll T T.observes setup.now.bus.now setup.now.observed tick
+        (side_of K.CODE) sites.old.items agenda.old observer.old observer.new }
 {
     for i in 0..sites.len() {
         catch_up_at(setup, tick, i, sites, agenda, observer);
@@ -247,13 +229,9 @@ pub(crate) fn catch_up<T: Observer>(
     requires small { IfSome tick (λ t. t.1 < 18446744073709551615) }
     requires trails { (w : RunWorld) × (v : RunWorld)
         × Trails setup.now.bus.now (nodes_of run.old) run.old.scene (until_from tick) w v }
-    ensures caught { (w : RunWorld) (v : RunWorld)
-        → Trails setup.now.bus.now (nodes_of run.old) run.old.scene (until_from tick) w v
-        → HasCaughtUp setup.now.bus.now (nodes_of run.new) run.new.scene w }
-    ensures told { (name : NodeName) → setup.now.observed ≡ Some name
-        → IsNodeOf setup.now.bus.now.sizes name → (w : RunWorld) (v : RunWorld)
-        → Trails setup.now.bus.now (nodes_of run.old) run.old.scene (until_from tick) w v
-        → WasTold T T.observes observer.old (left_for setup.now.bus.now (until_from tick) v.sites name) observer.new }
+    ensures caught { CatchesUp setup.now.bus.now tick run.old run.new }
+    ensures told { TellsCatchUp T T.observes setup.now.bus.now setup.now.observed tick run.old
+        observer.old observer.new }
 {
     if let Some(tick) = tick {
         catch_up_all(setup, tick, &mut run.bius, &mut run.scene.agenda, observer);

@@ -2,14 +2,13 @@
 ghost use Rattle.std.specs.Prelude.{◌≡◌, ◌<◌, ℕ};
 ghost use Rattle.rb_base.specs.Nodes.{side_of};
 ghost use Rattle.rb_rules.specs.Links.{name_of};
-ghost use Rattle.rb_world.specs.Sites.{Stands as StandsFor, number_of};
-ghost use Rattle.rb_rules.specs.Hearing.{Coming};
-ghost use Rattle.rb_rules.specs.WorldStep.{Due, Site as WorldSite, World as RunWorld, after_arrival, take};
+ghost use Rattle.rb_world.specs.Sites.{number_of};
+ghost use Rattle.rb_rules.specs.WorldStep.{Due, World as RunWorld, take, Site as WorldSite};
 ghost use Rattle.rb_laws_events.specs.Promise.{NodesKeepThePromise};
 ghost use Rattle.rb_queue.specs.Waiting.{lane_of, with_lane, without_place};
 ghost use Rattle.rb_world.specs.Numbering.{TakesInRounds};
 ghost use Rattle.rb_world.specs.Runs.{nodes_of};
-ghost use Rattle.rb_world.specs.Steps.{CanHear, Happens, HasTicked, MayHappen, MayTick};
+ghost use Rattle.rb_world.specs.Steps.{CanHearAt, Happens, HasHeard, MayHappen, HasTicked, MayTick};
 ghost use Rattle.rb_world.specs.Turning.{Gives};
 ghost use Rattle.rb_world.specs.Worlds.{Stands, due_in, last_of};
 ghost use Rattle.rb_world_book.specs.declared.turn.Turn.{Turn};
@@ -89,14 +88,10 @@ pub(crate) fn hear_at<K: Kind>(
     agenda: &mut Agenda,
 )
     requires name { node ≡ name_of (side_of K.CODE) (number_of site.old) }
-    requires may { (c : Coming)
-        × CanHear bus.now (side_of K.CODE) (number_of site.old) node place site.old agenda.old c }
-    ensures lane { agenda.new ≡ with_lane node (without_place place (lane_of agenda.old node)) agenda.old }
-    ensures stands { (c : Coming) (at : ℕ) (s : WorldSite)
-        → CanHear bus.now (side_of K.CODE) (number_of site.old) node place site.old agenda.old c
-        → StandsFor bus.now (side_of K.CODE) site.old s
-        → StandsFor bus.now (side_of K.CODE) site.new
-        (after_arrival bus.now (side_of K.CODE) (number_of site.old) at c s) }
+    requires may { CanHearAt bus.now (side_of K.CODE) node place site.old agenda.old }
+    ensures lane { agenda.new
+        ≡ with_lane node (without_place place (lane_of agenda.old node)) agenda.old }
+    ensures stands { HasHeard bus.now (side_of K.CODE) node place site.old site.new agenda.old }
     ensures number { number_of site.new ≡ number_of site.old }
 {
     let arrival = agenda.arrival(node, place);
@@ -107,14 +102,17 @@ pub(crate) fn hear_at<K: Kind>(
 }
 
 impl World {
-    // Takes an event, as `take` does. The turn is `Quiet` before, and is written over where a record comes with the event.
+    // Takes an event, as `take` does. The turn is `Quiet` before, and is written over where a
+    // record comes with the event.
     pub(crate) fn take_into(&mut self, apps: &Apps, i: usize, turn: &mut Turn)
         requires below { i < due_in self.old }
         requires quiet { turn.old ≡ Turn.Quiet }
-        ensures world { (w : RunWorld) → Stands self.old w → Gives self.new turn.new (take self.old.bus w i) }
+        ensures world { (w : RunWorld) → Stands self.old w
+            → Gives self.new turn.new (take self.old.bus w i) }
         ensures bus { self.new.bus ≡ self.old.bus }
         ensures seeding { self.new.seeding ≡ self.old.seeding }
-        ensures rounds { (w : RunWorld) → Stands self.old w → TakesInRounds self.old.bus w (take self.old.bus w i) (record_of turn.new) }
+        ensures rounds { (w : RunWorld) → Stands self.old w
+            → TakesInRounds self.old.bus w (take self.old.bus w i) (record_of turn.new) }
     {
         let time = self.run.scene.agenda.first_time();
         let (node, event) = self.run.scene.agenda.take(i);
@@ -123,14 +121,17 @@ impl World {
         self.last = last_of(turn);
     }
 
-    /// Takes the i-th of the events that are due, counted from 0: the node has its quiet ticks, and then its tick or the arrival. The
-    /// turn is the record that comes with it, and `Quiet` where none does.
+    /// Takes the i-th of the events that are due, counted from 0: the node has its quiet ticks, and
+    /// then its tick or the arrival. The turn is the record that comes with it, and `Quiet` where
+    /// none does.
     pub fn take(&mut self, apps: &Apps, i: usize) -> Turn
         requires below { i < due_in self.old }
-        ensures world { (w : RunWorld) → Stands self.old w → Gives self.new result (take self.old.bus w i) }
+        ensures world { (w : RunWorld) → Stands self.old w
+            → Gives self.new result (take self.old.bus w i) }
         ensures bus { self.new.bus ≡ self.old.bus }
         ensures seeding { self.new.seeding ≡ self.old.seeding }
-        ensures rounds { (w : RunWorld) → Stands self.old w → TakesInRounds self.old.bus w (take self.old.bus w i) (record_of result) }
+        ensures rounds { (w : RunWorld) → Stands self.old w
+            → TakesInRounds self.old.bus w (take self.old.bus w i) (record_of result) }
         ensures nodes { (w : RunWorld) → Stands self.new w → NodesKeepThePromise self.new.bus w }
     {
         let mut turn = Turn::Quiet;

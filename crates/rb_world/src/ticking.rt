@@ -7,12 +7,12 @@ ghost use Rattle.rb_rules.specs.Lawful.{IsNodeOf, kind_of};
 ghost use Rattle.rb_rules.specs.Ports.{PortState};
 ghost use Rattle.rb_node.specs.Acts.{IsSendable};
 ghost use Rattle.rb_node.specs.Wants.{want_for};
-ghost use Rattle.rb_world.specs.Tells.{row_at};
 ghost use Rattle.rb_world_traffic.specs.Arriving.{number_of as number_in};
 ghost use Rattle.rb_world.specs.Worlds.{HoldsPorts, Surrounds};
-ghost use Rattle.rb_rules.specs.WorldStep.{Site as WorldSite, World, with_delivery, with_epoch, with_message, word_of};
+ghost use Rattle.rb_rules.specs.WorldStep.{Site as WorldSite, World, with_delivery, word_of};
 ghost use Rattle.rb_world.specs.Sites.{number_of};
-ghost use Rattle.rb_world.specs.Steps.{CanWant, HasRoomFor, HasTicked, IsWordSlot, MayTick, SeesOnlyNodes, closed_if, moved, word_at};
+ghost use Rattle.rb_world.specs.Steps.{CanTick, CanWant, Changes, DoesTick, HasRoomFor, IsWordSlot, MayTick, SeesOnlyNodes, begun_at, closed_if, sent_by, word_at};
+ghost use Rattle.rb_world.specs.Tells.{row_shown};
 
 use crate::Site;
 use crate::bus::Bus;
@@ -29,7 +29,8 @@ use rb_world_traffic::Departure;
 pub(crate) fn word_for(bus: &Bus, apps: &Apps, ports: &[Port], i: u8, want: Want) -> u32
     requires want { CanWant bus.now i want }
     requires many { length ports.now ≡ bus.now.sizes.bius }
-    ensures { (states : List PortState) (slot : Option ℕ) → HoldsPorts bus.now ports.now states → IsWordSlot bus.now.sizes slot
+    ensures { (states : List PortState) (slot : Option ℕ) → HoldsPorts bus.now ports.now states
+        → IsWordSlot bus.now.sizes slot
         → want ≡ want_for bus.now.sizes slot → result ≡ word_of bus.now states i slot }
 {
     match want {
@@ -43,7 +44,8 @@ pub(crate) fn word_for(bus: &Bus, apps: &Apps, ports: &[Port], i: u8, want: Want
 fn line_of_port(bus: &Bus, i: u8, ports: &[Port]) -> PortLine
     requires within { i < bus.now.sizes.bius }
     requires many { length ports.now ≡ bus.now.sizes.bius }
-    ensures { (states : List PortState) → HoldsPorts bus.now ports.now states → Some result ≡ port_line Biu i (port_at bus.now states i) }
+    ensures { (states : List PortState) → HoldsPorts bus.now ports.now states
+        → Some result ≡ port_line Biu i (port_at bus.now states i) }
 {
     let port = &ports[usize::from(i)];
     PortLine {
@@ -59,8 +61,7 @@ fn begin(bus: &Bus, node: NodeName, epoch: Option<Epoch>, scene: &mut Scene)
     requires node { IsNodeOf bus.now.sizes node }
     requires tick { IfSome epoch (λ e. e.tick ≤ 2 ^ 31) }
     requires around { (w : World) × Surrounds bus.now scene.old w }
-    ensures around { (w : World) → Surrounds bus.now scene.old w
-        → Surrounds bus.now scene.new (moved (kind_of node) (number_in node) (with_epoch bus.now w.ports (kind_of node) (number_in node) epoch) w) }
+    ensures around { Changes bus.now scene.old scene.new (begun_at bus.now node epoch) }
     ensures rest { scene.new ≡ record scene.old { book = scene.new.book } }
 {
     if let Some(epoch) = epoch {
@@ -94,7 +95,8 @@ fn deliver(bus: &Bus, apps: &Apps, i: u8, delivered: Option<Delivery>, ports: &m
     }
 }
 
-// A node has closed a window, if it has: it tells what it saw, and what it delivers goes to its port.
+// A node has closed a window, if it has: it tells what it saw, and what it delivers goes to its
+// port.
 #[inline(always)]
 fn close<K: Kind>(
     bus: &Bus,
@@ -107,9 +109,9 @@ fn close<K: Kind>(
     requires node { IsNodeOf bus.now.sizes node }
     requires sources { closed ≡ true → SeesOnlyNodes bus.now (kind_of node) site.now.node.shown }
     requires around { (w : World) × Surrounds bus.now scene.old w }
-    ensures around { (w : World) → Surrounds bus.now scene.old w
-        → Surrounds bus.now scene.new (closed_if bus.now node (if closed then Some site.now.node.shown else None)
-        (row_at (side_of K.CODE) (number_in node) site.now.node.seat.state site.now.times site.now.node.shown) w) }
+    ensures around { Changes bus.now scene.old scene.new
+        (closed_if bus.now node (if closed then Some site.now.node.shown else None)
+        (row_shown (side_of K.CODE) (number_in node) site.now)) }
     ensures agenda { scene.new.agenda ≡ scene.old.agenda }
 {
     if !closed {
@@ -148,8 +150,7 @@ fn depart(
     requires message { IfSome message IsSendable }
     requires around { (w : World) × Surrounds bus.now scene.old w }
     requires room { HasRoomFor bus.now (other (kind_of node)) scene.old }
-    ensures { (w : World) → Surrounds bus.now scene.old w
-        → Surrounds bus.now scene.new (record w { sites = with_message bus.now (kind_of node) (number_in node) frame k message w.sites }) }
+    ensures { Changes bus.now scene.old scene.new (sent_by bus.now node frame k message) }
 {
     if let Some(message) = message {
         let departure = Departure {
@@ -163,7 +164,8 @@ fn depart(
     }
 }
 
-// A node takes its next tick, which has this number, with the word that it wants for it, whatever happens at it.
+// A node takes its next tick, which has this number, with the word that it wants for it, whatever
+// happens at it.
 #[inline(always)]
 fn tick_with_word<K: Kind>(
     bus: &Bus,
@@ -173,14 +175,11 @@ fn tick_with_word<K: Kind>(
     site: &mut Site<K>,
     scene: &mut Scene,
 )
-    requires may { (w : World) × (s : WorldSite)
-        × MayTick bus.now (side_of K.CODE) (number_of site.old) k site.old scene.old w s }
+    requires may { CanTick bus.now (side_of K.CODE) k site.old scene.old }
     requires word { (w : World) (s : WorldSite)
         → MayTick bus.now (side_of K.CODE) (number_of site.old) k site.old scene.old w s
         → word ≡ word_at bus.now w (side_of K.CODE) (number_of site.old) k s }
-    ensures { (w : World) (s : WorldSite)
-        → MayTick bus.now (side_of K.CODE) (number_of site.old) k site.old scene.old w s
-        → HasTicked bus.now (side_of K.CODE) (number_of site.old) k site.new scene.new w s }
+    ensures { DoesTick bus.now (side_of K.CODE) k site.old site.new scene.old scene.new }
 {
     let node = site.name();
     let step = site.tick(k, word);
@@ -191,7 +190,8 @@ fn tick_with_word<K: Kind>(
     depart(bus, node, frame, k, step.message, scene);
 }
 
-// Node `i` of the kind takes its next tick. Most often all that happens at it is that the node says a message within a window.
+// Node `i` of the kind takes its next tick. Most often all that happens at it is that the node says
+// a message within a window.
 #[inline(never)]
 fn tick_in_full<K: Kind>(
     bus: &Bus,
@@ -202,11 +202,8 @@ fn tick_in_full<K: Kind>(
     scene: &mut Scene,
 )
     requires number { i ≡ number_of site.old }
-    requires may { (w : World) × (s : WorldSite)
-        × MayTick bus.now (side_of K.CODE) (number_of site.old) k site.old scene.old w s }
-    ensures { (w : World) (s : WorldSite)
-        → MayTick bus.now (side_of K.CODE) (number_of site.old) k site.old scene.old w s
-        → HasTicked bus.now (side_of K.CODE) (number_of site.old) k site.new scene.new w s }
+    requires may { CanTick bus.now (side_of K.CODE) k site.old scene.old }
+    ensures { DoesTick bus.now (side_of K.CODE) k site.old site.new scene.old scene.new }
 {
     let word = word_for(bus, apps, &scene.ports, i, site.node().wants_then());
     if let Some(message) = site.say_alone(word) {
@@ -230,11 +227,8 @@ pub(crate) fn tick<K: Kind>(
     scene: &mut Scene,
 )
     requires number { i ≡ number_of site.old }
-    requires may { (w : World) × (s : WorldSite)
-        × MayTick bus.now (side_of K.CODE) (number_of site.old) k site.old scene.old w s }
-    ensures { (w : World) (s : WorldSite)
-        → MayTick bus.now (side_of K.CODE) (number_of site.old) k site.old scene.old w s
-        → HasTicked bus.now (side_of K.CODE) (number_of site.old) k site.new scene.new w s }
+    requires may { CanTick bus.now (side_of K.CODE) k site.old scene.old }
+    ensures { DoesTick bus.now (side_of K.CODE) k site.old site.new scene.old scene.new }
 {
     if site.end_window() {
         let node = name_of::<K>(i);

@@ -4,8 +4,8 @@ ghost use Rattle.rb_world.specs.Nexts.{begun_with, drawn, place_among};
 
 use rb_gen::Draws;
 
-/// Which of the events that are due is taken: the first, the last, or the one that the generator of numbers draws, whose state goes
-/// on from call to call with the same seed.
+/// Which of the events that are due is taken: the first, the last, or the one that the generator of
+/// numbers draws, whose state goes on from call to call with the same seed.
 #[derive(Clone, Copy, Debug, PartialEq, Eq)]
 pub enum Ties {
     First,
@@ -32,7 +32,8 @@ impl Seeding {
         }
     }
 
-    /// The draws with which a call begins: where it has another seed than the last one, they start anew.
+    /// The draws with which a call begins: where it has another seed than the last one, they start
+    /// anew.
     pub fn begin(self, ties: Ties) -> Seeding
         ensures { result ≡ begun_with ties self }
     {

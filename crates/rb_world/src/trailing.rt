@@ -1,16 +1,17 @@
-//! How a run goes from tick to tick: arrivals are left behind until a tick of their node comes, or a record.
-ghost use Rattle.std.specs.Prelude.{◌≡◌, ℕ, ◌<◌, IfSome, IsTrue, List, Some, false, length, slice_set};
-ghost use Rattle.rb_base.specs.Nodes.{Side, other, side_of};
-ghost use Rattle.rb_rules.specs.Book.{Each, of_kind};
-ghost use Rattle.rb_rules.specs.Lawful.{IsNodeOf};
+//! How a run goes from tick to tick: arrivals are left behind until a tick of their node comes, or
+//! a record.
+ghost use Rattle.std.specs.Prelude.{◌≡◌, ◌<◌, IfSome, IsTrue, Some, false, length, ℕ, List};
+ghost use Rattle.rb_base.specs.Nodes.{side_of, Side};
 ghost use Rattle.rb_rules.specs.Links.{same_node};
-ghost use Rattle.rb_rules.specs.WorldStep.{Timed, World as RunWorld};
+ghost use Rattle.rb_rules.specs.WorldStep.{World as RunWorld, Timed};
 ghost use Rattle.rb_world_book.specs.declared.turn.Turn.{Turn};
 ghost use Rattle.rb_world.specs.Runs.{nodes_of};
-ghost use Rattle.rb_world.specs.Sites.{KeptSite};
-ghost use Rattle.rb_world.specs.Observing.{AlongTold, ComesTold, ToldToRecord, WasTold, alone_for};
-ghost use Rattle.rb_world.specs.Trailing.{Along, BehindTick, Comes, ComesToRecord, GoesToTick, MayRun, MayTakeFirst, MayTickFirst, TakesFirst, TakesFirstAt, until_from};
+ghost use Rattle.rb_world.specs.Trailing.{MayRun, BehindTick};
 ghost use Rattle.rb_world.specs.Unstamped.{EndsExactly, MayTakeExactly};
+ghost use Rattle.rb_world.specs.Calls.{CanStepOn, CanTakeOwn, CanTickFirst, RunsToRecord, StepsOn, TakesExactly, TakesFirstOf, TakesOwn, TicksFirst};
+ghost use Rattle.rb_world.specs.Telling.{TellsFirst, TellsOwn, TellsRun, TellsStep};
+ghost use Rattle.rb_rules.specs.Book.{Each};
+ghost use Rattle.rb_world.specs.Sites.{KeptSite};
 
 use crate::Site;
 use crate::bus::Bus;
@@ -24,17 +25,20 @@ use rb_base::{Kind, NodeName};
 use rb_port::Apps;
 use rb_world_book::{Turn, Way};
 
-// Whether the node, which is not the one that is observed, may take in unstamped what came to it before its next tick: that ends a window
-// of a slot before the sync slot, and gives the same for any stamps.
+// Whether the node, which is not the one that is observed, may take in unstamped what came to it
+// before its next tick: that ends a window of a slot before the sync slot, and gives the same for
+// any stamps.
 #[inline(always)]
 fn needs_no_stamps<K: Kind>(node: NodeName, observed: Option<NodeName>, site: &Site<K>) -> bool
-    ensures other { IsTrue result → (name : NodeName) → observed ≡ Some name → same_node node name ≡ false }
+    ensures other { IsTrue result → (name : NodeName) → observed ≡ Some name
+        → same_node node name ≡ false }
     ensures ends { IsTrue result → EndsExactly (side_of K.CODE) site.now.node }
 {
     !is_observed(observed, node) && site.node().ends_exact_window()
 }
 
-// Node `i` of the kind takes its tick, which comes at this time and needs no stamps. What came to it up to then is taken in first.
+// Node `i` of the kind takes its tick, which comes at this time and needs no stamps. What came to
+// it up to then is taken in first.
 #[inline(always)]
 fn take_exact_tick<K: Kind>(
     bus: &Bus,
@@ -45,18 +49,18 @@ fn take_exact_tick<K: Kind>(
     scene: &mut Scene,
 )
     requires small { time < 18446744073709551615 }
-    requires may { (kept : Each KeptSite) × (until : Side → ℕ → ℕ) × (w : RunWorld) × (v : RunWorld) × (a : Timed) × (own : List KeptSite)
+    requires may { (kept : Each KeptSite) × (until : Side → ℕ → ℕ) × (w : RunWorld)
+        × (v : RunWorld) × (a : Timed) × (own : List KeptSite)
         × MayTakeExactly bus.now kept scene.old until w v (side_of K.CODE) i a time own site.old }
-    ensures takes { (kept : Each KeptSite) (until : Side → ℕ → ℕ) (w v : RunWorld) (a : Timed) (own : List KeptSite)
-        → MayTakeExactly bus.now kept scene.old until w v (side_of K.CODE) i a time own site.old
-        → TakesFirst bus.now v (side_of K.CODE) i a (slice_set own i site.new) (of_kind (other (side_of K.CODE)) kept) scene.new }
+    ensures takes { TakesExactly bus.now (side_of K.CODE) i time
+        site.old site.new scene.old scene.new }
 {
     take_in_all(name_of::<K>(i), time + 1, site, &mut scene.agenda);
     tick_at(bus, apps, i, site, scene)
 }
 
-// Node `i` of the kind is swept up to its tick, which comes at this time, and takes it. If it is the node that is observed, it is told first
-// what the node is given.
+// Node `i` of the kind is swept up to its tick, which comes at this time, and takes it. If it is
+// the node that is observed, it is told first what the node is given.
 #[inline(always)]
 fn take_tick<K: Kind, T: Observer>(
     setup: &Setup<'_>,
@@ -68,15 +72,11 @@ fn take_tick<K: Kind, T: Observer>(
 )
     requires within { i < length sites.old.items }
     requires small { time < 18446744073709551615 }
-    requires may { (kept : Each KeptSite) × (until : Side → ℕ → ℕ) × (w : RunWorld) × (v : RunWorld) × (a : Timed)
-        × MayTakeFirst setup.now.bus.now kept scene.old until w v (side_of K.CODE) i a time sites.old.items }
-    ensures takes { (kept : Each KeptSite) (until : Side → ℕ → ℕ) (w v : RunWorld) (a : Timed)
-        → MayTakeFirst setup.now.bus.now kept scene.old until w v (side_of K.CODE) i a time sites.old.items
-        → TakesFirst setup.now.bus.now v (side_of K.CODE) i a sites.new.items (of_kind (other (side_of K.CODE)) kept) scene.new }
-    ensures told { (name : NodeName) → setup.now.observed ≡ Some name
-        → (kept : Each KeptSite) (until : Side → ℕ → ℕ) (w v : RunWorld) (a : Timed)
-        → MayTakeFirst setup.now.bus.now kept scene.old until w v (side_of K.CODE) i a time sites.old.items
-        → WasTold T T.observes observer.old (alone_for setup.now.bus.now v (side_of K.CODE) i a name) observer.new }
+    requires may { CanTakeOwn setup.now.bus.now (side_of K.CODE) i time sites.old.items scene.old }
+    ensures takes { TakesOwn setup.now.bus.now (side_of K.CODE) i time
+        sites.old.items sites.new.items scene.old scene.new }
+    ensures told { TellsOwn T T.observes setup.now.bus.now setup.now.observed (side_of K.CODE) i
+        time sites.old.items scene.old observer.old observer.new }
 {
     let node = name_of::<K>(i);
     let site = &mut sites[usize::from(i)];
@@ -92,15 +92,12 @@ fn take_tick<K: Kind, T: Observer>(
 // The first tick of all is taken at its node. Before it the node is swept.
 #[inline(always)]
 fn take_first<T: Observer>(setup: &Setup<'_>, run: &mut Run, observer: &mut T) -> (NodeName, u64)
-    requires may { (until : Side → ℕ → ℕ) × (w : RunWorld) × (v : RunWorld) × (me : Side) × (i : ℕ) × (a : Timed)
+    requires may { (until : Side → ℕ → ℕ) × (w : RunWorld) × (v : RunWorld) × (me : Side) × (i : ℕ)
+        × (a : Timed)
         × BehindTick setup.now.bus.now (nodes_of run.old) run.old.scene until w v me i a }
-    ensures happens { (until : Side → ℕ → ℕ) (w v : RunWorld) (me : Side) (i : ℕ) (a : Timed)
-        → BehindTick setup.now.bus.now (nodes_of run.old) run.old.scene until w v me i a
-        → TakesFirstAt setup.now.bus.now (nodes_of run.new) run.new.scene v me i a result.0 result.1 }
-    ensures told { (name : NodeName) → setup.now.observed ≡ Some name
-        → (until : Side → ℕ → ℕ) (w v : RunWorld) (me : Side) (i : ℕ) (a : Timed)
-        → BehindTick setup.now.bus.now (nodes_of run.old) run.old.scene until w v me i a
-        → WasTold T T.observes observer.old (alone_for setup.now.bus.now v me i a name) observer.new }
+    ensures happens { TakesFirstOf setup.now.bus.now run.old run.new result }
+    ensures told { TellsFirst T T.observes setup.now.bus.now setup.now.observed run.old
+        observer.old observer.new }
 {
     let (node, time) = run.scene.agenda.first_tick();
     match node {
@@ -119,16 +116,11 @@ fn tick_first<T: Observer>(
     observer: &mut T,
 ) -> (NodeName, u64)
     requires quiet { turn.old ≡ Turn.Quiet }
-    requires may { (until : Side → ℕ → ℕ) × (w : RunWorld) × (v : RunWorld)
-        × MayTickFirst setup.now.bus.now (nodes_of run.old) run.old.scene until w v }
-    ensures goes { (until : Side → ℕ → ℕ) (w v : RunWorld)
-        → MayTickFirst setup.now.bus.now (nodes_of run.old) run.old.scene until w v
-        → GoesToTick setup.now.bus.now (nodes_of run.new) run.new.scene until v result.0 result.1 turn.new }
+    requires may { CanTickFirst setup.now.bus.now run.old }
+    ensures goes { TicksFirst setup.now.bus.now run.old run.new result turn.new }
     ensures small { result.1 < 18446744073709551615 }
-    ensures told { (name : NodeName) → setup.now.observed ≡ Some name
-        → (until : Side → ℕ → ℕ) (w v : RunWorld) (me : Side) (i : ℕ) (a : Timed)
-        → BehindTick setup.now.bus.now (nodes_of run.old) run.old.scene until w v me i a
-        → WasTold T T.observes observer.old (alone_for setup.now.bus.now v me i a name) observer.new }
+    ensures told { TellsFirst T T.observes setup.now.bus.now setup.now.observed run.old
+        observer.old observer.new }
 {
     let (node, time) = take_first(setup, run, observer);
     run.scene.book.settle_into(Way::ByAnEvent, turn);
@@ -146,16 +138,11 @@ fn step_on<T: Observer>(
 )
     requires quiet { turn.old ≡ Turn.Quiet }
     requires small { IfSome tick.old (λ t. t.1 < 18446744073709551615) }
-    requires may { (n : ℕ) × (w : RunWorld) × (d : ℕ)
-        × Along setup.now.bus.now (nodes_of run.old) run.old.scene (until_from tick.old) n w d }
-    ensures comes { (n : ℕ) (w : RunWorld) (d : ℕ)
-        → Along setup.now.bus.now (nodes_of run.old) run.old.scene (until_from tick.old) n w d
-        → Comes setup.now.bus.now (nodes_of run.new) run.new.scene (until_from tick.new) n w d turn.new }
+    requires may { CanStepOn setup.now.bus.now tick.old run.old }
+    ensures comes { StepsOn setup.now.bus.now tick.old tick.new run.old run.new turn.new }
     ensures small { IfSome tick.new (λ t. t.1 < 18446744073709551615) }
-    ensures told { (name : NodeName) → setup.now.observed ≡ Some name
-        → IsNodeOf setup.now.bus.now.sizes name → (a : T) (n : ℕ) (w : RunWorld) (d : ℕ)
-        → AlongTold T T.observes name a observer.old setup.now.bus.now (nodes_of run.old) run.old.scene (until_from tick.old) n w d
-        → ComesTold T T.observes name a observer.new setup.now.bus.now (nodes_of run.new) run.new.scene (until_from tick.new) n w d turn.new }
+    ensures told { TellsStep T T.observes setup.now.bus.now setup.now.observed tick.old tick.new
+        run.old run.new turn.new observer.old observer.new }
 {
     if run.scene.book.needs_no_event() {
         run.scene.book.settle_into(Way::ByItself, turn);
@@ -164,8 +151,8 @@ fn step_on<T: Observer>(
     *tick = Some(tick_first(setup, run, turn, observer));
 }
 
-/// Takes the run from tick to tick up to its next record. Before that it has not ended. A run has fewer than 2^64 - 1 events. What the node
-/// that is observed is given up to there is told.
+/// Takes the run from tick to tick up to its next record. Before that it has not ended. A run has
+/// fewer than 2^64 - 1 events. What the node that is observed is given up to there is told.
 #[inline(always)]
 pub(crate) fn run_ticks<T: Observer>(
     setup: &Setup<'_>,
@@ -175,12 +162,9 @@ pub(crate) fn run_ticks<T: Observer>(
 )
     requires quiet { turn.old ≡ Turn.Quiet }
     requires may { (w : RunWorld) × MayRun setup.now.bus.now (nodes_of run.old) run.old.scene w }
-    ensures comes { (w : RunWorld) (d : ℕ) → MayRun setup.now.bus.now (nodes_of run.old) run.old.scene w
-        → ComesToRecord setup.now.bus.now (nodes_of run.new) run.new.scene turn.new w d }
-    ensures told { (name : NodeName) → setup.now.observed ≡ Some name
-        → IsNodeOf setup.now.bus.now.sizes name → (w : RunWorld) (d : ℕ)
-        → MayRun setup.now.bus.now (nodes_of run.old) run.old.scene w
-        → ToldToRecord T T.observes name observer.old observer.new setup.now.bus.now (nodes_of run.new) run.new.scene turn.new w d }
+    ensures comes { RunsToRecord setup.now.bus.now run.old run.new turn.new }
+    ensures told { TellsRun T T.observes setup.now.bus.now setup.now.observed run.old run.new
+        turn.new observer.old observer.new }
 {
     let mut tick = None;
     for passed in 0..u64::MAX {

@@ -5,8 +5,8 @@ use crate::run::Run;
 use crate::ties::Seeding;
 use std::marker::Model;
 
-/// All nodes of a bus, with what is pending at each: a run of a scenario, event by event. It stands for a world of the definitions
-/// that some choices lead to.
+/// All nodes of a bus, with what is pending at each: a run of a scenario, event by event. It stands
+/// for a world of the definitions that some choices lead to.
 #[derive(Drop)]
 pub struct World {
     pub(crate) bus: Bus,
