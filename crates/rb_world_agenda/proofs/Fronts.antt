@@ -1,20 +1,11 @@
 -- The place of the least of the keys.
-use Rattle.std.proofs.Common.{◌≡◌, ◌≢◌, ℕ, zero, suc, ◌+◌, ◌<◌, ◌≤◌, ◌==◌, ◌&&◌, ◌⊎◌, nat_lt, min, Bool, true, false, List, [], ◌∷◌, length, take, set, get_or, if◌then◌else◌, refl, sym, ap, ◌∙◌, subst, arith, inl, inr}
+use Rattle.std.proofs.Common.{◌≡◌, ℕ, zero, suc, ◌+◌, ◌<◌, ◌≤◌, nat_lt, Bool, true, false, List, [], ◌∷◌, length, take, get_or, if◌then◌else◌, refl, sym, ap, ◌∙◌, subst, arith, inl, inr}
 use Rattle.std.proofs.lemmas.Bool.{cases_lt}
 use Rattle.std.proofs.lemmas.Bool.Decides.{nat_tests}
-use Rattle.std.proofs.lemmas.List.{get_or-set_other, get_or-set_same, length-set}
-use Rattle.rb_rules.specs.Book.{Each, in_order}
-use Rattle.rb_queue.specs.Waiting.{Held, Ready, lane_of, ready_of}
 use Rattle.rb_world_agenda.specs.declared.scan.Front.{Front}
-use Rattle.rb_world_agenda.specs.Agenda.{AreKept, StandsAt, due_count, due_in, key_of, least_key, node_at}
-use Rattle.rb_world_agenda.specs.Fronts.{IsFront, lowered}
-use Rattle.rb_world_agenda.proofs.Scans.{count-more, is-here, least-more}
-
-same-or-not : (k n : ℕ) → (k ≡ n) ⊎ (k ≢ n)
-same-or-not k n = elim (cases_lt k n) [
-  | inl less ↦ inr (λ same. absurd (omega (arith, less, same)))
-  | inr ge ↦ elim (cases_lt n k) [ inl more ↦ inr (λ same. absurd (omega (arith, more, same))) | inr le ↦ inl (omega (arith, ge, le)) ]
-]
+use Rattle.rb_world_agenda.specs.Agenda.{least_key}
+use Rattle.rb_world_agenda.specs.Fronts.{IsFront}
+use Rattle.rb_world_agenda.proofs.Scans.{least-more}
 
 -- ---- the least key
 
@@ -23,12 +14,6 @@ unfolding least_key
 least-low [] k h = absurd (omega arith)
 least-low (x ∷ xs) zero h = omega arith
 least-low (x ∷ xs) (suc k) h = omega (arith, least-low xs k (omega arith))
-
-least-lower : (keys : List ℕ) (place key : ℕ) → place < length keys → key ≤ get_or keys place 0 → least_key (set keys place key) ≡ min key (least_key keys)
-unfolding least_key
-least-lower [] place key h low = absurd (omega arith)
-least-lower (x ∷ xs) zero key h low = omega (arith, low)
-least-lower (x ∷ xs) (suc place) key h low = omega (arith, least-lower xs place key (omega arith) low)
 
 -- ---- looking through the keys
 
@@ -94,79 +79,7 @@ front-all keys i front all is = record {
   before = is.before;
 }
 
--- ---- a key becomes no greater
-
-pub front-lowered : (keys : List ℕ) (place key : ℕ) (front : Front) → place < length keys → key ≤ get_or keys place 0 → IsFront keys front
-    → IsFront (set keys place key) (lowered front place key)
-front-lowered keys place key front h low is = go (nat_lt key front.least) refl ((key == front.least) && nat_lt place front.first) refl
-  where
-    least : least_key (set keys place key) ≡ min key (least_key keys)
-    least = least-lower keys place key h low
-
-    other : (k : ℕ) → k ≢ place → get_or (set keys place key) k 0 ≡ get_or keys k 0
-    other k apart = get_or-set_other keys place k key 0 apart
-
-    itself : get_or (set keys place key) place 0 ≡ key
-    itself = get_or-set_same keys place key 0 h
-
-    long : length (set keys place key) ≡ length keys
-    long = length-set keys place key
-
-    stays : front.least ≤ key → (front.first < length keys) × (get_or keys front.first 0 ≡ front.least)
-        → (front.first < length (set keys place key)) × (get_or (set keys place key) front.first 0 ≡ front.least)
-    stays most at =
-        let first = at.0 in
-        let value = at.1 in (
-          omega (arith, first, long),
-          elim (same-or-not front.first place) [
-            | inl same ↦
-                let there : get_or keys place 0 ≡ front.least = ap (λ k. get_or keys k 0) (sym same) ∙ value in
-                ap (λ k. get_or (set keys place key) k 0) same ∙ itself ∙ omega (arith, most, low, there)
-            | inr apart ↦ other front.first apart ∙ value
-          ],
-        )
-
-    go : (b : Bool) → nat_lt key front.least ≡ b → (c : Bool) → ((key == front.least) && nat_lt place front.first) ≡ c
-        → IsFront (set keys place key) (if b then record { first = place; least = key } else (if c then record { first = place; least = key } else front))
-    go true e c f =
-        let less : key < front.least = grind (arith, nat_tests) in
-        record {
-          least_is = omega (arith, less, is.least_is, least);
-          there = λ some. (omega (arith, h, long), itself);
-          before = λ k below.
-              let apart : k ≢ place = λ same. absurd (omega (arith, same, below)) in
-              omega (arith, less, is.least_is, least-low keys k (omega (arith, below, h)), other k apart);
-        }
-    go false e true f =
-        let most : front.least ≤ key = grind (arith, nat_tests) in
-        let same : key ≡ front.least = grind (arith, nat_tests) in
-        let sooner : place < front.first = grind (arith, nat_tests) in
-        record {
-          least_is = omega (arith, same, is.least_is, least);
-          there = λ some. (omega (arith, h, long), itself);
-          before = λ k below.
-              let apart : k ≢ place = λ same. absurd (omega (arith, same, below)) in
-              omega (arith, same, is.before k (omega (arith, below, sooner)), other k apart);
-        }
-    go false e false f =
-        let most : front.least ≤ key = grind (arith, nat_tests) in
-        let at : place < front.first → front.least < key = λ sooner. grind (arith, nat_tests) in
-        record {
-          least_is = omega (arith, most, is.least_is, least);
-          there = λ some. stays most (is.there some);
-          before = λ k below.
-              elim (cases_lt k place) [
-                | inl less ↦ let apart : k ≢ place = λ same. absurd (omega (arith, same, less)) in omega (arith, is.before k below, other k apart)
-                | inr ge ↦ elim (cases_lt place k) [
-                  | inl more ↦ let apart : k ≢ place = λ same. absurd (omega (arith, same, more)) in omega (arith, is.before k below, other k apart)
-                  | inr le ↦
-                      let same : place ≡ k = omega (arith, ge, le) in
-                      subst (λ k. front.least < get_or (set keys place key) k 0) same (omega (arith, itself, at (omega (arith, same, below))))
-                ]
-              ];
-        }
-
--- ---- a key becomes greater, and stands elsewhere
+-- ---- bounds
 
 pub least-most : (keys : List ℕ) → least_key keys ≤ 18446744073709551615
 unfolding least_key
@@ -181,92 +94,3 @@ least-above (x ∷ xs) m small above =
     let head : m ≤ x = above 0 (omega arith) in
     let rest = least-above xs m small (λ k h. above (suc k) (omega (arith, h))) in
     omega (arith, head, rest)
-
-pub front-raised : (keys : List ℕ) (place key : ℕ) (front : Front) → place < length keys → get_or keys place 0 < key → place ≢ front.first → IsFront keys front
-    → IsFront (set keys place key) front
-front-raised keys place key front h up apart is = record {
-  least_is = elim (cases_lt front.least 18446744073709551615) [
-    | inl some ↦
-        let at = now (is.there some) in
-        let below = least-low (set keys place key) front.first at.0 in
-        let value = at.1 in
-        omega (arith, below, value, above)
-    | inr all ↦ omega (arith, all, above, least-most (set keys place key), small)
-  ];
-  there = λ some. now (is.there some);
-  before = λ k below. elim (same-or-not k place) [
-    | inl same ↦
-        let lower : front.least < get_or keys k 0 = is.before k below in
-        let value : get_or (set keys place key) k 0 ≡ key = ap (λ k. get_or (set keys place key) k 0) same ∙ itself in
-        let old : get_or keys k 0 ≡ get_or keys place 0 = ap (λ k. get_or keys k 0) same in
-        omega (arith, lower, value, old, up)
-    | inr not ↦ omega (arith, is.before k below, other k not)
-  ];
-}
-  where
-    other : (k : ℕ) → k ≢ place → get_or (set keys place key) k 0 ≡ get_or keys k 0
-    other k not = get_or-set_other keys place k key 0 not
-
-    itself : get_or (set keys place key) place 0 ≡ key
-    itself = get_or-set_same keys place key 0 h
-
-    long : length (set keys place key) ≡ length keys
-    long = length-set keys place key
-
-    small : front.least ≤ 18446744073709551615
-    small = let most = least-most keys in let same = is.least_is in omega (arith, most, same)
-
-    now : (front.first < length keys) × (get_or keys front.first 0 ≡ front.least)
-        → (front.first < length (set keys place key)) × (get_or (set keys place key) front.first 0 ≡ front.least)
-    now at = let first = at.0 in (omega (arith, first, long), other front.first (λ same. apart (sym same)) ∙ at.1)
-
-    above : front.least ≤ least_key (set keys place key)
-    above = least-above (set keys place key) front.least small (λ k below. elim (same-or-not k place) [
-      | inl same ↦
-          let value : get_or (set keys place key) k 0 ≡ key = ap (λ k. get_or (set keys place key) k 0) same ∙ itself in
-          let least = is.least_is in
-          omega (arith, value, up, least-low keys place h, least)
-      | inr not ↦
-          let within : k < length keys = omega (arith, below, long) in
-          let least = is.least_is in
-          omega (arith, other k not, least-low keys k within, least)
-    ])
-
--- ---- what is due first
-
-not-due : (t : ℕ) (l : Held) → (key_of l == t) ≡ false → length (due_in t l) ≡ 0
-not-due t l e = ap (λ b. length (elim b as (λ _. List Ready) [ true ↦ ready_of l | false ↦ [] ])) e
-
--- nothing is due before the front
-none-before : (lanes : Each Held) (keys : List ℕ) (bius : ℕ) (front : Front) → AreKept lanes keys bius → IsFront keys front → front.first ≤ length keys
-    → (p : ℕ) → p ≤ front.first → due_count front.least (take p (in_order lanes)) ≡ 0
-unfolding due_count
-none-before lanes keys bius front kept is within zero below = refl
-none-before lanes keys bius front kept is within (suc p) below =
-    let here = is-here lanes keys bius p kept (omega (arith, below, within)) in
-    let later : front.least < get_or keys p 0 = is.before p (omega (arith, below)) in
-    let l : Held = lane_of lanes (node_at bius p) in
-    let key : get_or keys p 0 ≡ key_of l = here.key in
-    let other : (key_of l == front.least) ≡ false = grind (arith, nat_tests) in
-    let more = count-more lanes bius p (get_or keys p 0) front.least here in
-    let before = none-before lanes keys bius front kept is within p (omega (arith, below)) in
-    ap (λ n. due_count front.least (take n (in_order lanes))) (let e : suc p ≡ p + 1 = omega arith in e)
-    ∙ omega (arith, more, before, not-due front.least l other)
-
--- what is ready at the front is due first
-pub stands-first : (lanes : Each Held) (keys : List ℕ) (bius : ℕ) (front : Front) → AreKept lanes keys bius → IsFront keys front → front.first < length keys
-    → get_or keys front.first 0 ≡ front.least → 0 < length (ready_of (lane_of lanes (node_at bius front.first)))
-    → StandsAt lanes front.least 0 (node_at bius front.first) 0
-stands-first lanes keys bius front kept is within least ready =
-    let here = is-here lanes keys bius front.first kept within in
-    let l : Held = lane_of lanes (node_at bius front.first) in
-    let key : get_or keys front.first 0 ≡ key_of l = here.key in
-    record {
-      position = front.first;
-      within = here.within;
-      node = ap (λ b. node_at b front.first) kept.few.split;
-      lane = here.lane;
-      first = grind (arith, nat_tests);
-      ready = ready;
-      before = omega (arith, none-before lanes keys bius front kept is (omega (arith, within)) front.first (omega arith));
-    }

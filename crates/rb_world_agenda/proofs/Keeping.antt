@@ -3,8 +3,8 @@ use Rattle.std.proofs.Common.{◌≡◌, ℕ, zero, suc, ◌+◌, ◌-◌, ◌<�
 use Rattle.std.specs.Prelude.{unwrap_or, slice_set}
 use Rattle.std.proofs.Math.ListN.{replicate}
 use Rattle.std.proofs.lemmas.Bool.Decides.{nat_tests}
-use Rattle.std.proofs.lemmas.List.{length-map, length-set, map-append, map-set, set-append_left, set-append_right}
-use Rattle.std.proofs.lemmas.List.Elements.{All-cons, All-nil, All-replicate, All-set, All-head, All-tail}
+use Rattle.std.proofs.lemmas.List.{length-map, length-set, map-append, set-append_left, set-append_right}
+use Rattle.std.proofs.lemmas.List.Elements.{All-cons, All-nil, All-set, All-head, All-tail}
 use Rattle.std.proofs.lemmas.List.FromFn.{length-range_with_len}
 use Rattle.rb_base.specs.Counting.{numbers}
 use Rattle.rb_base.specs.Sizes.{IsShape, Sizes}
@@ -13,7 +13,7 @@ use Rattle.rb_base.specs.declared.node.NodeName.TheVariants as node
 use Rattle.rb_rules.specs.Book.{Each, each_of, in_order}
 use Rattle.rb_queue.specs.Waiting.{HasLane, Held, Ready, empty_lane, head_of, lane_of, ready_of, with_lane, without_found, without_ready}
 use Rattle.rb_queue.specs.Waiting.Ready.{Comes, Ticks}
-use Rattle.rb_world_agenda.specs.Agenda.{AreFew, AreKept, AreKeptUnless, key_of, keys_of, node_at, position_of}
+use Rattle.rb_world_agenda.specs.Agenda.{AreFew, key_of, keys_of, node_at, position_of}
 use Rattle.rb_world_agenda.proofs.Heads.{AreTimes, IsTime}
 
 -- A lane changes.
@@ -70,43 +70,6 @@ few-with lanes new bius name lane few h after room =
     many (node.Biu i) = (length-set lanes.bius i lane, refl)
     many (node.Rmu i) = (refl, length-set lanes.rmus i lane)
 
--- a lane changes, and its key with it
-kept-with : (lanes new : Each Held) (keys : List ℕ) (bius : ℕ) (name : NodeName) (lane : Held) (key : ℕ) → AreKept lanes keys bius → HasLane lanes name
-    → new ≡ with_lane name lane lanes → lane.room ≤ 65536 → key ≡ key_of (lane_of new name) → key ≤ 18446744073709551615
-    → AreKept new (slice_set keys (position_of bius name) key) bius
-kept-with lanes new keys bius name lane key kept h after room is small =
-    let changed : key ≡ key_of lane = is ∙ ap (λ x. key_of (lane_of x name)) after ∙ ap key_of (lane-with lanes name lane h) in
-    let order = order-with lanes new bius name lane kept.few.split h after in
-    record {
-      few = few-with lanes new bius name lane kept.few h after room;
-      each = ap (slice_set keys (position_of bius name)) changed ∙ ap (λ ks. slice_set ks (position_of bius name) (key_of lane)) kept.each
-          ∙ sym (map-set key_of (in_order lanes) (position_of bius name) lane) ∙ ap (map key_of) (sym order);
-      small = All-set (λ k. k ≤ 18446744073709551615) keys (position_of bius name) key small kept.small;
-    }
-
--- keys that are kept
-pub unless-kept : (stale : Bool) (lanes : Each Held) (keys : List ℕ) (bius : ℕ) → AreKept lanes keys bius → AreKeptUnless stale lanes keys bius
-unless-kept stale lanes keys bius kept = record { few = kept.few; many = ap length kept.each; kept = λ fresh. kept }
-
--- a lane changes, and the keys are stale
-pub stale-with : (stale : Bool) (lanes new : Each Held) (keys : List ℕ) (bius : ℕ) (name : NodeName) (lane : Held) → AreKeptUnless stale lanes keys bius → HasLane lanes name
-    → new ≡ with_lane name lane lanes → lane.room ≤ 65536 → AreKeptUnless true new keys bius
-stale-with stale lanes new keys bius name lane unless h after room = record {
-  few = few-with lanes new bius name lane unless.few h after room;
-  many = unless.many ∙ many-with lanes new bius name lane unless.few.split h after;
-  kept = λ fresh. absurd (let never : true ≡ false = fresh in cc);
-}
-
--- a lane changes, and its key with it unless it is stale
-pub fresh-with : (stale : Bool) (lanes new : Each Held) (keys : List ℕ) (bius position : ℕ) (name : NodeName) (lane : Held) (key : ℕ) → position ≡ position_of bius name
-    → AreKeptUnless stale lanes keys bius → HasLane lanes name → new ≡ with_lane name lane lanes → lane.room ≤ 65536 → key ≡ key_of (lane_of new name)
-    → key ≤ 18446744073709551615 → AreKeptUnless stale new (slice_set keys position key) bius
-fresh-with stale lanes new keys bius position name lane key at unless h after room is small = record {
-  few = few-with lanes new bius name lane unless.few h after room;
-  many = length-set keys position key ∙ unless.many ∙ many-with lanes new bius name lane unless.few.split h after;
-  kept = λ fresh. subst (λ p. AreKept new (slice_set keys p key) bius) (sym at) (kept-with lanes new keys bius name lane key (unless.kept fresh) h after room is small);
-}
-
 -- the lane at a position
 pub lane-at : (lanes : Each Held) (bius position : ℕ) → bius ≡ length lanes.bius → position < length (in_order lanes)
     → HasLane lanes (node_at bius position) × (slice_get (in_order lanes) position ≡ Some (lane_of lanes (node_at bius position)))
@@ -162,8 +125,8 @@ pub room-of : (lanes : Each Held) (bius : ℕ) (name : NodeName) → AreFew lane
 room-of lanes bius name few h = holds-of (λ l. l.room ≤ 65536) lanes name few.short h
 
 -- the keys of all lanes are times
-times-of : (ls : List Held) (keys : List ℕ) → keys ≡ map key_of ls → All (λ k. k ≤ 18446744073709551615) keys → AreTimes ls
-times-of ls keys is all = go ls (subst (All (λ k. k ≤ 18446744073709551615)) is all)
+pub times-of : (lanes : Each Held) → All (λ k. k ≤ 18446744073709551615) (keys_of lanes) → AreTimes (in_order lanes)
+times-of lanes all = go (in_order lanes) all
   where
     one : (o : Option ℕ) → unwrap_or o 18446744073709551615 ≤ 18446744073709551615 → IsTime o
     one None h = tt
@@ -174,41 +137,35 @@ times-of ls keys is all = go ls (subst (All (λ k. k ≤ 18446744073709551615)) 
     go (l ∷ ls) all =
         (one (head_of l) (All-head (λ k. k ≤ 18446744073709551615) (key_of l) (map key_of ls) all), go ls (All-tail (λ k. k ≤ 18446744073709551615) (key_of l) (map key_of ls) all))
 
-pub kept-times : (lanes : Each Held) (keys : List ℕ) (bius : ℕ) → AreKept lanes keys bius → AreTimes (in_order lanes)
-kept-times lanes keys bius kept = times-of (in_order lanes) keys kept.each kept.small
-
 -- At first.
 pub map-const : {X Y : Type 0} (f : Y → ℕ) (y : Y) (k : ℕ) (xs : List X) → f y ≡ k → map f (map (λ _. y) xs) ≡ replicate (length xs) k
 map-const f y k [] e = refl
 map-const f y k (x ∷ xs) e = ap (λ a. a ∷ map f (map (λ _. y) xs)) e ∙ ap (λ l. k ∷ l) (map-const f y k xs e)
 
-pub kept-empty : (sizes : Sizes) (lanes : Each Held) (keys : List ℕ) (room bius n : ℕ) → IsShape sizes → room ≤ 65536 → bius ≡ sizes.bius → n ≡ bius + sizes.rmus
-    → keys ≡ replicate n 18446744073709551615 → lanes ≡ each_of sizes (λ side i. empty_lane room) → AreKept lanes keys bius
-kept-empty sizes lanes keys room bius n shape small split all are is =
+pub few-empty : (sizes : Sizes) (lanes : Each Held) (room bius n : ℕ) → IsShape sizes → room ≤ 65536 → bius ≡ sizes.bius → n ≡ bius + sizes.rmus
+    → lanes ≡ each_of sizes (λ side i. empty_lane room) → AreFew lanes bius × (n ≡ length (keys_of lanes))
+few-empty sizes lanes room bius n shape small split all is =
     let l : Held = empty_lane room in
     let b : List Held = map (λ _. l) (numbers sizes.bius) in
     let r : List Held = map (λ _. l) (numbers sizes.rmus) in
     let lb : length b ≡ sizes.bius = length-map (numbers sizes.bius) (λ _. l) ∙ length-range_with_len 0 sizes.bius in
     let lr : length r ≡ sizes.rmus = length-map (numbers sizes.rmus) (λ _. l) ∙ length-range_with_len 0 sizes.rmus in
     let both : b ++ r ≡ map (λ _. l) (numbers sizes.bius ++ numbers sizes.rmus) = sym (map-append (λ _. l) (numbers sizes.bius) (numbers sizes.rmus)) in
-    let long : length (numbers sizes.bius ++ numbers sizes.rmus) ≡ n =
-    length-append (numbers sizes.bius) (numbers sizes.rmus) ∙ omega (arith, length-range_with_len 0 sizes.bius, length-range_with_len 0 sizes.rmus) in
     let order : in_order lanes ≡ map (λ _. l) (numbers sizes.bius ++ numbers sizes.rmus) = ap in_order is ∙ both in
     let most_bius : sizes.bius ≤ 16 = shape.most_bius in
     let most_rmus : sizes.rmus ≤ 16 = shape.most_rmus in
     let bius_are : length lanes.bius ≡ length b = ap (λ x. length x.bius) is in
     let rmus_are : length lanes.rmus ≡ length r = ap (λ x. length x.rmus) is in
-    record {
-      few = record {
+    let keys : length (keys_of lanes) ≡ length (in_order lanes) = length-map (in_order lanes) key_of in
+    let long : length (in_order lanes) ≡ length lanes.bius + length lanes.rmus = length-append lanes.bius lanes.rmus in (
+      record {
         split = split ∙ omega arith;
         few_bius = omega arith;
         few_rmus = omega arith;
         short = subst (All (λ l. l.room ≤ 65536)) (sym order) (all-const (numbers sizes.bius ++ numbers sizes.rmus));
-      };
-      each = are ∙ ap (λ n. replicate n 18446744073709551615) (sym long)
-          ∙ sym (map-const key_of l 18446744073709551615 (numbers sizes.bius ++ numbers sizes.rmus) refl) ∙ ap (map key_of) (sym order);
-      small = subst (All (λ k. k ≤ 18446744073709551615)) (sym are) (All-replicate (λ k. k ≤ 18446744073709551615) n 18446744073709551615 (omega arith));
-    }
+      },
+      omega (arith, keys, long, lb, lr, bius_are, rmus_are, split, all),
+    )
   where
     all-const : (xs : List ℕ) → All (λ l. l.room ≤ 65536) (map (λ _. empty_lane room) xs)
     all-const [] = All-nil (λ l. l.room ≤ 65536)
@@ -222,8 +179,3 @@ room-without place lane h = go (slice_get (ready_of lane) place)
     go None = h
     go (Some (Comes n c)) = h
     go (Some Ticks) = h
-
--- the keys are stale once a place is kept of the marks
-pub stale-there : (stale : Bool) (at place : ℕ) → (stale ≡ false → at ≡ 32) → place ≡ at → place < 32 → stale ≡ true
-stale-there true at place fresh is few = refl
-stale-there false at place fresh is few = absurd (let none : at ≡ 32 = fresh refl in omega (arith, none, is, few))

@@ -11,4 +11,3 @@ pub mod Changes
 pub mod Taking
 pub mod Marks
 pub mod Ticks
-pub mod Known

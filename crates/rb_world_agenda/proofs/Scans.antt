@@ -1,13 +1,12 @@
 -- The least times are looked through, one node after the other.
-use Rattle.std.proofs.Common.{◌≡◌, ℕ, ◌+◌, ◌<◌, ◌≤◌, ◌==◌, min, Bool, true, false, Some, List, [], ◌∷◌, ◌++◌, length, take, get_or, slice_get, refl, sym, ap, ◌∙◌, arith, subst, length-append}
+use Rattle.std.proofs.Common.{◌≡◌, ℕ, ◌+◌, ◌<◌, ◌≤◌, ◌==◌, min, Bool, true, false, Some, List, [], ◌∷◌, ◌++◌, length, take, get_or, slice_get, refl, sym, ap, ◌∙◌, arith, length-append}
 use Rattle.std.specs.Prelude.{unwrap_or}
-use Rattle.std.proofs.lemmas.List.{length-map, get_or-map, take_more}
+use Rattle.std.proofs.lemmas.List.{length-map, get_or-map, take_all, take_more}
 use Rattle.std.proofs.lemmas.Option.{unwrap_or-slice_get}
 use Rattle.rb_base.specs.declared.node.NodeName.{NodeName}
-use Rattle.rb_base.proofs.Plain.{take-all}
 use Rattle.rb_rules.specs.Book.{Each, in_order}
 use Rattle.rb_queue.specs.Waiting.{HasLane, Held, Ready, empty_lane, lane_of, ready_of}
-use Rattle.rb_world_agenda.specs.Agenda.{AreFew, AreKept, StandsAt, due_count, due_in, key_of, keys_of, least_key, node_at}
+use Rattle.rb_world_agenda.specs.Agenda.{AreFew, StandsAt, due_count, due_in, key_of, keys_of, least_key, node_at}
 use Rattle.rb_world_agenda.proofs.Dues.{count-append}
 use Rattle.rb_world_agenda.proofs.Keeping.{lane-at, room-of}
 
@@ -40,9 +39,6 @@ many-few lanes bius few =
     let r : length lanes.rmus ≤ 16 = few.few_rmus in
     (many, omega (arith, many, all, b, r))
 
-many-keys : (lanes : Each Held) (keys : List ℕ) (bius : ℕ) → AreKept lanes keys bius → length keys ≡ length (in_order lanes)
-many-keys lanes keys bius kept = ap length kept.each ∙ (many-few lanes bius kept.few).0
-
 pub few-here : (lanes : Each Held) (bius position : ℕ) → AreFew lanes bius → position < length (keys_of lanes) → IsHere lanes bius position (get_or (keys_of lanes) position 0)
 few-here lanes bius position few h =
     let many = many-few lanes bius few in
@@ -59,11 +55,6 @@ few-here lanes bius position few h =
       within = within;
       few = omega (arith, h, many.1);
     }
-
-pub is-here : (lanes : Each Held) (keys : List ℕ) (bius position : ℕ) → AreKept lanes keys bius → position < length keys
-    → IsHere lanes bius position (get_or keys position 0)
-is-here lanes keys bius position kept h =
-    subst (λ ks. IsHere lanes bius position (get_or ks position 0)) (sym kept.each) (few-here lanes bius position kept.few (subst (λ ks. position < length ks) kept.each h))
 
 one : (t : ℕ) (l : Held) → due_count t (l ∷ []) ≡ length (due_in t l)
 unfolding due_count
@@ -82,9 +73,11 @@ count-more lanes bius position key t here =
     ∙ ap (λ n. due_count t (take position (in_order lanes)) + n) (one t (lane_of lanes name))
 
 -- after the last
-pub count-all : (lanes : Each Held) (keys : List ℕ) (bius position t : ℕ) → AreKept lanes keys bius → position ≡ length keys
+pub count-all : (lanes : Each Held) (bius position t : ℕ) → AreFew lanes bius → length (keys_of lanes) ≤ position
     → due_count t (take position (in_order lanes)) ≡ due_count t (in_order lanes)
-count-all lanes keys bius position t kept last = ap (due_count t) (take-all (in_order lanes) position (last ∙ many-keys lanes keys bius kept))
+count-all lanes bius position t few last =
+    let many = (many-few lanes bius few).0 in
+    ap (due_count t) (take_all position (in_order lanes) (omega (arith, last, many)))
 
 in-due : (t : ℕ) (l : Held) (n : ℕ) → n < length (due_in t l) → ((key_of l == t) ≡ true) × (n < length (ready_of l))
 in-due t l n h = go (key_of l == t) refl h

@@ -21,7 +21,7 @@ use Rattle.rb_rules.specs.WorldStep.{Site, Timed}
 use Rattle.rb_queue.specs.Waiting.{HasLane, Held, Ready, empty_lane, event_with, kind_with, lane_of, ready_event, ready_of, tick_time_of, with_lane, without_events, without_found, without_ready}
 use Rattle.rb_queue.specs.Waiting.Ready.{Comes, Ticks}
 use Rattle.rb_world_agenda.specs.declared.scan.Front.{Front}
-use Rattle.rb_world_agenda.specs.Agenda.{AreFew, AreTicks, IsFirstAhead, filled, key_of, keys_of, mark_of, marks_from, node_at, position_of, tick_times, ticks_after}
+use Rattle.rb_world_agenda.specs.Agenda.{AreFew, AreTicks, IsFirstAhead, filled, mark_of, marks_from, node_at, position_of, tick_times, ticks_after}
 use Rattle.rb_world_agenda.specs.Fronts.{IsFront}
 use Rattle.rb_world_agenda.specs.Holding.{HoldsAll, HoldsSite, HoldsSites}
 use Rattle.rb_world_agenda.proofs.Fronts.{least-low}
@@ -77,14 +77,6 @@ tick-place lanes ticks bius name split kept h =
     ap (λ k. get_or (tick_times lanes) k 0) same ∙ get_or-map tick_time_of (in_order lanes) p (empty_lane 0) 0 within ∙ ap tick_time_of here.1 in
     ap (λ ts. get_or ts place 0) kept ∙ get_or_append_left ms rest 0 place (omega (arith, within, marks, long, same))
     ∙ mark-at (tick_times lanes) place (omega (arith, within, long, same)) ∙ ap (mark_of place) time
-
-pub place-within : (lanes : Each Held) (keys : List ℕ) (bius : ℕ) (name : NodeName) → AreFew lanes bius → length keys ≡ length (keys_of lanes) → HasLane lanes name
-    → position_of bius name < length keys
-place-within lanes keys bius name few long h =
-    let within = (name-lane lanes name h).0 in
-    let same : position_of bius name ≡ position_of (length lanes.bius) name = ap (λ b. position_of b name) few.split in
-    let many : length (keys_of lanes) ≡ length (in_order lanes) = length-map (in_order lanes) key_of in
-    omega (arith, within, same, many, long)
 
 -- the ticks stay where the lane's does
 pub ticks-same : (lanes new : Each Held) (ticks : List ℕ) (bius : ℕ) (name : NodeName) (lane : Held) → bius ≡ length lanes.bius → AreTicks lanes ticks → HasLane lanes name

@@ -111,26 +111,6 @@ pub record AreFew (lanes : Each Held) (bius : ℕ) : Type 0 where
 abbrev pub keys_of : Each Held → List ℕ
 keys_of lanes = map key_of (in_order lanes)
 
--- beside the lanes their least times are kept
-pub record AreKept (lanes : Each Held) (keys : List ℕ) (bius : ℕ) : Type 0 where
-  pub few : AreFew lanes bius
-  pub each : keys ≡ keys_of lanes
-  pub small : All (λ k. k ≤ 18446744073709551615) keys
-
--- they are, unless they are stale
-pub record AreKeptUnless (stale : Bool) (lanes : Each Held) (keys : List ℕ) (bius : ℕ) : Type 0 where
-  pub few : AreFew lanes bius
-  pub many : length keys ≡ length (keys_of lanes)
-  pub kept : stale ≡ false → AreKept lanes keys bius
-
--- what comes to a node is from senders with numbers of eight bits. Others are never ready
-abbrev pub IsKnown : Held → Type 0
-IsKnown lane = All (λ c. c.from ≤ 255) lane.arrivals
-
--- so at each node
-abbrev pub AreKnown : Each Held → Type 0
-AreKnown lanes = All IsKnown (in_order lanes)
-
 -- Ticks.
 
 -- the times of the ticks of all nodes

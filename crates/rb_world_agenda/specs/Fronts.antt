@@ -1,5 +1,5 @@
 -- At which place the least of the keys stands.
-use Rattle.std.specs.Prelude.{ℕ, ◌≡◌, ◌<◌, length, ◌==◌, ◌&&◌, nat_lt, List, get_or, if◌then◌else◌}
+use Rattle.std.specs.Prelude.{ℕ, ◌≡◌, ◌<◌, length, List, get_or}
 use Rattle.rb_world_agenda.specs.declared.scan.Front.{Front}
 use Rattle.rb_world_agenda.specs.Agenda.{least_key}
 
@@ -8,9 +8,3 @@ pub record IsFront (keys : List ℕ) (front : Front) : Type 0 where
   pub least_is : front.least ≡ least_key keys
   pub there : front.least < 18446744073709551615 → (front.first < length keys) × (get_or keys front.first 0 ≡ front.least)
   pub before : (k : ℕ) → k < front.first → front.least < get_or keys k 0
-
--- the front after the key at a place was changed to one that is no greater
-abbrev pub lowered : Front → ℕ → ℕ → Front
-lowered front place key =
-    if nat_lt key front.least then record { first = place; least = key }
-    else (if (key == front.least) && nat_lt place front.first then record { first = place; least = key } else front)

@@ -1,6 +1,5 @@
 //! The agenda of all nodes.
 ghost use Rattle.std.specs.Prelude.{◌≡◌, ℕ, ◌<◌, ◌≤◌, [], length, slice_get, IfOk, Some};
-ghost use Rattle.std.proofs.Math.ListN.{replicate};
 ghost use Rattle.rb_base.specs.Nodes.{Side};
 ghost use Rattle.rb_base.specs.Sizes.{Sizes};
 ghost use Rattle.rb_rules.specs.Book.{Each, each_of};
@@ -13,8 +12,7 @@ ghost use Rattle.rb_world_agenda.specs.Holding.{HoldsSites};
 
 use crate::run_lanes::RunLanes;
 use crate::scan::{
-    Front, after_event, due_count, front_now, front_of, keep_key, locate, mark_of, node_at,
-    position_of, tick_front,
+    after_event, due_count, least_of, locate, mark_of, node_at, position_of, tick_front,
 };
 use crate::tick_marks::Marks;
 use arrayvec::ArrayVec;
@@ -28,40 +26,28 @@ use std::marker::Model;
 #[derive(Drop)]
 pub struct Agenda {
     lanes: RunLanes,
-    keys: Vec<u64>,
     // For each node, by its position, the mark of its tick: the time times 32 and the position
     // where the time is below 2^59, else 2^64 - 1. All 32 are there, also of positions without a
-    // node. Once a place is kept in them the keys are stale.
+    // node.
     ticks: Marks,
     bius: usize,
-    // Where the least of the keys stands. Neither is kept once they are stale.
-    front: Front,
-    stale: bool,
+    nodes: usize,
 }
 
 impl Model for Agenda {
-    ghost use Rattle.std.specs.Prelude.{◌≡◌, false};
+    ghost use Rattle.std.specs.Prelude.{◌≡◌, length};
     ghost use Rattle.rb_rules.specs.Book.{Each};
     ghost use Rattle.rb_queue.specs.Waiting.{Held};
-    ghost use Rattle.rb_world_agenda.specs.Agenda.{AreKeptUnless, AreKnown, AreTicks};
-    ghost use Rattle.rb_world_agenda.specs.Fronts.{IsFront};
+    ghost use Rattle.rb_world_agenda.specs.Agenda.{AreFew, AreTicks, keys_of};
     ghost use Rattle.rb_world_agenda.specs.Fours.{AreFours};
 
     ghost Value = { Each Held };
 
     ghost view = { λ a. a.lanes };
 
-    ghost invariant = { λ a. AreKeptUnless a.stale a.lanes a.keys.items a.bius
-        × (a.stale ≡ false → IsFront a.keys.items a.front) × AreTicks a.lanes a.ticks.all
-        × AreKnown a.lanes × AreFours a.ticks.all a.ticks.leasts a.ticks.opened a.ticks.at
-        × (a.stale ≡ false → a.ticks.at ≡ 32) };
-}
-
-// So many least times of nodes at which nothing is pending.
-fn no_times(alloc: Global, count: usize) -> Result<Vec<u64>, OutOfMemory>
-    ensures { IfOk result (λ keys. keys.items ≡ replicate count 18446744073709551615) }
-{
-    Ok(vec![in alloc; u64::MAX; count]?)
+    ghost invariant = { λ a. AreFew a.lanes a.bius × (a.nodes ≡ length (keys_of a.lanes))
+        × AreTicks a.lanes a.ticks.all
+        × AreFours a.ticks.all a.ticks.leasts a.ticks.opened a.ticks.at };
 }
 
 impl Agenda {
@@ -73,15 +59,11 @@ impl Agenda {
     {
         let lanes = RunLanes::new(alloc, shape, room)?;
         let bius = usize::from(shape.biu());
-        let keys = no_times(alloc, bius + usize::from(shape.rmu()))?;
-        let front = front_of(&keys);
         Ok(Agenda {
             lanes,
-            keys,
             ticks: Marks::new(),
             bius,
-            front,
-            stale: false,
+            nodes: bius + usize::from(shape.rmu()),
         })
     }
 
@@ -104,14 +86,6 @@ impl Agenda {
             self.old }
     {
         self.lanes.push(node, Arrival::new(time, from, bytes));
-        keep_key(
-            &mut self.keys,
-            &mut self.front,
-            self.stale,
-            self.bius,
-            &self.lanes,
-            node,
-        );
     }
 
     /// Adds what comes to a node, due at this time in reference units, with the sender and the
@@ -124,16 +98,7 @@ impl Agenda {
             (with_arrival (record like.now { time = time }) (lane_of self.old node))
             self.old }
     {
-        let _from = like.from();
         self.lanes.push(node, like.at(time));
-        keep_key(
-            &mut self.keys,
-            &mut self.front,
-            self.stale,
-            self.bius,
-            &self.lanes,
-            node,
-        );
     }
 
     /// The node's tick is pending, due at this time in reference units.
@@ -145,27 +110,14 @@ impl Agenda {
     {
         self.lanes.push_tick(node, time);
         let place = position_of(self.bius, node);
-        let mark = mark_of(place, time);
-        if place == self.ticks.at {
-            self.ticks.put(place, mark);
-            return;
-        }
-        keep_key(
-            &mut self.keys,
-            &mut self.front,
-            self.stale,
-            self.bius,
-            &self.lanes,
-            node,
-        );
-        self.ticks.put(place, mark);
+        self.ticks.put(place, mark_of(place, time));
     }
 
     /// The least time of all events, in reference units; 2^64 - 1 where there is none.
     pub fn first_time(&self) -> u64
         ensures value { result ≡ first_time self.now }
     {
-        front_now(&self.lanes, &self.keys, self.bius, self.front, self.stale).least
+        least_of(&self.lanes, self.bius, self.nodes)
     }
 
     /// How many events are due: those of the least time that may be taken.
@@ -174,8 +126,8 @@ impl Agenda {
         ensures world { (sc : Scenario) → (w : World) → HoldsSites sc.sizes self.now w.sites
             → result ≡ length (due_now sc w) }
     {
-        let front = front_now(&self.lanes, &self.keys, self.bius, self.front, self.stale);
-        due_count(&self.lanes, &self.keys, self.bius, self.stale, front.least)
+        let time = least_of(&self.lanes, self.bius, self.nodes);
+        due_count(&self.lanes, self.bius, self.nodes, time)
     }
 
     /// The node at which the i-th due event waits, counted from 0, and the event's place among
@@ -186,8 +138,8 @@ impl Agenda {
         ensures world { (sc : Scenario) → (w : World) → HoldsSites sc.sizes self.now w.sites
             → IsDue sc w self.now i result.0 result.1 }
     {
-        let front = front_now(&self.lanes, &self.keys, self.bius, self.front, self.stale);
-        locate(&self.lanes, &self.keys, self.bius, self.stale, front, i)
+        let time = least_of(&self.lanes, self.bius, self.nodes);
+        locate(&self.lanes, self.bius, self.nodes, time, i)
     }
 
     /// The event at this place among those that are ready at the node.
@@ -206,17 +158,9 @@ impl Agenda {
         ensures world { (sc : Scenario) → (w : World) → HoldsSites sc.sizes self.old w.sites
             → TakesDue sc w i (first_time self.old) result.0 result.1 self.new }
     {
-        let front = front_now(&self.lanes, &self.keys, self.bius, self.front, self.stale);
-        let (node, place) = locate(&self.lanes, &self.keys, self.bius, self.stale, front, i);
+        let time = least_of(&self.lanes, self.bius, self.nodes);
+        let (node, place) = locate(&self.lanes, self.bius, self.nodes, time, i);
         let event = self.lanes.take(node, place);
-        keep_key(
-            &mut self.keys,
-            &mut self.front,
-            self.stale,
-            self.bius,
-            &self.lanes,
-            node,
-        );
         let place = position_of(self.bius, node);
         after_event(&mut self.ticks, place, &event.kind);
         (node, event)
@@ -232,8 +176,7 @@ impl Agenda {
         ensures time { result.1 ≡ first_tick_time self.old }
         ensures lanes { self.new ≡ self.old }
     {
-        self.stale = true;
-        let front = tick_front(&self.lanes, &mut self.ticks, self.bius, self.keys.len());
+        let front = tick_front(&self.lanes, &mut self.ticks, self.bius, self.nodes);
         (node_at(self.bius, front.first), front.least)
     }
 
@@ -268,7 +211,6 @@ impl Agenda {
             self.old }
     {
         self.lanes.drop_at(node, place);
-        self.stale = true;
     }
 
     /// The arrivals of the node, in the order of pushing.
@@ -289,7 +231,6 @@ impl Agenda {
             self.old }
     {
         self.lanes.drop_before(node, until);
-        self.stale = true;
     }
 
     /// The time of the node's tick, in reference units, if one is pending.
@@ -308,7 +249,6 @@ impl Agenda {
         ensures after { self.new ≡ with_lane node (without_tick (lane_of self.old node)) self.old }
     {
         self.lanes.take_tick(node);
-        self.stale = true;
         let place = position_of(self.bius, node);
         self.ticks.put(place, u64::MAX);
     }
@@ -320,14 +260,6 @@ impl Agenda {
             self.old }
     {
         self.lanes.drop_all(node);
-        keep_key(
-            &mut self.keys,
-            &mut self.front,
-            self.stale,
-            self.bius,
-            &self.lanes,
-            node,
-        );
         let place = position_of(self.bius, node);
         self.ticks.put(place, u64::MAX);
     }

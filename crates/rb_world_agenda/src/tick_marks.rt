@@ -57,7 +57,6 @@ impl Marks {
     pub(crate) fn new() -> Marks
         ensures marks { result.all ≡ replicate 32 18446744073709551615 }
         ensures fours { AreFours result.all result.leasts result.opened result.at }
-        ensures at { result.at ≡ 32 }
     {
         Marks {
             all: [u64::MAX; 32],
@@ -75,7 +74,6 @@ impl Marks {
         ensures marks { self.new.all ≡ self.old.all }
         ensures fours { AreFours self.new.all self.new.leasts self.new.opened self.new.at }
         ensures opened { self.new.opened ≡ place / 4 }
-        ensures at { self.old.at ≡ 32 → self.new.at ≡ 32 }
     {
         if self.opened == place / 4 {
             return;
@@ -93,7 +91,6 @@ impl Marks {
         requires fours { AreFours self.old.all self.old.leasts self.old.opened self.old.at }
         ensures marks { self.new.all ≡ slice_set self.old.all place mark }
         ensures fours { AreFours self.new.all self.new.leasts self.new.opened self.new.at }
-        ensures at { self.old.at ≡ 32 → self.new.at ≡ 32 }
     {
         if place != self.at {
             self.turn_to(place);

@@ -1,28 +1,30 @@
 use Rattle.std.proofs.Common.{◌≡◌, ◌≤◌, get_or, length, arith, subst, sym, ap, refl, ◌∙◌}
 use Rattle.rb_queue.specs.Waiting.{HasLane, lane_of}
-use Rattle.rb_world_agenda.specs.Agenda.{due_in, key_of, keys_of}
-use Rattle.rb_world_agenda.proofs.Scans.{count-all, count-more, few-here}
+use Rattle.rb_world_agenda.specs.Agenda.{due_in, keys_of}
+use Rattle.rb_world_agenda.proofs.Scans.{count-all, count-more, few-here, many-few}
 use Rattle.rb_world_agenda.proofs.scan.due_count.Goals as goal
 use Rattle.rb_world_agenda.specs.Agenda.{due_count}
 
+pub node_at-requires-clause-bius : goal.node_at-requires-clause-bius
+node_at-requires-clause-bius c = let few = c.requires.few.few_bius in let split = c.requires.few.split in omega (arith, few, split)
+
+pub node_at-requires-clause-position : goal.node_at-requires-clause-position
+node_at-requires-clause-position c =
+    let many = (many-few c.args.lanes.now c.args.bius c.requires.few).1 in
+    omega (arith, many, c.loop-position-test.true, c.requires.many)
+
 pub due_in-count-requires-clause-lane : goal.due_in-count-requires-clause-lane
 due_in-count-requires-clause-lane c =
-    subst (HasLane c.args.lanes.now) (sym c.node_at.ensures) (few-here c.args.lanes.now c.args.bius c.loop-position.position c.requires.kept.few (omega (arith, c.loop-position-test.true, c.requires.unless.many))).lane
-
-pub due_in-count-requires-clause-kept : goal.due_in-count-requires-clause-kept
-due_in-count-requires-clause-kept c = λ fresh.
-    ap (λ ks. get_or ks c.loop-position.position 0) (c.requires.unless.kept fresh).each
-    ∙ (few-here c.args.lanes.now c.args.bius c.loop-position.position c.requires.kept.few (omega (arith, c.loop-position-test.true, c.requires.unless.many))).key
-    ∙ ap (λ n. key_of (lane_of c.args.lanes.now n)) (sym c.node_at.ensures)
+    subst (HasLane c.args.lanes.now) (sym c.node_at.ensures) (few-here c.args.lanes.now c.args.bius c.loop-position.position c.requires.few (omega (arith, c.loop-position-test.true, c.requires.many))).lane
 
 pub due_in-count-requires-clause-short : goal.due_in-count-requires-clause-short
 due_in-count-requires-clause-short c =
     subst (λ n. (lane_of c.args.lanes.now n).room ≤ 65536) (sym c.node_at.ensures)
-    (few-here c.args.lanes.now c.args.bius c.loop-position.position c.requires.kept.few (omega (arith, c.loop-position-test.true, c.requires.unless.many))).short
+    (few-here c.args.lanes.now c.args.bius c.loop-position.position c.requires.few (omega (arith, c.loop-position-test.true, c.requires.many))).short
 
 pub loop-position-preserved : goal.loop-position-preserved
 loop-position-preserved c =
-    let here = few-here c.args.lanes.now c.args.bius c.loop-position.position c.requires.kept.few (omega (arith, c.loop-position-test.true, c.requires.unless.many)) in
+    let here = few-here c.args.lanes.now c.args.bius c.loop-position.position c.requires.few (omega (arith, c.loop-position-test.true, c.requires.many)) in
     let more = count-more c.args.lanes.now c.args.bius c.loop-position.position (get_or (keys_of c.args.lanes.now) c.loop-position.position 0) c.args.time here in
     let due : c.due_in-count.result ≡ length (due_in c.args.time (lane_of c.args.lanes.now c.node_at.result)) = c.due_in-count.ensures.value in
     let named = ap (λ n. length (due_in c.args.time (lane_of c.args.lanes.now n))) c.node_at.ensures in
@@ -34,7 +36,7 @@ loop-position-preserved c =
 
 pub returns : goal.returns
 returns c =
-    c.loop-position.invariant.so_far ∙ count-all c.args.lanes.now (keys_of c.args.lanes.now) c.args.bius c.loop-position.position c.args.time c.requires.kept (omega (arith, c.loop-position-test.false, c.requires.unless.many))
+    c.loop-position.invariant.so_far ∙ count-all c.args.lanes.now c.args.bius c.loop-position.position c.args.time c.requires.few (omega (arith, c.loop-position-test.false, c.requires.many))
 
 pub loop-position-init : goal.loop-position-init
 unfolding due_count

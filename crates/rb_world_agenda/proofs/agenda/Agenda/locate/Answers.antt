@@ -1,16 +1,15 @@
-use Rattle.std.proofs.Common.{◌≡◌, sym, subst}
-use Rattle.rb_world_agenda.specs.Agenda.{IsDue, StandsAt, first_time, keys_of}
+use Rattle.std.proofs.Common.{sym, subst}
+use Rattle.rb_world_agenda.specs.Agenda.{IsDue, StandsAt}
 use Rattle.rb_world_agenda.specs.Holding.{HoldsSites}
-use Rattle.rb_world_agenda.proofs.Keeping.{kept-times}
+use Rattle.rb_world_agenda.proofs.Keeping.{times-of}
 use Rattle.rb_world_agenda.proofs.Which.{is-due}
 use Rattle.rb_world_agenda.proofs.agenda.Agenda.locate.Goals as goal
 
 pub returns-clause-world : goal.returns-clause-world
 returns-clause-world c =
     let lanes = c.self.inside.lanes in
-    let first : c.front_now-front.result.least ≡ first_time lanes = c.front_now-front.ensures.front.least_is in
     λ sc w holds.
     subst (λ x. IsDue sc w x c.args.i c.locate.result.0 c.locate.result.1) c.self.view_is
     (is-due sc w lanes c.args.i c.locate.result.0 c.locate.result.1 (subst (λ x. HoldsSites sc.sizes x w.sites) (sym c.self.view_is) holds)
-    (kept-times lanes (keys_of lanes) c.self.inside.bius c.front_now-front.ensures.kept)
-    (subst (λ t. StandsAt lanes t c.args.i c.locate.result.0 c.locate.result.1) first c.locate.ensures))
+    (times-of lanes c.least_of-time.ensures.times)
+    (subst (λ t. StandsAt lanes t c.args.i c.locate.result.0 c.locate.result.1) c.least_of-time.ensures.value c.locate.ensures))

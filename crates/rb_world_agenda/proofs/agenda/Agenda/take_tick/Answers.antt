@@ -1,9 +1,8 @@
-use Rattle.std.proofs.Common.{◌≡◌, true, false, refl, sym, subst}
+use Rattle.std.proofs.Common.{refl, sym, ◌∙◌, subst}
 use Rattle.rb_queue.specs.Waiting.{HasLane, Held, lane_of, without_tick}
 use Rattle.rb_world_agenda.specs.Agenda.{AreTicks}
-use Rattle.rb_world_agenda.proofs.Keeping.{room-of, stale-with}
+use Rattle.rb_world_agenda.proofs.Keeping.{few-with, many-with, room-of}
 use Rattle.rb_world_agenda.proofs.Ticks.{place-few, ticks-with}
-use Rattle.rb_world_agenda.proofs.Known.{known-of, known-with}
 use Rattle.rb_world_agenda.proofs.agenda.Agenda.take_tick.Goals as goal
 
 pub invariant_of-self : goal.invariant_of-self
@@ -13,18 +12,15 @@ invariant_of-self c =
     let name = c.args.node in
     let lane : Held = without_tick (lane_of lanes name) in
     let h : HasLane lanes name = subst (λ x. HasLane x name) (sym c.self.view_is) c.requires.in_shape in (
-      stale-with c.self.inside.stale lanes c.take_tick.new.self c.self.inside.keys.items bius name lane c.self.invariant.0 h c.take_tick.ensures.after
-          (room-of lanes bius name c.self.invariant.0.few h),
-      λ fresh. absurd (let never : true ≡ false = fresh in cc),
+      few-with lanes c.take_tick.new.self bius name lane c.self.invariant.0 h c.take_tick.ensures.after (room-of lanes bius name c.self.invariant.0 h),
+      c.self.invariant.1 ∙ many-with lanes c.take_tick.new.self bius name lane c.self.invariant.0.split h c.take_tick.ensures.after,
       subst (AreTicks c.take_tick.new.self) (sym c.put.ensures.marks)
-          (ticks-with lanes c.take_tick.new.self c.self.inside.ticks.all bius c.position_of-place.result name lane 18446744073709551615 c.self.invariant.0.few.split
+          (ticks-with lanes c.take_tick.new.self c.self.inside.ticks.all bius c.position_of-place.result name lane 18446744073709551615 c.self.invariant.0.split
           c.position_of-place.ensures c.self.invariant.2 h c.take_tick.ensures.after refl),
-      known-with lanes c.take_tick.new.self bius name lane c.self.invariant.0.few.split h c.take_tick.ensures.after c.self.invariant.3 (known-of lanes name c.self.invariant.3 h),
       c.put.ensures.fours,
-      λ fresh. absurd (let never : true ≡ false = fresh in cc),
     )
 
 pub put-requires-clause-place : goal.put-requires-clause-place
 put-requires-clause-place c =
-    place-few c.self.inside.lanes c.self.inside.bius c.position_of-place.result c.args.node c.self.invariant.0.few c.position_of-place.ensures
+    place-few c.self.inside.lanes c.self.inside.bius c.position_of-place.result c.args.node c.self.invariant.0 c.position_of-place.ensures
     (subst (λ x. HasLane x c.args.node) (sym c.self.view_is) c.requires.in_shape)
