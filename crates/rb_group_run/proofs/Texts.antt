@@ -1,5 +1,5 @@
 -- The text of one turn more.
-use Rattle.std.proofs.Common.{◌≡◌, ℕ, nat_lt, Bool, true, false, if◌then◌else◌, Option, Some, None, List, [], ◌∷◌, ◌++◌, refl, sym, ◌∙◌, ap, arith, append_assoc}
+use Rattle.std.proofs.Common.{◌≡◌, ℕ, nat_lt, if◌then◌else◌, Option, Some, None, List, [], ◌∷◌, ◌++◌, refl, sym, ◌∙◌, ap, arith, append_assoc}
 use Rattle.std.proofs.lemmas.List.{append-nil}
 use Rattle.std.specs.Option.{option_to_list}
 use Rattle.std.proofs.lemmas.Bool.{le-ltb}
@@ -11,7 +11,7 @@ use Rattle.rb_group.specs.Portions.{port_deliveries, value_at}
 use Rattle.rb_group_run.specs.declared.asked.Asked.{Asked}
 use Rattle.rb_group_run.specs.declared.ports.Ports.{Ports}
 use Rattle.rb_group_run.specs.Holding.{HoldsFrame}
-use Rattle.rb_group_run.specs.Replies.{ending_in, ending_text, frame_of, frame_or, frame_text, reached, record_text, text_after, turn_text}
+use Rattle.rb_group_run.specs.Replies.{ending_in, ending_text, frame_of, frame_or, frame_text, record_text, text_after, turn_text}
 
 -- the text of records and one more
 pub text_with : (sc : Scenario) (asked : Asked) (before rs : List Record) (o : Option Record)

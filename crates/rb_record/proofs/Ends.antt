@@ -13,7 +13,7 @@ use Rattle.rb_rules.specs.Lawful.{IsLawful}
 use Rattle.rb_rules.specs.Rounds.{records_of}
 use Rattle.rb_rules.specs.WorldStep.{Due, World, due_of, event_at, event_of, first_world, go_on, needs_no_event, take}
 use Rattle.rb_laws_logs.specs.Given.{AreGiven, first_run, first_step, given_in, given_next, if_given}
-use Rattle.rb_laws_logs.proofs.Worlds.{go-on-hands, no-hands}
+use Rattle.rb_laws_logs.proofs.Worlds.{no-hands}
 use Rattle.rb_laws_events.proofs.EventsHold.{due-holds, events-hold, turns-hold}
 use Rattle.rb_laws_events.proofs.RoundNodes.{item-at}
 use Rattle.rb_laws_events.specs.Laws.{IsNextTurn}

@@ -34,7 +34,6 @@ use Rattle.rb_laws_events.proofs.DueEvents.{IsDue, IsReady}
 use Rattle.rb_laws_events.proofs.PendingLists.{StandsAt}
 use Rattle.rb_laws_events.proofs.WorldNodes.{Known, worlds-known}
 use Rattle.rb_world.specs.Worlds.{IsReached}
-use Rattle.rb_world.proofs.Numbered.{none-due}
 use Rattle.rb_world.proofs.Ready.{due-reached}
 use Rattle.rb_record.specs.Laws.{OneLog, RecordedIsRead}
 use Rattle.rb_record.specs.Recording.{MayTell}

@@ -1,4 +1,4 @@
-use Rattle.std.proofs.Common.{◌≡◌, nat_lt, ◌&&◌, not, ap, ◌∙◌, subst}
+use Rattle.std.proofs.Common.{◌≡◌, nat_lt, ◌&&◌, not, ap, ◌∙◌}
 use Rattle.std.proofs.lemmas.Bool.{eq-eqb, eqb-true}
 use Rattle.rb_base.specs.Nodes.{has, set_of}
 use Rattle.rb_base.specs.Sizes.{Sizes}

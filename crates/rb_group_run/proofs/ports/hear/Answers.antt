@@ -1,6 +1,5 @@
-use Rattle.std.proofs.Common.{◌≡◌, ◌++◌, refl, ap, sym, subst}
+use Rattle.std.proofs.Common.{◌++◌, ap, sym}
 use Rattle.rb_world_book.specs.Records.{record_of}
-use Rattle.rb_group_run.specs.Holding.{HoldPortions}
 use Rattle.rb_group_run.specs.Replies.{told_in}
 use Rattle.rb_group_run.proofs.Held.{told_same, untold}
 use Rattle.rb_group_run.proofs.ports.hear.Goals as goal

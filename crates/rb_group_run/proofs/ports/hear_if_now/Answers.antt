@@ -1,7 +1,6 @@
 use Rattle.std.proofs.Common.{Some, ◌++◌, ap, ◌∙◌}
 use Rattle.rb_group.specs.Portions.{deliveries_in, told_of}
 use Rattle.rb_rules.specs.Book.Record.{Slot}
-use Rattle.rb_rules.specs.Book.{Record}
 use Rattle.rb_group_run.proofs.Held.{slot_told, slot_untold, told_same, untold}
 use Rattle.rb_group_run.proofs.ports.hear_if_now.Goals as goal
 

@@ -1,5 +1,5 @@
 -- The lines of the BIUs before this one are written.
-use Rattle.std.proofs.Common.{ℕ, ◌≤◌, List, take}
+use Rattle.std.proofs.Common.{ℕ, ◌≤◌, List}
 use Rattle.std.specs.Io.KnownBytes.{Appends}
 use Rattle.std.specs.List.{flat_map}
 use Rattle.rb_base.specs.Counting.{numbers}
