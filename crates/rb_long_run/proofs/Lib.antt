@@ -1,7 +1,6 @@
 pub mod Texts
 pub mod Written
 pub mod Plain
-pub mod Lines
 pub mod Heard
 pub mod Words
 pub mod Histories

@@ -1,5 +1,5 @@
 -- What is due of a log that is listened to, event by event.
-use Rattle.std.proofs.Common.{◌≡◌, ℕ, ◌+◌, ◌-◌, ◌≤◌, ◌^◌, refl, ap, sym, ◌∙◌, subst, arith, Option, Result, OnOk, OnErr, List, [], ◌∷◌, ◌++◌}
+use Rattle.std.proofs.Common.{◌≡◌, ℕ, ◌+◌, ◌-◌, ◌≤◌, ◌^◌, refl, ap, sym, ◌∙◌, subst, arith, Option, Result, List, [], ◌∷◌, ◌++◌}
 use Rattle.std.proofs.Math.ListN.{replicate}
 use Rattle.std.specs.Io.KnownBytes.{Appends}
 use Rattle.std.specs.List.{flat_map}

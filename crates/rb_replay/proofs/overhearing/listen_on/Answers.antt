@@ -1,4 +1,4 @@
-use Rattle.std.proofs.Common.{rules, ◌-◌, ◌≤◌, ◌^◌, ◌∷◌, ◌∙◌, [], ap, arith}
+use Rattle.std.proofs.Common.{rules, ◌≤◌, ◌^◌, ◌∷◌, ◌∙◌, [], ap, arith}
 use Rattle.rb_base.proofs.Plain.{on_err}
 use Rattle.rb_log.specs.Cursor.{shown}
 use Rattle.rb_report.specs.Report.{end_text}
