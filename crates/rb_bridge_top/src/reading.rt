@@ -21,8 +21,10 @@ const INPUT_LIMIT: usize = 4_194_304;
 // The bytes that the source has left, or the answer where they are too many or can't be had.
 fn read_input<S: Source>(alloc: Global, input: &mut S) -> Result<Vec<u8>, Status>
     ensures whole { IfOk result (λ v. ReadsToEnd (S.left input.old) (S.left input.new) v.items) }
-    ensures short_enough { IfOk result (λ _. Gave (S.left input.old) (S.left input.new) (λ n. n ≤ input_limit)) }
-    ensures unread { IfErr result (λ status. IsUnread status (S.left input.old) (S.left input.new) (S.faults input.old) (S.faults input.new)) }
+    ensures short_enough { IfOk result
+        (λ _. Gave (S.left input.old) (S.left input.new) (λ n. n ≤ input_limit)) }
+    ensures unread { IfErr result (λ status. IsUnread status
+        (S.left input.old) (S.left input.new) (S.faults input.old) (S.faults input.new)) }
     ensures one_of { IfErr result IsNotRead }
 {
     match read_all(alloc, input, INPUT_LIMIT) {
@@ -65,8 +67,9 @@ pub(crate) fn read_document<S: Source, K: Sink>(
     output: &mut K,
 ) -> Result<Bridge, Status>
     ensures bridge { IfOk result (ReadsBridge (S.left input.old) (S.left input.new)) }
-    ensures none { IfErr result (λ status. ReadsNone status (S.left input.old) (S.left input.new) (S.faults input.old) (S.faults input.new)
-        (K.held output.old) (K.held output.new) (K.faults output.old) (K.faults output.new)) }
+    ensures none { IfErr result (λ status. ReadsNone status (S.left input.old) (S.left input.new)
+        (S.faults input.old) (S.faults input.new) (K.held output.old) (K.held output.new)
+        (K.faults output.old) (K.faults output.new)) }
     ensures unwritten { IfOk result (λ _. output.new ≡ output.old) }
     ensures nothing { IfErr result (λ status. WritesNothing status → output.new ≡ output.old) }
 {
