@@ -12,9 +12,7 @@ pub mod Openings
 pub mod Showing
 pub mod Trailing
 pub mod Unstamped
-pub mod Calls
 pub mod Sweeping
 pub mod Observing
-pub mod Telling
 pub mod Sites
 pub mod Tells

@@ -1,8 +1,8 @@
 -- A node before a tick that ends a window of a slot before the sync slot. What comes to it until then is taken in unstamped, in any order.
-use Rattle.std.specs.Prelude.{ℕ, ◌≡◌, ◌+◌, ◌<◌, nat_lt, All, Some, List, [], ◌∷◌, filter, slice_get}
+use Rattle.std.specs.Prelude.{ℕ, ◌≡◌, ◌+◌, ◌<◌, nat_lt, All, Some, List, [], ◌∷◌, filter, slice_get, slice_set}
 use Rattle.rb_base.specs.Nodes.{Side, other}
 use Rattle.rb_base.specs.declared.node.NodeName.{NodeName}
-use Rattle.rb_rules.specs.Book.{Each}
+use Rattle.rb_rules.specs.Book.{Each, of_kind}
 use Rattle.rb_rules.specs.Core.{Core}
 use Rattle.rb_rules.specs.Goodness.{Scenario}
 use Rattle.rb_rules.specs.Hearing.{Coming}
@@ -13,7 +13,7 @@ use Rattle.rb_node.specs.Cores.{IsCore, Running, next_of}
 use Rattle.rb_node.specs.Ends.{EndsExactWindow}
 use Rattle.rb_queue.specs.Waiting.{Held, lane_of, with_lane, without_before, without_tick}
 use Rattle.rb_world.specs.Sites.{KeptSite, Stands as StandsFor, taken_in}
-use Rattle.rb_world.specs.Trailing.{MayTakeFirst, bare}
+use Rattle.rb_world.specs.Trailing.{MayTakeFirst, bare, TakesFirst}
 use Rattle.rb_world.specs.declared.scene.Scene.{Scene}
 
 -- what comes before a time, in the order of the list
@@ -58,3 +58,10 @@ pub record MayTakeExactly (sc : Scenario) (kept : Each KeptSite) (scene : Scene)
   pub first : MayTakeFirst sc kept scene until w v me i a time own
   pub there : slice_get own i ≡ Some site
   pub ends : EndsExactly me site.node
+
+-- the tick at this time, which is the first of all, is this node's and needs no stamps, and it is taken
+abbrev pub TakesExactly : Scenario → Side → ℕ → ℕ → KeptSite → KeptSite → Scene → Scene → Type 0
+TakesExactly sc me i time before after around scene =
+    (kept : Each KeptSite) (until : Side → ℕ → ℕ) (w v : World) (a : Timed) (own : List KeptSite)
+    → MayTakeExactly sc kept around until w v me i a time own before
+    → TakesFirst sc v me i a (slice_set own i after) (of_kind (other me) kept) scene

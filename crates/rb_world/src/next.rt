@@ -9,10 +9,9 @@ ghost use Rattle.rb_world_book.specs.Records.{record_of};
 ghost use Rattle.rb_world.specs.declared.ties.Ties.TheVariants.{First};
 ghost use Rattle.rb_world.specs.Nexts.{GoesToNext, RunsOn, TakesStep, is_last};
 ghost use Rattle.rb_world.specs.Numbering.{GoesInRounds};
-ghost use Rattle.rb_world.specs.Observing.{TellsToNext};
+ghost use Rattle.rb_world.specs.Observing.{TellsRunOn, TellsToNext};
 ghost use Rattle.rb_world.specs.Turning.{Gives};
 ghost use Rattle.rb_world.specs.Worlds.{Stands, last_of};
-ghost use Rattle.rb_world.specs.Telling.{TellsRunOn};
 
 use crate::last::Last;
 use crate::observing::{Nobody, Observer};

@@ -12,7 +12,7 @@ ghost use Rattle.rb_world.specs.Sites.{Stands as StandsFor, number_of};
 ghost use Rattle.rb_laws_sweeps.specs.Told.{Told, telling};
 ghost use Rattle.rb_world.specs.Showing.{CanShowTick, MayShowTick};
 ghost use Rattle.rb_world.specs.Steps.{CanHear, CanHearAt};
-ghost use Rattle.rb_world.specs.Telling.{TellsTickFor};
+ghost use Rattle.rb_world.specs.Observing.{TellsTickFor};
 
 use crate::Site;
 use crate::bus::Bus;

@@ -10,10 +10,9 @@ ghost use Rattle.rb_world.specs.Sites.{number_of};
 ghost use Rattle.rb_laws_sweeps.specs.AheadOf.{until_tick};
 ghost use Rattle.rb_world_traffic.specs.Arriving.{number_of as number_in};
 ghost use Rattle.rb_world.specs.Runs.{nodes_of};
-ghost use Rattle.rb_world.specs.Trailing.{Trails, until_from};
+ghost use Rattle.rb_world.specs.Trailing.{CanCatchUpAll, CanCatchUpAt, CanSweep, CatchesUp, CatchesUpAll, CatchesUpAt, HasSwept, KeepsLanes, Trails, until_from};
 ghost use Rattle.rb_world.specs.Unstamped.{AreOfSources, TakesInDue, with_nothing_before};
-ghost use Rattle.rb_world.specs.Calls.{CanCatchUpAll, CanCatchUpAt, CanSweep, CatchesUp, CatchesUpAll, CatchesUpAt, HasSwept, KeepsLanes};
-ghost use Rattle.rb_world.specs.Telling.{TellsCatchUp, TellsCatchUpAll, TellsCatchUpAt, TellsSweep, TellsSweepFor};
+ghost use Rattle.rb_world.specs.Observing.{TellsCatchUp, TellsCatchUpAll, TellsCatchUpAt, TellsSweep, TellsSweepFor};
 
 use crate::Site;
 use crate::bus::Bus;

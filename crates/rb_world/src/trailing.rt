@@ -6,12 +6,11 @@ ghost use Rattle.rb_rules.specs.Links.{same_node};
 ghost use Rattle.rb_rules.specs.WorldStep.{World as RunWorld, Timed};
 ghost use Rattle.rb_world_book.specs.declared.turn.Turn.{Turn};
 ghost use Rattle.rb_world.specs.Runs.{nodes_of};
-ghost use Rattle.rb_world.specs.Trailing.{MayRun, BehindTick};
-ghost use Rattle.rb_world.specs.Unstamped.{EndsExactly, MayTakeExactly};
-ghost use Rattle.rb_world.specs.Calls.{CanStepOn, CanTakeOwn, CanTickFirst, RunsToRecord, StepsOn, TakesExactly, TakesFirstOf, TakesOwn, TicksFirst};
-ghost use Rattle.rb_world.specs.Telling.{TellsFirst, TellsOwn, TellsRun, TellsStep};
+ghost use Rattle.rb_world.specs.Trailing.{BehindTick, CanStepOn, CanTakeOwn, CanTickFirst, MayRun, RunsToRecord, StepsOn, TakesFirstOf, TakesOwn, TicksFirst};
+ghost use Rattle.rb_world.specs.Unstamped.{EndsExactly, MayTakeExactly, TakesExactly};
 ghost use Rattle.rb_rules.specs.Book.{Each};
 ghost use Rattle.rb_world.specs.Sites.{KeptSite};
+ghost use Rattle.rb_world.specs.Observing.{TellsFirst, TellsOwn, TellsRun, TellsStep};
 
 use crate::Site;
 use crate::bus::Bus;
