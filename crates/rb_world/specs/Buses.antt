@@ -6,11 +6,12 @@ use Rattle.rb_base.specs.declared.node.NodeName.{NodeName}
 use Rattle.rb_rules.specs.Book.{Each}
 use Rattle.rb_rules.specs.Goodness.{Scenario}
 use Rattle.rb_rules.specs.Clock.{Timeline}
-use Rattle.rb_rules.specs.Hearing.{Span}
 use Rattle.rb_rules.specs.Lawful.{IsLawful, kind_of}
 use Rattle.rb_rules.specs.Links.{DelayRules}
 use Rattle.rb_rules.specs.WorldStep.{Site, at_node, says_in}
 use Rattle.rb_world_onset.specs.Faults.{Faults, faults_of}
+use Rattle.rb_node.specs.Acts.{span_in}
+use Rattle.rb_node.specs.declared.act.Span.{Span}
 use Rattle.rb_plan.specs.Timetable.{Timetable}
 use Rattle.rb_world_agenda.specs.Holding.{HoldsSites}
 use Rattle.rb_world_traffic.specs.Arriving.{number_of}
@@ -61,9 +62,9 @@ pub record HaveRooms (sc : Scenario) (lanes : Each Held) : Type 0 where
 -- what nodes that are not good say to this one in a window is pending there
 abbrev pub with_said : Scenario → NodeName → Span → Each Held → Each Held
 with_said sc node span lanes =
-    with_lane node (with_arrivals (says_in sc (kind_of node) (number_of node) span) (lane_of lanes node)) lanes
+    with_lane node (with_arrivals (says_in sc (kind_of node) (number_of node) (span_in span)) (lane_of lanes node)) lanes
 
 -- so at its site
 abbrev pub HasSaid : Scenario → NodeName → Span → Each Held → Each Held → Type 0
 HasSaid sc node span before after = (sites : Each Site) → HoldsSites sc.sizes before sites
-    → HoldsSites sc.sizes after (at_node (kind_of node) (number_of node) (hears sc node span) sites)
+    → HoldsSites sc.sizes after (at_node (kind_of node) (number_of node) (hears sc node (span_in span)) sites)

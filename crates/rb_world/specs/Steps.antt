@@ -1,5 +1,5 @@
 -- What happens at one node, as it is done in parts.
-use Rattle.std.specs.Prelude.{⊤, [], ℕ, ◌≡◌, ◌+◌, ◌<◌, ◌≤◌, ◌^◌, true, Option, Some, None, IfSome, All, get_or, length, slice_get}
+use Rattle.std.specs.Prelude.{⊤, [], ℕ, ◌≡◌, ◌+◌, ◌<◌, ◌≤◌, ◌^◌, true, Option, Some, None, IfSome, All, get_or, length, slice_get, Bool, if◌then◌else◌}
 use Rattle.rb_base.specs.Nodes.{Side, other}
 use Rattle.rb_base.specs.Nodes.Side.{Biu}
 use Rattle.rb_base.specs.Sizes.{Sizes}
@@ -26,6 +26,7 @@ use Rattle.rb_node.specs.declared.act.Want.TheVariants as want
 use Rattle.rb_world_book.specs.Changing.{with_row}
 use Rattle.rb_queue.specs.Waiting.{HasLane, Held, lane_of, spare_of}
 use Rattle.rb_world.specs.Sites.{KeptSite, Stands as StandsFor, number_of}
+use Rattle.rb_world.specs.Tells.{row_at}
 use Rattle.rb_world_traffic.specs.Arriving.{number_of as number_in}
 use Rattle.rb_world.specs.declared.scene.Scene.{Scene}
 use Rattle.rb_world.specs.Worlds.{AreNodes, IsNode, IsReached, Surrounds}
@@ -123,6 +124,11 @@ closed_at sc node c row w = record (moved (kind_of node) (number_in node) (with_
 abbrev pub closed_if : Scenario → NodeName → Option Closed → Row → World → World
 closed_if sc node None row w = w
 closed_if sc node (Some c) row w = closed_at sc node c row w
+
+-- so with the window that it shows, and its row
+abbrev pub closed_by : Scenario → Side → NodeName → Bool → KeptSite → World → World
+closed_by sc me node closed k w = closed_if sc node (if closed then Some k.node.shown else None)
+    (row_at me (number_in node) k.node.seat.state k.times k.node.shown) w
 
 -- a node has begun a frame, if one begins
 abbrev pub begun_at : Scenario → NodeName → Option Epoch → World → World

@@ -35,15 +35,11 @@ row_at me i st times c = record {
   line = option_map (λ d. record { receiver = i; sender = d.sender; value = d.value }) c.delivered;
 }
 
--- so of the stage that it shows
-abbrev pub row_shown : Side → ℕ → KeptSite → Row
-row_shown me i k = row_at me i k.node.seat.state k.times k.node.shown
-
 -- what it has told of the last stage once a tick has closed a window, or has not. Of the tail, stage 4, it tells nothing
 abbrev pub row_after : Side → KeptSite → Bool → Option Row → Option Row
 row_after me k closed before =
     if closed && not (k.node.shown.place.stage == 4)
-    then Some (row_shown me (number_of k) k)
+    then Some (row_at me (number_of k) k.node.seat.state k.times k.node.shown)
     else before
 
 -- what it has told of the last frame once this one began, if any did

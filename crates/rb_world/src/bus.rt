@@ -5,7 +5,7 @@ ghost use Rattle.rb_base.specs.Nodes.Side.{Biu as biu, Rmu as rmu};
 ghost use Rattle.rb_rules.specs.Book.{Each};
 ghost use Rattle.rb_rules.specs.WorldStep.{Site, first_world};
 ghost use Rattle.rb_laws_events.specs.PendingEvents.{most_pending};
-ghost use Rattle.rb_node.specs.Acts.{IsSendable, span_in};
+ghost use Rattle.rb_node.specs.Acts.{IsSendable};
 ghost use Rattle.rb_queue.specs.Waiting.{HasLane, lane_of, spare_of};
 ghost use Rattle.rb_world_agenda.specs.Holding.{HoldsSites};
 ghost use Rattle.rb_rules.specs.Goodness.{clock_of};
@@ -203,8 +203,8 @@ impl Bus {
         requires spare { length self.now.says ≤ spare_of (lane_of agenda.old node) }
         requires stage { 1 ≤ span.now.place.stage }
         requires first { span.now.first ≤ 2 ^ 31 }
-        ensures lanes { agenda.new ≡ with_said self.now node (span_in span.now) agenda.old }
-        ensures world { HasSaid self.now node (span_in span.now) agenda.old agenda.new }
+        ensures lanes { agenda.new ≡ with_said self.now node span.now agenda.old }
+        ensures world { HasSaid self.now node span.now agenda.old agenda.new }
     {
         let span = rb_world_traffic::Span {
             place: span.place,

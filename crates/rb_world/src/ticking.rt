@@ -1,5 +1,5 @@
 //! A tick of a node.
-ghost use Rattle.std.specs.Prelude.{◌≡◌, ℕ, ◌<◌, ◌≤◌, ◌^◌, true, IfSome, Option, Some, None, List, length, if◌then◌else◌};
+ghost use Rattle.std.specs.Prelude.{◌≡◌, ℕ, ◌<◌, ◌≤◌, ◌^◌, true, IfSome, Option, Some, List, length};
 ghost use Rattle.rb_base.specs.Nodes.{other, side_of};
 ghost use Rattle.rb_base.specs.Nodes.Side.{Biu};
 ghost use Rattle.rb_rules.specs.Hearing.{port_at, port_line};
@@ -7,12 +7,10 @@ ghost use Rattle.rb_rules.specs.Lawful.{IsNodeOf, kind_of};
 ghost use Rattle.rb_rules.specs.Ports.{PortState};
 ghost use Rattle.rb_node.specs.Acts.{IsSendable};
 ghost use Rattle.rb_node.specs.Wants.{want_for};
-ghost use Rattle.rb_world_traffic.specs.Arriving.{number_of as number_in};
 ghost use Rattle.rb_world.specs.Worlds.{HoldsPorts, Surrounds};
 ghost use Rattle.rb_rules.specs.WorldStep.{Site as WorldSite, World, with_delivery, word_of};
 ghost use Rattle.rb_world.specs.Sites.{number_of};
-ghost use Rattle.rb_world.specs.Steps.{CanTick, CanWant, Changes, DoesTick, HasRoomFor, IsWordSlot, MayTick, SeesOnlyNodes, begun_at, closed_if, sent_by, word_at};
-ghost use Rattle.rb_world.specs.Tells.{row_shown};
+ghost use Rattle.rb_world.specs.Steps.{CanTick, CanWant, Changes, DoesTick, HasRoomFor, IsWordSlot, MayTick, SeesOnlyNodes, begun_at, closed_by, sent_by, word_at};
 
 use crate::Site;
 use crate::bus::Bus;
@@ -110,8 +108,7 @@ fn close<K: Kind>(
     requires sources { closed ≡ true → SeesOnlyNodes bus.now (kind_of node) site.now.node.shown }
     requires around { (w : World) × Surrounds bus.now scene.old w }
     ensures around { Changes bus.now scene.old scene.new
-        (closed_if bus.now node (if closed then Some site.now.node.shown else None)
-        (row_shown (side_of K.CODE) (number_in node) site.now)) }
+        (closed_by bus.now (side_of K.CODE) node closed site.now) }
     ensures agenda { scene.new.agenda ≡ scene.old.agenda }
 {
     if !closed {
