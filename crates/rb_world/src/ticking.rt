@@ -188,7 +188,8 @@ fn tick_with_word<K: Kind>(
 }
 
 // Node `i` of the kind takes its next tick. Most often all that happens at it is that the node says
-// a message within a window.
+// a message within a window. Without `say_alone` a frame of the generated run with seed 7 costs
+// 1,325,100 instructions in place of 1,298,700.
 #[inline(never)]
 fn tick_in_full<K: Kind>(
     bus: &Bus,
@@ -213,7 +214,8 @@ fn tick_in_full<K: Kind>(
     tick_with_word(bus, apps, k, word, site, scene);
 }
 
-/// Node `i` of the kind takes its next tick, which has this number.
+/// Node `i` of the kind takes its next tick, which has this number. Without `end_window` a frame of
+/// the generated run with seed 7 costs 1,446,800 instructions in place of 1,298,700.
 #[inline(always)]
 pub(crate) fn tick<K: Kind>(
     bus: &Bus,
