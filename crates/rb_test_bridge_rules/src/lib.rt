@@ -6,6 +6,7 @@ ghost use Rattle.std.specs.Prelude.{◌≡◌};
 ghost use Rattle.rb_laws_bridge.specs.Laws.{AreUnbroken, SoundPairsOutnumber};
 ghost use Rattle.rb_laws_groups.specs.Laws.{IsSchedule};
 ghost use Rattle.rb_rules_bridge.specs.declared.bank.Bank.TheVariants.{Right};
+ghost use Rattle.rb_rules_bridge.specs.Bridges.{IsBridge};
 ghost use Rattle.rb_rules_bridge.specs.Crossings.{hands_of};
 ghost use Rattle.rb_rules_bridge.specs.Texts.{bridge_text};
 ghost use Rattle.rb_test_bridge_rules.specs.Bridges.{both_break, both_break_text, idle_slot, idle_slot_text, last_data_slot, last_data_slot_text, left_breaks, left_breaks_text, no_majority, no_majority_text, other_slots, other_slots_text, outvoted, outvoted_text, right_breaks, right_breaks_text, slot_each, three_frames, three_frames_text};
@@ -58,10 +59,11 @@ pub fn both_break()
     ensures { bridge_text both_break ≡ both_break_text }
 {}
 
-/// The premise of the law that words cross, of the bridge whose left BIU is outvoted: two pairs are
-/// sound in the frames that follow each other, and one is not, and both buses come through the
+/// The premises of the law that words cross, of the bridge whose left BIU is outvoted: two pairs
+/// are sound in the frames that follow each other, and one is not, and both buses come through the
 /// second frame.
 pub fn sound_pairs_outnumber()
+    ensures bridge { IsBridge outvoted }
     ensures schedule { IsSchedule outvoted.right (hands_of outvoted).right 1 slot_each }
     ensures outnumber { SoundPairsOutnumber outvoted Right slot_each 0 }
     ensures unbroken { AreUnbroken outvoted 1 }

@@ -9,12 +9,13 @@ ghost use Rattle.rb_laws_agreement.specs.Histories.{AreAlike};
 ghost use Rattle.rb_laws_agreement.specs.Laws.{IsAccusedByAll};
 ghost use Rattle.rb_laws_agreement.specs.OneSlot.{IsExchange, KeepsPremise, state_after, vote_after};
 ghost use Rattle.rb_laws_synchrony.specs.OneStage.{HearNear, middle_kept};
+ghost use Rattle.rb_laws_events.specs.OwnMoments.{IsBeforeTheBreak};
 ghost use Rattle.rb_test_rules.specs.Lies.{silent_rmu};
 ghost use Rattle.rb_test_rules.specs.OneSlot.{all_trusted, lying_relay};
 ghost use Rattle.rb_test_rules.specs.OneStage.{early_listener, first_two, late_listener};
 ghost use Rattle.rb_test_rules.specs.Ordinary.{one_state};
 ghost use Rattle.rb_test_rules.specs.Parts.{plan};
-ghost use Rattle.rb_test_rules.specs.Premises.{handed_to_both};
+ghost use Rattle.rb_test_rules.specs.Premises.{RunsAfterSlot, RunsInSlot, handed_to_both, third_stage};
 ghost use Rattle.rb_rules.specs.Lawful.{IsLawful};
 ghost use Rattle.rb_rules.specs.Moments.{IsComplete};
 
@@ -50,4 +51,15 @@ pub fn alike_ports()
     ensures complete { IsComplete one_state [] 0 7 }
     ensures alike { AreAlike one_state [] 0 1 }
     ensures alike_with_hand_ins { AreAlike one_state handed_to_both 0 1 }
+{}
+
+/// In the third stage of the first data slot two BIUs and an RMU run: each stands in the slot, and
+/// the BIUs, which are alike, after its delivery.
+pub fn running_nodes()
+    ensures before_the_break { IsBeforeTheBreak one_state third_stage }
+    ensures biu { RunsInSlot Biu 0 }
+    ensures rmu { RunsInSlot Rmu 0 }
+    ensures first { RunsAfterSlot 0 }
+    ensures second { RunsAfterSlot 1 }
+    ensures alike { AreAlike one_state third_stage.hands 0 1 }
 {}
