@@ -12,15 +12,8 @@ use Rattle.rb_picture.specs.declared.status.Status.{Status}
 use Rattle.rb_picture.specs.declared.status.Status.TheVariants as code
 use Rattle.rb_picture.specs.Answers as outside
 use Rattle.rb_picture.specs.Answers.{IsCutOff, IsDrawn, IsPicture, IsRefusal, IsRefused, Untouched, UsageExactly, report_limit}
-use Rattle.rb_picture.specs.Forms.{AskFor}
 use Rattle.rb_picture.specs.Pages.{page_text}
-use Rattle.robus_c.specs.Picture.{Answers, Ask, Gives, IsDone}
-
-to_asked : (words : List (String Global)) (form : Form) → Ask (map string_bytes words) form → AskFor words form
-to_asked words form a = record { same = a.same; in_range = a.in_range }
-
-from_asked : (words : List (String Global)) (form : Form) → AskFor words form → Ask (map string_bytes words) form
-from_asked words form a = record { same = a.same; in_range = a.in_range }
+use Rattle.robus_c.specs.Picture.{Answers, Gives}
 
 drawn : (frames : Frames) (input source source' : List ℕ) (sink sink' : Held) → source ≡ input → sink ≡ fresh
     → IsDrawn frames (Some source) (Some source') (Some sink.bytes) (Some sink'.bytes) → IsPicture frames input sink'.bytes
@@ -44,14 +37,14 @@ pub over_bytes : (words : List (String Global)) (status : Status) (input source 
     → (status ≡ code.ReadFault → Rose 0 0)
     → Answers (map string_bytes words) input sink'.bytes status
 over_bytes words status input source source' sink sink' e f ok usage untouched done refused fails long fault = record {
-  unknown = λ u form a. usage.unknown u form (to_asked words form a);
-  usage = λ none. usage.refused (λ form a. none form (from_asked words form a));
+  unknown = usage.unknown;
+  usage = usage.refused;
   nothing = λ w. ap (λ s. s.bytes) (untouched.unwritten w) ∙ ap (λ s. s.bytes) f;
   reads = λ r. never_rose (fault r);
   writes = λ w. no_fault sink sink' f ok (fails w).1;
   done = λ d. let is : outside.IsDone words (Some source) (Some source') (Some sink.bytes) (Some sink'.bytes) = done d in record {
     form = is.form;
-    asked = from_asked words is.form is.asked;
+    asked = is.asked;
     gives = gives is.form input source source' sink sink' e f is.gives;
   };
   refused = λ r. let is : IsRefused (Some source) (Some source') (Some sink.bytes) (Some sink'.bytes) = refused r in

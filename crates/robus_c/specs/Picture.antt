@@ -5,7 +5,7 @@ use Rattle.rb_picture.specs.declared.form.Form.TheVariants.{Draw, Show}
 use Rattle.rb_picture.specs.declared.status.Status.{Status}
 use Rattle.rb_picture.specs.declared.status.Status.TheVariants as code
 use Rattle.rb_picture.specs.Answers.{IsPicture, IsRefusal, WritesNothing, report_limit}
-use Rattle.rb_picture.specs.Forms.{IsInRange, words_of}
+use Rattle.rb_picture.specs.Forms.{Ask}
 use Rattle.rb_picture.specs.Pages.{page_text}
 use Rattle.robus_c.specs.declared.answer.Answer.{Answer}
 use Rattle.robus_c.specs.Put.{IsAnswer}
@@ -19,11 +19,6 @@ number_of code.TooLong = 4
 number_of code.ReadFault = 5
 number_of code.WriteFault = 6
 number_of code.OutOfMemory = 7
-
--- these words are those of the form, whose numbers are in range
-pub record Ask (words : List (List ℕ)) (form : Form) : Type 0 where
-  pub same : words ≡ words_of form
-  pub in_range : IsInRange form
 
 -- the output is what the form asks for: the picture of these frames of the report that the input is, or what the flag asks for
 abbrev pub Gives : Form → List ℕ → List ℕ → Type 0
