@@ -6,3 +6,4 @@ pub mod OneForm
 pub mod Spelled
 pub mod Promised
 pub mod Completeness
+pub mod Called

@@ -9,3 +9,4 @@ pub mod Answers
 pub mod Promise
 pub mod Reading
 pub mod Serving
+pub mod Calls

@@ -2,6 +2,7 @@
 use Rattle.std.specs.Prelude.{⊤, ℕ, ◌≡◌, ◌⊎◌, Bool, List, Option}
 use Rattle.std.specs.Io.KnownBytes.{Appends}
 use Rattle.rb_outside.specs.Bytes.{AppendsPart}
+use Rattle.rb_outside.specs.Causes.{Rose}
 use Rattle.rb_base.specs.declared.node.NodeName.{NodeName}
 use Rattle.rb_rules.specs.Goodness.{Scenario}
 use Rattle.rb_world_book.specs.declared.turn.Turn.{Turn}
@@ -13,6 +14,7 @@ use Rattle.rb_group_run.specs.Runs.{WritesAll as WritesGroups}
 use Rattle.rb_top.specs.declared.status.Status.{Status}
 use Rattle.rb_top.specs.declared.status.Status.TheVariants as answer
 use Rattle.rb_top.specs.Commands.{EndsAs, IsSummary}
+use Rattle.rb_top.specs.Statuses.{HasEnded}
 
 -- a run was opened, the drive gave all its turns, and their report was written
 pub record IsReported (sc : Scenario) (status : Status) (is_plain : Bool) (told told' : Option (List Turn)) (held held' : Option (List ℕ)) : Type 0 where
@@ -105,3 +107,37 @@ pub record WritesPartOf (IsText : List ℕ → List ℕ → Type 0) (bytes : Lis
 -- a text of either kind
 abbrev pub Either : (List ℕ → List ℕ → Type 0) → (List ℕ → List ℕ → Type 0) → List ℕ → List ℕ → Type 0
 Either IsLine IsText bytes text = IsLine bytes text ⊎ IsText bytes text
+
+-- the input is refused: this line was written, or a first part of it and a write failed
+pub record RefusesWith {K : Type 0} (line : List ℕ) (status : Status) (held : K → Option (List ℕ)) (writes : K → ℕ) (sink sink' : K) : Type 0 where
+  pub refused : status ≡ answer.Refused → Appends (held sink) (held sink') line
+  pub part : status ≡ answer.WriteFault → AppendsPart (held sink) (held sink') line
+  pub cause : status ≡ answer.WriteFault → Rose (writes sink) (writes sink')
+  pub either : (status ≡ answer.Refused) ⊎ (status ≡ answer.WriteFault)
+
+-- this text was written, or a first part of it and a write failed
+pub record WritesText {K : Type 0} (text : List ℕ) (status : Status) (held : K → Option (List ℕ)) (writes : K → ℕ) (sink sink' : K) : Type 0 where
+  pub done : status ≡ answer.Done → Appends (held sink) (held sink') text
+  pub part : status ≡ answer.WriteFault → AppendsPart (held sink) (held sink') text
+  pub cause : status ≡ answer.WriteFault → Rose (writes sink) (writes sink')
+  pub one_of : (status ≡ answer.Done) ⊎ (status ≡ answer.WriteFault)
+
+-- such a text of the bytes of a log was written, or such a line that refuses them, or a first part of either and a write failed
+pub record TellsOfLog {K : Type 0} (IsText IsLine : List ℕ → List ℕ → Type 0) (bytes : List ℕ) (status : Status) (held : K → Option (List ℕ)) (writes : K → ℕ) (sink sink' : K) : Type 0 where
+  pub done : status ≡ answer.Done → WritesOf IsText bytes (held sink) (held sink')
+  pub refused : status ≡ answer.Refused → WritesOf IsLine bytes (held sink) (held sink')
+  pub part : status ≡ answer.WriteFault → WritesPartOf (Either IsLine IsText) bytes (held sink) (held sink')
+  pub cause : status ≡ answer.WriteFault → Rose (writes sink) (writes sink')
+  pub one_of : IsOfLog status
+
+-- what is so of the turns that a drive has told, of those it tells next, and of what a sink held and holds
+abbrev pub OfTurns : Type 1
+OfTurns = Bool → Option (List Turn) → Option (List Turn) → Option (List ℕ) → Option (List ℕ) → Type 0
+
+-- a run was opened, and its drive told this to its end, or only a first part was written and a write failed, or there was no memory to open it
+pub record TellsOfRun {K D : Type 0} (IsWhole IsPart : OfTurns) (status : Status) (held : K → Option (List ℕ)) (writes : K → ℕ) (sink sink' : K) (is_plain : D → Bool) (told : D → Option (List Turn)) (drive drive' : D) : Type 0 where
+  pub ended : HasEnded status → IsWhole (is_plain drive) (told drive) (told drive') (held sink) (held sink')
+  pub part : status ≡ answer.WriteFault → IsPart (is_plain drive) (told drive) (told drive') (held sink) (held sink')
+  pub cause : status ≡ answer.WriteFault → Rose (writes sink) (writes sink')
+  pub unopened : status ≡ answer.OutOfMemory → (sink' ≡ sink) × (drive' ≡ drive)
+  pub one_of : IsOfRun status

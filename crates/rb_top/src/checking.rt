@@ -1,10 +1,8 @@
 //! The text of a check.
-ghost use Rattle.std.specs.Prelude.{◌≡◌, ◌⊎◌, ◌<◌, ◌≤◌, ◌+◌};
-ghost use Rattle.std.specs.Io.KnownBytes.{Appends};
-ghost use Rattle.rb_outside.specs.Bytes.{AppendsPart};
-ghost use Rattle.rb_outside.specs.Causes.{Rose};
+ghost use Rattle.std.specs.Prelude.{◌≡◌, ◌<◌, ◌≤◌, ◌+◌};
 ghost use Rattle.rb_outside.specs.Writing.{Writes};
 ghost use Rattle.rb_top.specs.CheckText.{check_text, text_after};
+ghost use Rattle.rb_top.specs.Serving.{WritesText};
 
 use crate::status::Status;
 use arrayvec::ArrayString;
@@ -24,7 +22,8 @@ fn line_after(plan: &Feasible, before: u8) -> ArrayString<96>
 
 // Writes both sides of the seven inequalities, a line each.
 fn write_check<K: Sink>(plan: &Feasible, output: &mut K) -> Result<(), Failed>
-    ensures { Writes K.held K.faults output.old output.new result (check_text plan.now.sizes plan.now.plan) }
+    ensures { Writes K.held K.faults output.old output.new result
+        (check_text plan.now.sizes plan.now.plan) }
 {
     for before in 0..7u8 {
         write_line(output, &line_after(plan, before))?;
@@ -34,12 +33,8 @@ fn write_check<K: Sink>(plan: &Feasible, output: &mut K) -> Result<(), Failed>
 
 /// Writes both sides of the seven inequalities of the scenario's plan.
 pub(crate) fn show_sides<K: Sink>(scenario: &Scenario, output: &mut K) -> Status
-    ensures done { result ≡ Status.Done
-        → Appends (K.held output.old) (K.held output.new) (check_text scenario.now.plan.sizes scenario.now.plan.plan) }
-    ensures part { result ≡ Status.WriteFault
-        → AppendsPart (K.held output.old) (K.held output.new) (check_text scenario.now.plan.sizes scenario.now.plan.plan) }
-    ensures cause { result ≡ Status.WriteFault → Rose (K.faults output.old) (K.faults output.new) }
-    ensures one_of { (result ≡ Status.Done) ⊎ (result ≡ Status.WriteFault) }
+    ensures { WritesText (check_text scenario.now.plan.sizes scenario.now.plan.plan) result
+        K.held K.faults output.old output.new }
 {
     match write_check(&scenario.plan, output) {
         Ok(()) => Status::Done,

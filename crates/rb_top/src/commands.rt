@@ -1,10 +1,7 @@
 //! Commands that read a source: each is a word of the program as a call of its own.
-ghost use Rattle.std.specs.Prelude.{◌≡◌, Bool, IsTrue, List, Option};
-ghost use Rattle.rb_world_book.specs.declared.turn.Turn.{Turn};
-ghost use Rattle.rb_top.specs.Answers.{CommandAnswers, CommandCompletes};
-ghost use Rattle.rb_top.specs.Commands.{check_command, group_command, letters_command, listen_command, record_command, replay_command, run_command};
-ghost use Rattle.rb_top.specs.Promise.{KeepsTheHeadline};
-ghost use Rattle.rb_top.specs.Statuses.{HasEnded, RunsNothing, WritesNothing};
+ghost use Rattle.rb_top.specs.Calls.{AnswersAlone, AnswersDriven};
+ghost use Rattle.rb_top.specs.Commands.{check_command, group_command, letters_command};
+ghost use Rattle.rb_top.specs.Commands.{listen_command, record_command, replay_command, run_command};
 ghost use Rattle.rb_top.specs.Texts.{told_by_group, told_by_letters, told_by_run};
 
 use crate::checking::show_sides;
@@ -38,18 +35,8 @@ pub fn run<S: Source, K: Sink, D: Drive>(
     apps: &Apps,
     drive: &mut D,
 ) -> Status
-    ensures promise { IsTrue (D.is_plain drive.old) → HasEnded result
-        → KeepsTheHeadline told_by_run result (S.left input.old) (S.left input.new)
-        (K.held output.old) (K.held output.new) }
-    ensures answers { CommandAnswers run_command result (S.left input.old) (S.left input.new)
-        (S.faults input.old) (S.faults input.new)
-        (K.held output.old) (K.held output.new) (K.faults output.old) (K.faults output.new)
-        (D.is_plain drive.old) (D.told drive.old) (D.told drive.new) }
-    ensures complete { CommandCompletes run_command result (S.left input.old) (S.faults input.old)
-        (S.faults input.new)
-        (K.faults output.old) (K.faults output.new) }
-    ensures unwritten { WritesNothing result → output.new ≡ output.old }
-    ensures not_driven { RunsNothing result → drive.new ≡ drive.old }
+    ensures { AnswersDriven run_command told_by_run result S.left S.faults input.old input.new
+        K.held K.faults output.old output.new D.is_plain D.told drive.old drive.new }
 {
     match read_scenario(alloc, input, output) {
         Ok(scenario) => report(alloc, scenario, output, apps, drive),
@@ -62,15 +49,8 @@ pub fn run<S: Source, K: Sink, D: Drive>(
 ///
 /// Answers come as those of `run`; `Breach` and `Usage` never come.
 pub fn check<S: Source, K: Sink>(alloc: Global, input: &mut S, output: &mut K) -> Status
-    ensures answers { (is_plain : Bool) (told : Option (List Turn))
-        → CommandAnswers check_command result (S.left input.old) (S.left input.new)
-        (S.faults input.old) (S.faults input.new)
-        (K.held output.old) (K.held output.new) (K.faults output.old) (K.faults output.new) is_plain
-        told told }
-    ensures complete { CommandCompletes check_command result (S.left input.old) (S.faults input.old)
-        (S.faults input.new)
-        (K.faults output.old) (K.faults output.new) }
-    ensures unwritten { WritesNothing result → output.new ≡ output.old }
+    ensures { AnswersAlone check_command result S.left S.faults input.old input.new
+        K.held K.faults output.old output.new }
 {
     match read_scenario(alloc, input, output) {
         Ok(scenario) => show_sides(&scenario, output),
@@ -90,15 +70,8 @@ pub fn record<S: Source, K: Sink>(
     output: &mut K,
     apps: &Apps,
 ) -> Status
-    ensures answers { (is_plain : Bool) (told : Option (List Turn))
-        → CommandAnswers (record_command node) result (S.left input.old) (S.left input.new)
-        (S.faults input.old) (S.faults input.new)
-        (K.held output.old) (K.held output.new) (K.faults output.old) (K.faults output.new) is_plain
-        told told }
-    ensures complete { CommandCompletes (record_command node) result (S.left input.old)
-        (S.faults input.old) (S.faults input.new)
-        (K.faults output.old) (K.faults output.new) }
-    ensures unwritten { WritesNothing result → output.new ≡ output.old }
+    ensures { AnswersAlone (record_command node) result S.left S.faults input.old input.new
+        K.held K.faults output.old output.new }
 {
     let scenario = match read_scenario(alloc, input, output) {
         Ok(scenario) => scenario,
@@ -116,15 +89,8 @@ pub fn record<S: Source, K: Sink>(
 /// byte. `TooLong`: the source gave more than 67,108,864 bytes. Other answers come as those of
 /// `run`; `Breach` and `Usage` never come.
 pub fn replay<S: Source, K: Sink>(alloc: Global, input: &mut S, output: &mut K) -> Status
-    ensures answers { (is_plain : Bool) (told : Option (List Turn))
-        → CommandAnswers replay_command result (S.left input.old) (S.left input.new)
-        (S.faults input.old) (S.faults input.new)
-        (K.held output.old) (K.held output.new) (K.faults output.old) (K.faults output.new) is_plain
-        told told }
-    ensures complete { CommandCompletes replay_command result (S.left input.old)
-        (S.faults input.old) (S.faults input.new)
-        (K.faults output.old) (K.faults output.new) }
-    ensures unwritten { WritesNothing result → output.new ≡ output.old }
+    ensures { AnswersAlone replay_command result S.left S.faults input.old input.new
+        K.held K.faults output.old output.new }
 {
     match read_log(alloc, input) {
         Ok(bytes) => replay_bytes(&bytes, output),
@@ -137,15 +103,8 @@ pub fn replay<S: Source, K: Sink>(alloc: Global, input: &mut S, output: &mut K) 
 ///
 /// Answers come as those of `replay`; `Refused` comes of the log of an RMU, too.
 pub fn listen<S: Source, K: Sink>(alloc: Global, skip: u32, input: &mut S, output: &mut K) -> Status
-    ensures answers { (is_plain : Bool) (told : Option (List Turn))
-        → CommandAnswers (listen_command skip) result (S.left input.old) (S.left input.new)
-        (S.faults input.old) (S.faults input.new)
-        (K.held output.old) (K.held output.new) (K.faults output.old) (K.faults output.new) is_plain
-        told told }
-    ensures complete { CommandCompletes (listen_command skip) result (S.left input.old)
-        (S.faults input.old) (S.faults input.new)
-        (K.faults output.old) (K.faults output.new) }
-    ensures unwritten { WritesNothing result → output.new ≡ output.old }
+    ensures { AnswersAlone (listen_command skip) result S.left S.faults input.old input.new
+        K.held K.faults output.old output.new }
 {
     match read_log(alloc, input) {
         Ok(bytes) => listen_to(&bytes, skip, output),
@@ -164,18 +123,8 @@ pub fn letters<S: Source, K: Sink, D: Drive>(
     apps: &Apps,
     drive: &mut D,
 ) -> Status
-    ensures promise { IsTrue (D.is_plain drive.old) → HasEnded result
-        → KeepsTheHeadline told_by_letters result (S.left input.old) (S.left input.new)
-        (K.held output.old) (K.held output.new) }
-    ensures answers { CommandAnswers letters_command result (S.left input.old) (S.left input.new)
-        (S.faults input.old) (S.faults input.new)
-        (K.held output.old) (K.held output.new) (K.faults output.old) (K.faults output.new)
-        (D.is_plain drive.old) (D.told drive.old) (D.told drive.new) }
-    ensures complete { CommandCompletes letters_command result (S.left input.old)
-        (S.faults input.old) (S.faults input.new)
-        (K.faults output.old) (K.faults output.new) }
-    ensures unwritten { WritesNothing result → output.new ≡ output.old }
-    ensures not_driven { RunsNothing result → drive.new ≡ drive.old }
+    ensures { AnswersDriven letters_command told_by_letters result S.left S.faults input.old
+        input.new K.held K.faults output.old output.new D.is_plain D.told drive.old drive.new }
 {
     match read_scenario(alloc, input, output) {
         Ok(scenario) => tell_letters(alloc, scenario, output, apps, drive),
@@ -197,16 +146,9 @@ pub fn group<S: Source, K: Sink, D: Drive>(
     drive: &mut D,
     voters: &Voters,
 ) -> Status
-    ensures promise { IsTrue (D.is_plain drive.old) → HasEnded result
-        → KeepsTheHeadline (told_by_group asked.now.which asked.now.members) result (S.left input.old) (S.left input.new) (K.held output.old) (K.held output.new) }
-    ensures answers { CommandAnswers (group_command asked.now.which asked.now.members) result
-        (S.left input.old) (S.left input.new) (S.faults input.old) (S.faults input.new)
-        (K.held output.old) (K.held output.new) (K.faults output.old) (K.faults output.new)
-        (D.is_plain drive.old) (D.told drive.old) (D.told drive.new) }
-    ensures complete { CommandCompletes (group_command asked.now.which asked.now.members) result (S.left input.old) (S.faults input.old) (S.faults input.new)
-        (K.faults output.old) (K.faults output.new) }
-    ensures unwritten { WritesNothing result → output.new ≡ output.old }
-    ensures not_driven { RunsNothing result → drive.new ≡ drive.old }
+    ensures { AnswersDriven (group_command asked.now.which asked.now.members)
+        (told_by_group asked.now.which asked.now.members) result S.left S.faults input.old input.new
+        K.held K.faults output.old output.new D.is_plain D.told drive.old drive.new }
 {
     let scenario = match read_scenario(alloc, input, output) {
         Ok(scenario) => scenario,

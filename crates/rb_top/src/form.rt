@@ -296,7 +296,8 @@ fn gen_of(seed: &str, frames: &str) -> Option<Form>
 
 // `stress` of these numbers.
 fn stress_of(seed: &str, frames: &str) -> Option<Form>
-    ensures some { IfSome result (λ form. (words_of form ≡ codes "stress" ∷ seed.now ∷ frames.now ∷ []) × IsInRange form) }
+    ensures some { IfSome result
+        (λ form. (words_of form ≡ codes "stress" ∷ seed.now ∷ frames.now ∷ []) × IsInRange form) }
     ensures none { IfNone result ((form : Form) → IsInRange form
         → words_of form ≢ codes "stress" ∷ seed.now ∷ frames.now ∷ []) }
 {
@@ -308,7 +309,8 @@ fn stress_of(seed: &str, frames: &str) -> Option<Form>
 
 // `group` of this voter and these members.
 fn group_of(voter: &str, members: &str) -> Option<Form>
-    ensures some { IfSome result (λ form. (words_of form ≡ codes "group" ∷ voter.now ∷ members.now ∷ []) × IsInRange form) }
+    ensures some { IfSome result
+        (λ form. (words_of form ≡ codes "group" ∷ voter.now ∷ members.now ∷ []) × IsInRange form) }
     ensures none { IfNone result ((form : Form) → IsInRange form
         → words_of form ≢ codes "group" ∷ voter.now ∷ members.now ∷ []) }
 {

@@ -22,7 +22,8 @@ use std::alloc::Global;
 /// Writes the text of a generated scenario, line by line.
 pub(crate) fn write_generated<K: Sink>(scenario: &Scenario, output: &mut K) -> Result<(), Failed>
     requires { IsGenerated (as_scenario scenario.now) }
-    ensures { Writes K.held K.faults output.old output.new result (flat_map (λ text. text) (lines_of (as_scenario scenario.now))) }
+    ensures { Writes K.held K.faults output.old output.new result
+        (flat_map (λ text. text) (lines_of (as_scenario scenario.now))) }
 {
     let mut next = 0;
     while let Some(text) = line(scenario, next) {

@@ -1,11 +1,7 @@
 //! What a passive listener tells of a log.
-ghost use Rattle.std.specs.Prelude.{◌≡◌, ◌⊎◌};
-ghost use Rattle.std.specs.Io.KnownBytes.{Appends};
-ghost use Rattle.rb_outside.specs.Bytes.{AppendsPart};
-ghost use Rattle.rb_outside.specs.Causes.{Rose};
 ghost use Rattle.rb_top.specs.Commands.{IsNotForListeners, IsOverheard};
 ghost use Rattle.rb_top.specs.Inputs.{rmu_text};
-ghost use Rattle.rb_top.specs.Serving.{Either, IsOfLog, WritesOf, WritesPartOf};
+ghost use Rattle.rb_top.specs.Serving.{RefusesWith, TellsOfLog};
 
 use crate::reading::refuse_with;
 use crate::replaying::refuse_log;
@@ -17,12 +13,7 @@ use rb_report::refused_line;
 
 // Refuses a log that is not that of a BIU.
 fn refuse_rmu<K: Sink>(output: &mut K) -> Status
-    ensures refused { result ≡ Status.Refused
-        → Appends (K.held output.old) (K.held output.new) rmu_text }
-    ensures part { result ≡ Status.WriteFault
-        → AppendsPart (K.held output.old) (K.held output.new) rmu_text }
-    ensures cause { result ≡ Status.WriteFault → Rose (K.faults output.old) (K.faults output.new) }
-    ensures either { (result ≡ Status.Refused) ⊎ (result ≡ Status.WriteFault) }
+    ensures { RefusesWith rmu_text result K.held K.faults output.old output.new }
 {
     let line = refused_line(5, None, true);
     refuse_with(&line, output)
@@ -31,15 +22,8 @@ fn refuse_rmu<K: Sink>(output: &mut K) -> Status
 /// Gives the log that the bytes spell to a passive listener, from the tick of this number on, and
 /// writes what that tells, or the line that says why they spell no log of a BIU.
 pub(crate) fn listen_to<K: Sink>(bytes: &[u8], skip: u32, output: &mut K) -> Status
-    ensures done { result ≡ Status.Done
-        → WritesOf (IsOverheard skip) bytes.now (K.held output.old) (K.held output.new) }
-    ensures refused { result ≡ Status.Refused
-        → WritesOf IsNotForListeners bytes.now (K.held output.old) (K.held output.new) }
-    ensures part { result ≡ Status.WriteFault
-        → WritesPartOf (Either IsNotForListeners (IsOverheard skip)) bytes.now (K.held output.old)
-        (K.held output.new) }
-    ensures cause { result ≡ Status.WriteFault → Rose (K.faults output.old) (K.faults output.new) }
-    ensures one_of { IsOfLog result }
+    ensures { TellsOfLog (IsOverheard skip) IsNotForListeners bytes.now result
+        K.held K.faults output.old output.new }
 {
     let log = match LogReader::open(bytes) {
         Ok(log) => log,

@@ -1,9 +1,7 @@
 //! What the program says of itself.
-ghost use Rattle.std.specs.Prelude.{◌≡◌, ◌⊎◌};
-ghost use Rattle.std.specs.Io.KnownBytes.{Appends};
-ghost use Rattle.rb_outside.specs.Bytes.{AppendsPart};
-ghost use Rattle.rb_outside.specs.Causes.{Rose};
+ghost use Rattle.std.specs.Prelude.{◌≡◌};
 ghost use Rattle.rb_top.specs.Pages.{help_text, page_text};
+ghost use Rattle.rb_top.specs.Serving.{WritesText};
 
 use crate::status::Status;
 use rb_flags::Flag;
@@ -58,12 +56,7 @@ fn page_of(flag: Flag) -> &'static str
 
 /// Writes what the flag asks for.
 pub(crate) fn write_page<K: Sink>(flag: Flag, output: &mut K) -> Status
-    ensures done { result ≡ Status.Done
-        → Appends (K.held output.old) (K.held output.new) (page_text flag) }
-    ensures part { result ≡ Status.WriteFault
-        → AppendsPart (K.held output.old) (K.held output.new) (page_text flag) }
-    ensures cause { result ≡ Status.WriteFault → Rose (K.faults output.old) (K.faults output.new) }
-    ensures one_of { (result ≡ Status.Done) ⊎ (result ≡ Status.WriteFault) }
+    ensures { WritesText (page_text flag) result K.held K.faults output.old output.new }
 {
     match write_all(output, page_of(flag).as_bytes()) {
         Ok(()) => Status::Done,

@@ -1,11 +1,9 @@
 //! Reading a scenario or a log from a source.
-ghost use Rattle.std.specs.Prelude.{◌≡◌, ◌<◌, ◌≤◌, ◌⊎◌, ◌^◌, IfOk, IfErr};
-ghost use Rattle.std.specs.Io.KnownBytes.{Appends};
-ghost use Rattle.rb_outside.specs.Bytes.{AppendsPart, Gave, ReadsToEnd};
-ghost use Rattle.rb_outside.specs.Causes.{Rose};
+ghost use Rattle.std.specs.Prelude.{◌≡◌, ◌<◌, ◌≤◌, ◌^◌, IfOk, IfErr};
+ghost use Rattle.rb_outside.specs.Bytes.{Gave, ReadsToEnd};
 ghost use Rattle.rb_top.specs.Inputs.{HasCode, IsUnreadOver, log_limit, member_text, rule_text};
 ghost use Rattle.rb_top.specs.Reading.{ReadsNone, ReadsScenario};
-ghost use Rattle.rb_top.specs.Serving.{IsNotRead};
+ghost use Rattle.rb_top.specs.Serving.{IsNotRead, RefusesWith};
 ghost use Rattle.rb_top.specs.Statuses.{WritesNothing};
 
 use crate::status::Status;
@@ -26,12 +24,7 @@ const NO_SUCH_MEMBER: u8 = 14;
 
 /// Refuses the input with this line.
 pub(crate) fn refuse_with<K: Sink, const N: usize>(line: &ArrayString<N>, output: &mut K) -> Status
-    ensures refused { result ≡ Status.Refused
-        → Appends (K.held output.old) (K.held output.new) line.now.bytes }
-    ensures part { result ≡ Status.WriteFault
-        → AppendsPart (K.held output.old) (K.held output.new) line.now.bytes }
-    ensures cause { result ≡ Status.WriteFault → Rose (K.faults output.old) (K.faults output.new) }
-    ensures either { (result ≡ Status.Refused) ⊎ (result ≡ Status.WriteFault) }
+    ensures { RefusesWith line.now.bytes result K.held K.faults output.old output.new }
 {
     match write_line(output, line) {
         Ok(()) => Status::Refused,
@@ -42,12 +35,7 @@ pub(crate) fn refuse_with<K: Sink, const N: usize>(line: &ArrayString<N>, output
 /// Refuses the input for a rule that it breaks.
 pub(crate) fn refuse<K: Sink>(rule: Refusal, output: &mut K) -> Status
     requires { HasCode rule }
-    ensures refused { result ≡ Status.Refused
-        → Appends (K.held output.old) (K.held output.new) (rule_text rule) }
-    ensures part { result ≡ Status.WriteFault
-        → AppendsPart (K.held output.old) (K.held output.new) (rule_text rule) }
-    ensures cause { result ≡ Status.WriteFault → Rose (K.faults output.old) (K.faults output.new) }
-    ensures either { (result ≡ Status.Refused) ⊎ (result ≡ Status.WriteFault) }
+    ensures { RefusesWith (rule_text rule) result K.held K.faults output.old output.new }
 {
     let line = refused_line(rule.code().unwrap_or(0), rule.detail(), false);
     refuse_with(&line, output)
@@ -55,12 +43,7 @@ pub(crate) fn refuse<K: Sink>(rule: Refusal, output: &mut K) -> Status
 
 /// Refuses the input for a member that its bus has not.
 pub(crate) fn refuse_member<K: Sink>(output: &mut K) -> Status
-    ensures refused { result ≡ Status.Refused
-        → Appends (K.held output.old) (K.held output.new) member_text }
-    ensures part { result ≡ Status.WriteFault
-        → AppendsPart (K.held output.old) (K.held output.new) member_text }
-    ensures cause { result ≡ Status.WriteFault → Rose (K.faults output.old) (K.faults output.new) }
-    ensures either { (result ≡ Status.Refused) ⊎ (result ≡ Status.WriteFault) }
+    ensures { RefusesWith member_text result K.held K.faults output.old output.new }
 {
     let line = refused_line(NO_SUCH_MEMBER, None, false);
     refuse_with(&line, output)
@@ -71,9 +54,10 @@ pub(crate) fn refuse_member<K: Sink>(output: &mut K) -> Status
 fn read_within<S: Source>(alloc: Global, input: &mut S, limit: usize) -> Result<Vec<u8>, Status>
     requires { limit < 2 ^ 32 }
     ensures whole { IfOk result (λ v. ReadsToEnd (S.left input.old) (S.left input.new) v.items) }
-    ensures short_enough { IfOk result (λ _. Gave (S.left input.old) (S.left input.new) (λ n. n ≤ limit)) }
-    ensures unread { IfErr result (λ status. IsUnreadOver limit status (S.left input.old) (S.left input.new)
-        (S.faults input.old) (S.faults input.new)) }
+    ensures short_enough { IfOk result
+        (λ _. Gave (S.left input.old) (S.left input.new) (λ n. n ≤ limit)) }
+    ensures unread { IfErr result (λ status. IsUnreadOver limit status (S.left input.old)
+        (S.left input.new) (S.faults input.old) (S.faults input.new)) }
     ensures one_of { IfErr result IsNotRead }
 {
     match read_all(alloc, input, limit) {
@@ -91,8 +75,9 @@ pub(crate) fn read_scenario<S: Source, K: Sink>(
     output: &mut K,
 ) -> Result<Scenario, Status>
     ensures scenario { IfOk result (ReadsScenario (S.left input.old) (S.left input.new)) }
-    ensures none { IfErr result (λ status. ReadsNone status (S.left input.old) (S.left input.new) (S.faults input.old) (S.faults input.new)
-        (K.held output.old) (K.held output.new) (K.faults output.old) (K.faults output.new)) }
+    ensures none { IfErr result (λ status. ReadsNone status (S.left input.old) (S.left input.new)
+        (S.faults input.old) (S.faults input.new) (K.held output.old) (K.held output.new)
+        (K.faults output.old) (K.faults output.new)) }
     ensures unwritten { IfOk result (λ _. output.new ≡ output.old) }
     ensures nothing { IfErr result (λ status. WritesNothing status → output.new ≡ output.old) }
 {
@@ -108,9 +93,10 @@ pub(crate) fn read_scenario<S: Source, K: Sink>(
 /// had.
 pub(crate) fn read_log<S: Source>(alloc: Global, input: &mut S) -> Result<Vec<u8>, Status>
     ensures whole { IfOk result (λ v. ReadsToEnd (S.left input.old) (S.left input.new) v.items) }
-    ensures short_enough { IfOk result (λ _. Gave (S.left input.old) (S.left input.new) (λ n. n ≤ log_limit)) }
-    ensures unread { IfErr result (λ status. IsUnreadOver log_limit status (S.left input.old) (S.left input.new)
-        (S.faults input.old) (S.faults input.new)) }
+    ensures short_enough { IfOk result
+        (λ _. Gave (S.left input.old) (S.left input.new) (λ n. n ≤ log_limit)) }
+    ensures unread { IfErr result (λ status. IsUnreadOver log_limit status (S.left input.old)
+        (S.left input.new) (S.faults input.old) (S.faults input.new)) }
     ensures one_of { IfErr result IsNotRead }
 {
     read_within(alloc, input, LOG_LIMIT)

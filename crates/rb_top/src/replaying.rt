@@ -1,11 +1,8 @@
 //! What the node of a log tells.
-ghost use Rattle.std.specs.Prelude.{◌≡◌, ◌⊎◌};
-ghost use Rattle.std.specs.Io.KnownBytes.{Appends};
-ghost use Rattle.rb_outside.specs.Bytes.{AppendsPart};
-ghost use Rattle.rb_outside.specs.Causes.{Rose};
+ghost use Rattle.std.specs.Prelude.{◌≡◌};
 ghost use Rattle.rb_top.specs.Commands.{IsReplay};
 ghost use Rattle.rb_top.specs.Inputs.{BreaksLog, fault_text, log_code, log_place};
-ghost use Rattle.rb_top.specs.Serving.{Either, IsOfLog, WritesOf, WritesPartOf};
+ghost use Rattle.rb_top.specs.Serving.{RefusesWith, TellsOfLog};
 
 use crate::reading::refuse_with;
 use crate::status::Status;
@@ -39,12 +36,7 @@ fn place_of(fault: LogRefusal) -> Option<u64>
 
 /// Refuses the log for its fault.
 pub(crate) fn refuse_log<K: Sink>(fault: LogRefusal, output: &mut K) -> Status
-    ensures refused { result ≡ Status.Refused
-        → Appends (K.held output.old) (K.held output.new) (fault_text fault) }
-    ensures part { result ≡ Status.WriteFault
-        → AppendsPart (K.held output.old) (K.held output.new) (fault_text fault) }
-    ensures cause { result ≡ Status.WriteFault → Rose (K.faults output.old) (K.faults output.new) }
-    ensures either { (result ≡ Status.Refused) ⊎ (result ≡ Status.WriteFault) }
+    ensures { RefusesWith (fault_text fault) result K.held K.faults output.old output.new }
 {
     let line = refused_line(code_of(fault), place_of(fault), true);
     refuse_with(&line, output)
@@ -53,15 +45,8 @@ pub(crate) fn refuse_log<K: Sink>(fault: LogRefusal, output: &mut K) -> Status
 /// Gives the log that the bytes spell to its node and writes what it tells, or the line that says
 /// why they spell none.
 pub(crate) fn replay_bytes<K: Sink>(bytes: &[u8], output: &mut K) -> Status
-    ensures done { result ≡ Status.Done
-        → WritesOf IsReplay bytes.now (K.held output.old) (K.held output.new) }
-    ensures refused { result ≡ Status.Refused
-        → WritesOf BreaksLog bytes.now (K.held output.old) (K.held output.new) }
-    ensures part { result ≡ Status.WriteFault
-        → WritesPartOf (Either BreaksLog IsReplay) bytes.now (K.held output.old)
-        (K.held output.new) }
-    ensures cause { result ≡ Status.WriteFault → Rose (K.faults output.old) (K.faults output.new) }
-    ensures one_of { IsOfLog result }
+    ensures { TellsOfLog IsReplay BreaksLog bytes.now result
+        K.held K.faults output.old output.new }
 {
     match LogReader::open(bytes) {
         Ok(log) => match replay(log, output) {

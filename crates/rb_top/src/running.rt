@@ -44,9 +44,11 @@ pub(crate) fn report<K: Sink, D: Drive>(
 ) -> Status
     requires { IsLawful (as_scenario scenario) }
     ensures ended { HasEnded result
-        → IsReported (as_scenario scenario) result (D.is_plain drive.old) (D.told drive.old) (D.told drive.new) (K.held output.old) (K.held output.new) }
+        → IsReported (as_scenario scenario) result (D.is_plain drive.old) (D.told drive.old)
+        (D.told drive.new) (K.held output.old) (K.held output.new) }
     ensures part { result ≡ Status.WriteFault
-        → WritesPart (as_scenario scenario) (D.is_plain drive.old) (D.told drive.old) (D.told drive.new) (K.held output.old) (K.held output.new) }
+        → WritesPart (as_scenario scenario) (D.is_plain drive.old) (D.told drive.old)
+        (D.told drive.new) (K.held output.old) (K.held output.new) }
     ensures cause { result ≡ Status.WriteFault → Rose (K.faults output.old) (K.faults output.new) }
     ensures unopened { result ≡ Status.OutOfMemory
         → (output.new ≡ output.old) × (drive.new ≡ drive.old) }

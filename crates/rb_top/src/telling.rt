@@ -31,9 +31,11 @@ pub(crate) fn tell_letters<K: Sink, D: Drive>(
 ) -> Status
     requires { IsLawful (as_scenario scenario) }
     ensures ended { HasEnded result
-        → IsLettered (as_scenario scenario) result (D.is_plain drive.old) (D.told drive.old) (D.told drive.new) (K.held output.old) (K.held output.new) }
+        → IsLettered (as_scenario scenario) result (D.is_plain drive.old) (D.told drive.old)
+        (D.told drive.new) (K.held output.old) (K.held output.new) }
     ensures part { result ≡ Status.WriteFault
-        → WritesSome (as_scenario scenario) (D.is_plain drive.old) (D.told drive.old) (D.told drive.new) (K.held output.old) (K.held output.new) }
+        → WritesSome (as_scenario scenario) (D.is_plain drive.old) (D.told drive.old)
+        (D.told drive.new) (K.held output.old) (K.held output.new) }
     ensures cause { result ≡ Status.WriteFault → Rose (K.faults output.old) (K.faults output.new) }
     ensures unopened { result ≡ Status.OutOfMemory
         → (output.new ≡ output.old) × (drive.new ≡ drive.old) }
@@ -68,9 +70,11 @@ pub(crate) fn tell_group<K: Sink, D: Drive>(
 ) -> Status
     requires { IsLawful (as_scenario scenario) }
     ensures ended { HasEnded result
-        → IsGrouped (as_scenario scenario) asked.now result (D.is_plain drive.old) (D.told drive.old) (D.told drive.new) (K.held output.old) (K.held output.new) }
+        → IsGrouped (as_scenario scenario) asked.now result (D.is_plain drive.old)
+        (D.told drive.old) (D.told drive.new) (K.held output.old) (K.held output.new) }
     ensures part { result ≡ Status.WriteFault
-        → WritesPart (as_scenario scenario) asked.now (D.is_plain drive.old) (D.told drive.old) (D.told drive.new) (K.held output.old) (K.held output.new) }
+        → WritesPart (as_scenario scenario) asked.now (D.is_plain drive.old) (D.told drive.old)
+        (D.told drive.new) (K.held output.old) (K.held output.new) }
     ensures cause { result ≡ Status.WriteFault → Rose (K.faults output.old) (K.faults output.new) }
     ensures unopened { result ≡ Status.OutOfMemory
         → (output.new ≡ output.old) × (drive.new ≡ drive.old) }

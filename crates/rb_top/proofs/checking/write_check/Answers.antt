@@ -13,9 +13,16 @@ loop-before-preserved g c = record {
   later = search rules;
 }
 
-pub returns-in_err-write_line-clause-part : goal.returns-in_err-write_line-clause-part
-returns-in_err-write_line-clause-part g c =
-    on_err _ (part_of_pieces _ _ _ _ [] (text_after c.args.plan.now.sizes c.args.plan.now.plan) c.loop-before.before 7 (omega arith) c.loop-before.invariant.owes (search rules))
+pub returns-in_err-write_line : goal.returns-in_err-write_line
+returns-in_err-write_line g c = record {
+  all = search rules;
+  part = on_err _ (part_of_pieces _ _ _ _ [] (text_after c.args.plan.now.sizes c.args.plan.now.plan) c.loop-before.before 7 (omega arith) c.loop-before.invariant.owes (search rules));
+  cause = search rules;
+}
 
-pub returns-clause-all : goal.returns-clause-all
-returns-clause-all g c = owes_none _ _ _ (owes_tail _ _ _ [] (text_after c.args.plan.now.sizes c.args.plan.now.plan) c.loop-before.before 7 (omega arith) c.loop-before.invariant.owes)
+pub returns : goal.returns
+returns g c = record {
+  all = owes_none _ _ _ (owes_tail _ _ _ [] (text_after c.args.plan.now.sizes c.args.plan.now.plan) c.loop-before.before 7 (omega arith) c.loop-before.invariant.owes);
+  part = search rules;
+  cause = search rules;
+}

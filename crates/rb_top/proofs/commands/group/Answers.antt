@@ -1,23 +1,28 @@
-use Rattle.std.proofs.Common.{◌∙◌, ℕ, subst, sym}
+use Rattle.std.proofs.Common.{◌∙◌, ℕ, subst, sym, refl}
 use Rattle.rb_group_run.specs.Members.{AreMembers}
 use Rattle.std.proofs.lemmas.Bool.{false≢true}
 use Rattle.rb_top.proofs.CommandAnswers.{Lacks, Reports, group_reads, group_reports, group_tells, is_memory, is_memory_only, lack_answers, lacks_member, neither_is_silent, none_answers, report_answers}
 use Rattle.rb_top.specs.Inputs.{member_text}
 use Rattle.rb_top.specs.Texts.{told_by_group}
 use Rattle.rb_top.specs.Commands.{group_command}
-use Rattle.rb_top.proofs.Completeness.{completes, group_sound}
+use Rattle.rb_top.proofs.Completeness.{group_sound}
 use Rattle.rb_top.proofs.Promised.{group_promised}
+use Rattle.rb_top.proofs.Called.{answers_driven}
 use Rattle.rb_top.proofs.commands.group.Goals as goal
 
-pub returns-in-Err-clause-answers : goal.returns-in-Err-clause-answers
-returns-in-Err-clause-answers g c =
-    none_answers (group_command c.args.asked.now.which c.args.asked.now.members) (group_reads c.args.asked.now.which c.args.asked.now.members) c.in-Err.status _ _ _ _ _ _ _ _ _ _ c.in-Err.ensures.none
+pub returns-in-Err : goal.returns-in-Err
+returns-in-Err g c =
+    answers_driven (group_command c.args.asked.now.which c.args.asked.now.members) (told_by_group c.args.asked.now.which c.args.asked.now.members) (group_sound _ _) _ g.S.Source.left g.S.Source.faults _ _ g.K.Sink.held g.K.Sink.faults _ _ g.D.Drive.is_plain g.D.Drive.told _ _ (group_promised _ _ _ _ _ _ _ _ _ _)
+    (none_answers (group_command c.args.asked.now.which c.args.asked.now.members) (group_reads c.args.asked.now.which c.args.asked.now.members) c.in-Err.status _ _ _ _ _ _ _ _ _ _ c.in-Err.ensures.none)
+    (c.in-Err.ensures.nothing)
+    (λ h. refl)
 
-pub returns-then-not-has_all-clause-answers : goal.returns-then-not-has_all-clause-answers
-returns-then-not-has_all-clause-answers g c =
+pub returns-then-not-has_all : goal.returns-then-not-has_all
+returns-then-not-has_all g c =
     let Q : ℕ → Type 0 = λ m. AreMembers c.in-Ok.scenario.plan.sizes m in
     let P : g.row.K.Denot → Type 0 = λ k. Lacks member_text c.refuse_member.result (g.K.Sink.held k) (g.K.Sink.held c.refuse_member.new.output) (g.K.Sink.faults k) (g.K.Sink.faults c.refuse_member.new.output) in
-    lack_answers (group_command c.args.asked.now.which c.args.asked.now.members) c.in-Ok.scenario member_text c.refuse_member.result _ _ _ _ _ _ _ _ _ _ (group_reads c.args.asked.now.which c.args.asked.now.members)
+    answers_driven (group_command c.args.asked.now.which c.args.asked.now.members) (told_by_group c.args.asked.now.which c.args.asked.now.members) (group_sound _ _) _ g.S.Source.left g.S.Source.faults _ _ g.K.Sink.held g.K.Sink.faults _ _ g.D.Drive.is_plain g.D.Drive.told _ _ (group_promised _ _ _ _ _ _ _ _ _ _)
+    (lack_answers (group_command c.args.asked.now.which c.args.asked.now.members) c.in-Ok.scenario member_text c.refuse_member.result _ _ _ _ _ _ _ _ _ _ (group_reads c.args.asked.now.which c.args.asked.now.members)
     (lacks_member c.in-Ok.scenario c.args.asked.now.which c.args.asked.now.members
     (λ there. false≢true (sym c.if-not-has_all.true ∙ c.has_all.ensures.1 (subst Q (sym c.bits.ensures) there)))) c.in-Ok.ensures.scenario
     (subst P c.in-Ok.ensures.unwritten (record {
@@ -25,42 +30,20 @@ returns-then-not-has_all-clause-answers g c =
       part = c.refuse_member.ensures.part;
       cause = c.refuse_member.ensures.cause;
       one_of = c.refuse_member.ensures.either;
-    }))
+    })))
+    (λ h. absurd (neither_is_silent c.refuse_member.result c.refuse_member.ensures.either h))
+    (λ h. refl)
 
-pub returns-clause-answers : goal.returns-clause-answers
-returns-clause-answers g c =
+pub returns : goal.returns
+returns g c =
     let asked = c.args.asked.now in
     let Q : ℕ → Type 0 = λ m. AreMembers c.in-Ok.scenario.plan.sizes m in
     let P : g.row.K.Denot → Type 0 = λ k. Reports (told_by_group asked.which asked.members) c.in-Ok.scenario c.tell_group.result (g.K.Sink.held k) (g.K.Sink.held c.tell_group.new.output)
     (g.K.Sink.faults k) (g.K.Sink.faults c.tell_group.new.output) (g.D.Drive.is_plain c.args.drive.now) (g.D.Drive.told c.args.drive.now) (g.D.Drive.told c.tell_group.new.drive) in
-    report_answers (group_command asked.which asked.members) (told_by_group asked.which asked.members) c.in-Ok.scenario c.tell_group.result _ _ _ _ _ _ _ _ _ _ _
+    answers_driven (group_command c.args.asked.now.which c.args.asked.now.members) (told_by_group c.args.asked.now.which c.args.asked.now.members) (group_sound _ _) _ g.S.Source.left g.S.Source.faults _ _ g.K.Sink.held g.K.Sink.faults _ _ g.D.Drive.is_plain g.D.Drive.told _ _ (group_promised _ _ _ _ _ _ _ _ _ _)
+    (report_answers (group_command asked.which asked.members) (told_by_group asked.which asked.members) c.in-Ok.scenario c.tell_group.result _ _ _ _ _ _ _ _ _ _ _
     (group_tells c.in-Ok.scenario asked.which asked.members (subst Q c.bits.ensures (c.has_all.ensures.0 c.if-not-has_all.false))) c.in-Ok.ensures.scenario
     (subst P c.in-Ok.ensures.unwritten
-    (group_reports c.in-Ok.scenario asked c.tell_group.result _ _ _ _ _ _ _ c.tell_group.ensures.ended c.tell_group.ensures.part c.tell_group.ensures.cause c.tell_group.ensures.one_of))
-
-pub returns-then-not-has_all-clause-unwritten : goal.returns-then-not-has_all-clause-unwritten
-returns-then-not-has_all-clause-unwritten g c h = absurd (neither_is_silent c.refuse_member.result c.refuse_member.ensures.either h)
-
-pub returns-clause-unwritten : goal.returns-clause-unwritten
-returns-clause-unwritten g c h = (c.tell_group.ensures.unopened (is_memory c.tell_group.result c.tell_group.ensures.one_of h)).0 ∙ c.in-Ok.ensures.unwritten
-
-pub returns-clause-not_driven : goal.returns-clause-not_driven
-returns-clause-not_driven g c h = (c.tell_group.ensures.unopened (is_memory_only c.tell_group.result c.tell_group.ensures.one_of h)).1
-
-pub returns-in-Err-clause-promise : goal.returns-in-Err-clause-promise
-returns-in-Err-clause-promise g c plain h = group_promised _ _ _ _ _ _ _ _ _ _ plain ((returns-in-Err-clause-answers g c).ended h)
-
-pub returns-in-Err-clause-complete : goal.returns-in-Err-clause-complete
-returns-in-Err-clause-complete g c = completes (group_command c.args.asked.now.which c.args.asked.now.members) (group_sound _ _) _ _ _ _ _ _ _ _ _ _ _ _ (returns-in-Err-clause-answers g c)
-
-pub returns-then-not-has_all-clause-promise : goal.returns-then-not-has_all-clause-promise
-returns-then-not-has_all-clause-promise g c plain h = group_promised _ _ _ _ _ _ _ _ _ _ plain ((returns-then-not-has_all-clause-answers g c).ended h)
-
-pub returns-then-not-has_all-clause-complete : goal.returns-then-not-has_all-clause-complete
-returns-then-not-has_all-clause-complete g c = completes (group_command c.args.asked.now.which c.args.asked.now.members) (group_sound _ _) _ _ _ _ _ _ _ _ _ _ _ _ (returns-then-not-has_all-clause-answers g c)
-
-pub returns-clause-promise : goal.returns-clause-promise
-returns-clause-promise g c plain h = group_promised _ _ _ _ _ _ _ _ _ _ plain ((returns-clause-answers g c).ended h)
-
-pub returns-clause-complete : goal.returns-clause-complete
-returns-clause-complete g c = completes (group_command c.args.asked.now.which c.args.asked.now.members) (group_sound _ _) _ _ _ _ _ _ _ _ _ _ _ _ (returns-clause-answers g c)
+    (group_reports c.in-Ok.scenario asked c.tell_group.result _ _ _ _ _ _ _ c.tell_group.ensures.ended c.tell_group.ensures.part c.tell_group.ensures.cause c.tell_group.ensures.one_of)))
+    (λ h. (c.tell_group.ensures.unopened (is_memory c.tell_group.result c.tell_group.ensures.one_of h)).0 ∙ c.in-Ok.ensures.unwritten)
+    (λ h. (c.tell_group.ensures.unopened (is_memory_only c.tell_group.result c.tell_group.ensures.one_of h)).1)

@@ -14,9 +14,16 @@ loop-text-preserved g c =
       later = search rules;
     }
 
-pub returns-in_err-write_line-clause-part : goal.returns-in_err-write_line-clause-part
-returns-in_err-write_line-clause-part g c =
-    on_err _ (part_of_line _ _ _ (lines_of (as_scenario c.args.scenario.now)) c.loop-text.next c.in-Some.text.bytes (sym c.in-Some.ensures.text) c.loop-text.invariant.owes (search rules))
+pub returns-in_err-write_line : goal.returns-in_err-write_line
+returns-in_err-write_line g c = record {
+  all = search rules;
+  part = on_err _ (part_of_line _ _ _ (lines_of (as_scenario c.args.scenario.now)) c.loop-text.next c.in-Some.text.bytes (sym c.in-Some.ensures.text) c.loop-text.invariant.owes (search rules));
+  cause = search rules;
+}
 
-pub returns-clause-all : goal.returns-clause-all
-returns-clause-all g c = owes_no_line _ _ (lines_of (as_scenario c.args.scenario.now)) c.loop-text.next (sym c.in_default.ensures.text) c.loop-text.invariant.owes
+pub returns : goal.returns
+returns g c = record {
+  all = owes_no_line _ _ (lines_of (as_scenario c.args.scenario.now)) c.loop-text.next (sym c.in_default.ensures.text) c.loop-text.invariant.owes;
+  part = search rules;
+  cause = search rules;
+}
