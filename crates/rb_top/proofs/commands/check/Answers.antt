@@ -10,20 +10,20 @@ pub returns-in-Ok : goal.returns-in-Ok
 returns-in-Ok g c =
     answers_alone check_command check_sound _ g.S.Source.left g.S.Source.faults _ _ g.K.Sink.held g.K.Sink.faults _ _
     (λ is_plain told.
-      let text = check_text c.in-Ok.scenario.plan.sizes c.in-Ok.scenario.plan.plan in
-      let P : g.row.K.Denot → Type 0 = λ k. Writes text c.show_sides.result (g.K.Sink.held k) (g.K.Sink.held c.show_sides.new.output) (g.K.Sink.faults k) (g.K.Sink.faults c.show_sides.new.output) in
-      sides_answer c.in-Ok.scenario c.show_sides.result _ _ _ _ _ _ _ _ is_plain told c.in-Ok.ensures.scenario
-      (subst P c.in-Ok.ensures.unwritten (record {
-        done = c.show_sides.ensures.done;
-        part = c.show_sides.ensures.part;
-        cause = c.show_sides.ensures.cause;
-        one_of = of_two c.show_sides.result c.show_sides.ensures.one_of;
-      })))
+    let text = check_text c.in-Ok.scenario.plan.sizes c.in-Ok.scenario.plan.plan in
+    let P : g.row.K.Denot → Type 0 = λ k. Writes text c.show_sides.result (g.K.Sink.held k) (g.K.Sink.held c.show_sides.new.output) (g.K.Sink.faults k) (g.K.Sink.faults c.show_sides.new.output) in
+    sides_answer c.in-Ok.scenario c.show_sides.result _ _ _ _ _ _ _ _ is_plain told c.in-Ok.ensures.scenario
+    (subst P c.in-Ok.ensures.unwritten (record {
+      done = c.show_sides.ensures.done;
+      part = c.show_sides.ensures.part;
+      cause = c.show_sides.ensures.cause;
+      one_of = of_two c.show_sides.result c.show_sides.ensures.one_of;
+    })))
     (λ h. absurd (not_two c.show_sides.result c.show_sides.ensures.one_of h))
 
 pub returns-in-Err : goal.returns-in-Err
 returns-in-Err g c =
     answers_alone check_command check_sound _ g.S.Source.left g.S.Source.faults _ _ g.K.Sink.held g.K.Sink.faults _ _
     (λ is_plain told.
-      none_answers check_command check_reads c.in-Err.status _ _ _ _ _ _ _ _ is_plain told c.in-Err.ensures.none)
+    none_answers check_command check_reads c.in-Err.status _ _ _ _ _ _ _ _ is_plain told c.in-Err.ensures.none)
     (c.in-Err.ensures.nothing)

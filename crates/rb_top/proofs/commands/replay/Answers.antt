@@ -11,21 +11,21 @@ pub returns-in-Ok : goal.returns-in-Ok
 returns-in-Ok g c =
     answers_alone replay_command replay_sound _ g.S.Source.left g.S.Source.faults _ _ g.K.Sink.held g.K.Sink.faults _ _
     (λ is_plain told.
-      let P : List ℕ → Type 0 = λ b. ReadsToEnd (g.S.Source.left c.args.input.now) (g.S.Source.left c.read_log.new.input) b in
-      alone_answers log_limit IsReplay BreaksLog c.deref.result.now c.replay_bytes.result _ _ _ _ _ _ _ _ is_plain told
-      (subst P (sym c.deref.ensures.value) c.in-Ok.ensures.whole) c.in-Ok.ensures.short_enough
-      (record {
-        done = c.replay_bytes.ensures.done;
-        refused = c.replay_bytes.ensures.refused;
-        part = c.replay_bytes.ensures.part;
-        cause = c.replay_bytes.ensures.cause;
-        one_of = c.replay_bytes.ensures.one_of;
-      }))
+    let P : List ℕ → Type 0 = λ b. ReadsToEnd (g.S.Source.left c.args.input.now) (g.S.Source.left c.read_log.new.input) b in
+    alone_answers log_limit IsReplay BreaksLog c.deref.result.now c.replay_bytes.result _ _ _ _ _ _ _ _ is_plain told
+    (subst P (sym c.deref.ensures.value) c.in-Ok.ensures.whole) c.in-Ok.ensures.short_enough
+    (record {
+      done = c.replay_bytes.ensures.done;
+      refused = c.replay_bytes.ensures.refused;
+      part = c.replay_bytes.ensures.part;
+      cause = c.replay_bytes.ensures.cause;
+      one_of = c.replay_bytes.ensures.one_of;
+    }))
     (λ h. absurd (logs_write c.replay_bytes.result c.replay_bytes.ensures.one_of h))
 
 pub returns-in-Err : goal.returns-in-Err
 returns-in-Err g c =
     answers_alone replay_command replay_sound _ g.S.Source.left g.S.Source.faults _ _ g.K.Sink.held g.K.Sink.faults _ _
     (λ is_plain told.
-      unread_answers replay_command c.in-Err.status _ _ _ _ _ _ is_plain told c.in-Err.ensures.one_of c.in-Err.ensures.unread)
+    unread_answers replay_command c.in-Err.status _ _ _ _ _ _ is_plain told c.in-Err.ensures.one_of c.in-Err.ensures.unread)
     (λ h. refl)
