@@ -14,7 +14,6 @@ use Rattle.rb_group_run.specs.Runs.{WritesAll as WritesGroups}
 use Rattle.rb_top.specs.declared.status.Status.{Status}
 use Rattle.rb_top.specs.declared.status.Status.TheVariants as answer
 use Rattle.rb_top.specs.Commands.{EndsAs, IsSummary}
-use Rattle.rb_top.specs.Statuses.{HasEnded}
 
 -- a run was opened, the drive gave all its turns, and their report was written
 pub record IsReported (sc : Scenario) (status : Status) (is_plain : Bool) (told told' : Option (List Turn)) (held held' : Option (List ℕ)) : Type 0 where
@@ -129,15 +128,3 @@ pub record TellsOfLog {K : Type 0} (IsText IsLine : List ℕ → List ℕ → Ty
   pub part : status ≡ answer.WriteFault → WritesPartOf (Either IsLine IsText) bytes (held sink) (held sink')
   pub cause : status ≡ answer.WriteFault → Rose (writes sink) (writes sink')
   pub one_of : IsOfLog status
-
--- what is so of the turns that a drive has told, of those it tells next, and of what a sink held and holds
-abbrev pub OfTurns : Type 1
-OfTurns = Bool → Option (List Turn) → Option (List Turn) → Option (List ℕ) → Option (List ℕ) → Type 0
-
--- a run was opened, and its drive told this to its end, or only a first part was written and a write failed, or there was no memory to open it
-pub record TellsOfRun {K D : Type 0} (IsWhole IsPart : OfTurns) (status : Status) (held : K → Option (List ℕ)) (writes : K → ℕ) (sink sink' : K) (is_plain : D → Bool) (told : D → Option (List Turn)) (drive drive' : D) : Type 0 where
-  pub ended : HasEnded status → IsWhole (is_plain drive) (told drive) (told drive') (held sink) (held sink')
-  pub part : status ≡ answer.WriteFault → IsPart (is_plain drive) (told drive) (told drive') (held sink) (held sink')
-  pub cause : status ≡ answer.WriteFault → Rose (writes sink) (writes sink')
-  pub unopened : status ≡ answer.OutOfMemory → (sink' ≡ sink) × (drive' ≡ drive)
-  pub one_of : IsOfRun status
