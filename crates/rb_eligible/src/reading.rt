@@ -201,23 +201,8 @@ fn tag_suits(in_sync: bool, tag: Tag) -> bool
     }
 }
 
-// Room that begins with the bytes. In a branch for one length, it is known when this is compiled
-// how many are copied.
+// Room that begins with the bytes.
 fn room_with(bytes: &[u8]) -> [u8; 12]
-    requires { length bytes.now ≤ 12 }
-    ensures begins { take (length bytes.now) result ≡ bytes.now }
-    ensures len { length result ≡ 12 }
-    ensures small { (i : ℕ) → slice_index result i < 256 }
-{
-    match bytes.len() {
-        11 => copied(bytes),
-        12 => copied(bytes),
-        _ => copied(bytes),
-    }
-}
-
-#[inline(always)]
-fn copied(bytes: &[u8]) -> [u8; 12]
     requires { length bytes.now ≤ 12 }
     ensures begins { take (length bytes.now) result ≡ bytes.now }
     ensures len { length result ≡ 12 }
