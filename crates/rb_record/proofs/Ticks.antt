@@ -47,7 +47,8 @@ use Rattle.rb_world.proofs.InTime.{HasTick, reached-in-time}
 use Rattle.rb_laws_sweeps.proofs.SentLater.{node-moves}
 use Rattle.rb_record.specs.Recording.{MayTell}
 use Rattle.rb_record.proofs.Ends.{none-given}
-use Rattle.rb_record.proofs.Comings.{AreSized, AreSound, IsSized, IsSound, due-runs, run-sound}
+use Rattle.rb_laws_logs.proofs.Sized.{AreSized, IsSized}
+use Rattle.rb_record.proofs.Comings.{AreSound, IsSound, due-runs, run-sound}
 use Rattle.rb_record.proofs.Runs.{run-busy, run-idle, run-reached}
 
 -- How many ticks a node has had.
@@ -195,7 +196,7 @@ pub event-fits : (sc : Scenario) (w : World) (e : Event) → IsLawful sc → IsR
 event-fits sc w e lawful reached sound is =
     let due : IsDue w is.d = due-reached sc w 0 is.d reached is.found in
     let same : due.s ≡ is.s = same_Some due.s is.s (sym due.there ∙ is.there) in
-    let runs : due.s.runs ≡ true = due-runs due.t due.s is.d.pending due.ready (sound is.d.side is.d.node due.s due.there) in
+    let runs : due.s.runs ≡ true = due-runs due.t due.s is.d.pending due.ready (sound is.d.side is.d.node due.s due.there).idle in
     let small : due.s.core.had < 2 ^ 31 = room sc w lawful reached is.d.side is.d.node due.s due.there runs in
     let all : due.s.core.had + ticks_given (event_of sc w.ports is.d.side is.d.node due.s.core is.d.pending) ≤ 2 ^ 31 =
     fits-by sc w.ports is.d.side is.d.node due.t due.s is.d.pending due.ready small
@@ -276,7 +277,7 @@ unfolding take happens
 taken-before sc w e name z lawful reached sound is at =
     let d : Due = is.d in
     let due : IsDue w d = due-reached sc w 0 d reached is.found in
-    let runs : due.s.runs ≡ true = due-runs due.t due.s d.pending due.ready (sound d.side d.node due.s due.there) in
+    let runs : due.s.runs ≡ true = due-runs due.t due.s d.pending due.ready (sound d.side d.node due.s due.there).idle in
     let small : due.s.core.had < 2 ^ 31 = room sc w lawful reached d.side d.node due.s due.there runs in
     let x : World = with_pending sc w d.side d.node due.s d.pending in
     let taken : take sc w 0 ≡ settle sc ByAnEvent 2 x =
