@@ -19,10 +19,9 @@ use Rattle.rb_rules_bridge.specs.declared.bank.Pair.{Pair}
 use Rattle.rb_rules_bridge.specs.Bridges.{Bridge, IsBridge, IsHead, biu_on, bus_on}
 use Rattle.rb_rules_bridge.specs.Texts.{Break, break_at, break_from, break_of, bridge_text, frame_text, text_from, text_with}
 use Rattle.rb_bridge.specs.declared.side.Side.{Side}
-use Rattle.rb_bridge.specs.declared.side.Sides.{Sides}
 use Rattle.rb_bridge.specs.declared.telling.Breach.{Breach}
 use Rattle.rb_bridge.specs.Sides.{BeforeFrame, GivesAll, RunsOut}
-use Rattle.rb_bridge.specs.Crossing.{ArePlain, AreReady, AreThrough, BreaksOff, Crosses, CrossesPart, DrivesTold, FindBoth, GiveAll, GiveSome, GoThrough, WritesAll, WritesPart, drives, shown, told_text}
+use Rattle.rb_bridge.specs.Crossing.{ArePlain, AreReady, AreThrough, BreaksOff, Crosses, CrossesPart, FindBoth, GiveAll, GiveSome, GoThrough, WritesAll, WritesPart, shown, told_text}
 use Rattle.rb_bridge.proofs.Opened.{all-are-some, gives-all}
 use Rattle.rb_bridge.proofs.Told.{finds}
 
@@ -57,25 +56,25 @@ pub none-found : (o : Option Breach) → is_some o ≡ false → o ≡ None
 none-found None e = refl
 none-found (Some x) e = cc
 
-find-both : (b : Bridge) (frame : ℕ) (both : Bool) (d : DrivesTold) (s : Sides) → frame < b.left.frames
-    → ArePlain both d.left.is_plain d.right.is_plain → both ≡ true → AreThrough b frame both d s → FindBoth b frame s.left s.right
-find-both b frame both d s below plain sure is = record {
-  left = finds b Left frame both d.left.is_plain d.left.told d.left.since s.left (omega (arith, below)) sure (plain.left sure) is.left is.unbroken.left;
-  right = finds b Right frame both d.right.is_plain d.right.told d.right.since s.right (omega (arith, below)) sure (plain.right sure) is.right is.unbroken.right;
+find-both : (b : Bridge) (frame : ℕ) (both lp : Bool) (ltold lsince : Option (List Turn)) (rp : Bool) (rtold rsince : Option (List Turn)) (l r : Side) → frame < b.left.frames
+    → ArePlain both lp rp → both ≡ true → AreThrough b frame both lp ltold lsince rp rtold rsince l r → FindBoth b frame l r
+find-both b frame both lp ltold lsince rp rtold rsince l r below plain sure is = record {
+  left = finds b Left frame both lp ltold lsince l (omega (arith, below)) sure (plain.left sure) is.left is.unbroken.left;
+  right = finds b Right frame both rp rtold rsince r (omega (arith, below)) sure (plain.right sure) is.right is.unbroken.right;
 }
 
 -- what is written of a frame is what is said of it
-pub told-all : (b : Bridge) (frame : ℕ) (both : Bool) (d : DrivesTold) (s : Sides) (o : Option Breach) (P : List ℕ → Type 0)
-    → frame < b.left.frames → ArePlain both d.left.is_plain d.right.is_plain → GoThrough b frame both d s (option_map shown o)
-    → ((o ≡ None → FindBoth b frame s.left s.right) → P (told_text b frame (option_map shown o))) → both ≡ true → P (told_text b frame (break_at b frame))
-told-all b frame both d s o P below plain is writes sure =
+pub told-all : (b : Bridge) (frame : ℕ) (both lp : Bool) (ltold lsince : Option (List Turn)) (rp : Bool) (rtold rsince : Option (List Turn)) (l r : Side) (o : Option Breach) (P : List ℕ → Type 0)
+    → frame < b.left.frames → ArePlain both lp rp → GoThrough b frame both lp ltold lsince rp rtold rsince l r (option_map shown o)
+    → ((o ≡ None → FindBoth b frame l r) → P (told_text b frame (option_map shown o))) → both ≡ true → P (told_text b frame (break_at b frame))
+told-all b frame both lp ltold lsince rp rtold rsince l r o P below plain is writes sure =
     subst (λ k. P (told_text b frame k)) (sym (is.breach_is sure))
-    (writes (λ none. find-both b frame both d s below plain sure (is.through (ap (option_map shown) none))))
+    (writes (λ none. find-both b frame both lp ltold lsince rp rtold rsince l r below plain sure (is.through (ap (option_map shown) none))))
 
-pub breaks-off : (b : Bridge) (frame : ℕ) (both : Bool) (d : DrivesTold) (s s' : Sides) (o : Option Breach) (x : Breach)
-    (held after : Option (List ℕ)) → GoThrough b frame both d s (option_map shown o) → o ≡ Some x
-    → (both ≡ true → Appends held after (told_text b frame (break_at b frame))) → Crosses b frame both d s' held after false
-breaks-off b frame both d s s' o x held after is found text = record {
+pub breaks-off : (b : Bridge) (frame : ℕ) (both lp : Bool) (ltold lsince : Option (List Turn)) (rp : Bool) (rtold rsince : Option (List Turn)) (l r m n : Side) (o : Option Breach) (x : Breach)
+    (held after : Option (List ℕ)) → GoThrough b frame both lp ltold lsince rp rtold rsince l r (option_map shown o) → o ≡ Some x
+    → (both ≡ true → Appends held after (told_text b frame (break_at b frame))) → Crosses b frame both lp ltold lsince rp rtold rsince m n held after false
+breaks-off b frame both lp ltold lsince rp rtold rsince l r m n o x held after is found text = record {
   some = is.some;
   text = text;
   ready = λ e. absurd (false≢true e);
@@ -86,11 +85,11 @@ breaks-off b frame both d s s' o x held after is found text = record {
     here : option_map shown o ≡ Some (shown x)
     here = ap (option_map shown) found
 
-pub goes-on : (b : Bridge) (frame : ℕ) (both : Bool) (d : DrivesTold) (s s' : Sides) (o : Option Breach)
-    (held after : Option (List ℕ)) → GoThrough b frame both d s (option_map shown o) → o ≡ None
-    → (both ≡ true → Appends held after (told_text b frame (break_at b frame))) → AreReady b (frame + 1) both d s'
-    → Crosses b frame both d s' held after true
-goes-on b frame both d s s' o held after is none text ready = record {
+pub goes-on : (b : Bridge) (frame : ℕ) (both lp : Bool) (ltold lsince : Option (List Turn)) (rp : Bool) (rtold rsince : Option (List Turn)) (l r m n : Side) (o : Option Breach)
+    (held after : Option (List ℕ)) → GoThrough b frame both lp ltold lsince rp rtold rsince l r (option_map shown o) → o ≡ None
+    → (both ≡ true → Appends held after (told_text b frame (break_at b frame))) → AreReady b (frame + 1) both lp ltold lsince rp rtold rsince m n
+    → Crosses b frame both lp ltold lsince rp rtold rsince m n held after true
+goes-on b frame both lp ltold lsince rp rtold rsince l r m n o held after is none text ready = record {
   some = is.some;
   text = text;
   ready = λ e. ready;
@@ -102,10 +101,10 @@ goes-on b frame both d s s' o held after is none text ready = record {
     never e = cc
 
 -- or it was written in part
-pub crosses-part : (b : Bridge) (frame : ℕ) (both : Bool) (d : DrivesTold) (s : Sides) (o : Option Breach)
-    (held after : Option (List ℕ)) → GoThrough b frame both d s (option_map shown o)
-    → (both ≡ true → AppendsPart held after (told_text b frame (break_at b frame))) → CrossesPart b frame both d held after
-crosses-part b frame both d s o held after is text = record { some = is.some; text = text }
+pub crosses-part : (b : Bridge) (frame : ℕ) (both lp : Bool) (ltold lsince : Option (List Turn)) (rp : Bool) (rtold rsince : Option (List Turn)) (l r : Side) (o : Option Breach)
+    (held after : Option (List ℕ)) → GoThrough b frame both lp ltold lsince rp rtold rsince l r (option_map shown o)
+    → (both ≡ true → AppendsPart held after (told_text b frame (break_at b frame))) → CrossesPart b frame both lp ltold lsince rp rtold rsince held after
+crosses-part b frame both lp ltold lsince rp rtold rsince l r o held after is text = record { some = is.some; text = text }
 
 -- The text.
 
@@ -192,47 +191,47 @@ end-part b frame held mid after is all now =
 -- All frames.
 
 -- both go into a frame, and what was said before it is written
-pub record IsCrossing (b : Bridge) (frame : ℕ) (both : Bool) (d : DrivesTold) (s : Sides) (held after : Option (List ℕ)) : Type 0 where
-  pub ready : AreReady b frame both d s
+pub record IsCrossing (b : Bridge) (frame : ℕ) (both lp : Bool) (ltold lsince : Option (List Turn)) (rp : Bool) (rtold rsince : Option (List Turn)) (l r : Side) (held after : Option (List ℕ)) : Type 0 where
+  pub ready : AreReady b frame both lp ltold lsince rp rtold rsince l r
   pub text : both ≡ true → IsWritten b frame held after
 
 -- what a frame makes of them, where the drives are as plain as they were
-now-crosses : (b : Bridge) (frame : ℕ) (both now_lp now_rp lp rp : Bool) (ltold lmid lsince rtold rmid rsince : Option (List Turn)) (s : Sides) (P : Bool → Bool → Type 0) → now_lp ≡ lp → now_rp ≡ rp
-    → AreReady b frame both (drives lp ltold lmid rp rtold rmid) s → ArePlain both lp rp
-    → (ArePlain both now_lp now_rp → AreReady b frame both (drives now_lp ltold lmid now_rp rtold rmid) s → P now_lp now_rp) → P lp rp
-now-crosses b frame both now_lp now_rp lp rp ltold lmid lsince rtold rmid rsince s P e f ready plain crosses =
-    restated (λ lp rp. ArePlain both lp rp → AreReady b frame both (drives lp ltold lmid rp rtold rmid) s → P lp rp) now_lp now_rp lp rp e f crosses plain ready
+now-crosses : (b : Bridge) (frame : ℕ) (both now_lp now_rp lp rp : Bool) (ltold lmid lsince rtold rmid rsince : Option (List Turn)) (l r : Side) (P : Bool → Bool → Type 0) → now_lp ≡ lp → now_rp ≡ rp
+    → AreReady b frame both lp ltold lmid rp rtold rmid l r → ArePlain both lp rp
+    → (ArePlain both now_lp now_rp → AreReady b frame both now_lp ltold lmid now_rp rtold rmid l r → P now_lp now_rp) → P lp rp
+now-crosses b frame both now_lp now_rp lp rp ltold lmid lsince rtold rmid rsince l r P e f ready plain crosses =
+    restated (λ lp rp. ArePlain both lp rp → AreReady b frame both lp ltold lmid rp rtold rmid l r → P lp rp) now_lp now_rp lp rp e f crosses plain ready
 
-pub next-crossing : (b : Bridge) (frame : ℕ) (both now_lp now_rp lp rp : Bool) (ltold lmid lsince rtold rmid rsince : Option (List Turn)) (s s' : Sides) (held mid after : Option (List ℕ)) (on : Bool)
-    → now_lp ≡ lp → now_rp ≡ rp → IsCrossing b frame both (drives lp ltold lmid rp rtold rmid) s held mid → frame < b.left.frames → ArePlain both lp rp
-    → (ArePlain both now_lp now_rp → AreReady b frame both (drives now_lp ltold lmid now_rp rtold rmid) s → Crosses b frame both (drives now_lp ltold lsince now_rp rtold rsince) s' mid after on)
-    → on ≡ true → IsCrossing b (frame + 1) both (drives lp ltold lsince rp rtold rsince) s' held after
-next-crossing b frame both now_lp now_rp lp rp ltold lmid lsince rtold rmid rsince s s' held mid after on e f is below plain crosses goes =
-    let now : Crosses b frame both (drives lp ltold lsince rp rtold rsince) s' mid after on =
-    now-crosses b frame both now_lp now_rp lp rp ltold lmid lsince rtold rmid rsince s (λ lp rp. Crosses b frame both (drives lp ltold lsince rp rtold rsince) s' mid after on) e f is.ready plain crosses in
+pub next-crossing : (b : Bridge) (frame : ℕ) (both now_lp now_rp lp rp : Bool) (ltold lmid lsince rtold rmid rsince : Option (List Turn)) (l r m n : Side) (held mid after : Option (List ℕ)) (on : Bool)
+    → now_lp ≡ lp → now_rp ≡ rp → IsCrossing b frame both lp ltold lmid rp rtold rmid l r held mid → frame < b.left.frames → ArePlain both lp rp
+    → (ArePlain both now_lp now_rp → AreReady b frame both now_lp ltold lmid now_rp rtold rmid l r → Crosses b frame both now_lp ltold lsince now_rp rtold rsince m n mid after on)
+    → on ≡ true → IsCrossing b (frame + 1) both lp ltold lsince rp rtold rsince m n held after
+next-crossing b frame both now_lp now_rp lp rp ltold lmid lsince rtold rmid rsince l r m n held mid after on e f is below plain crosses goes =
+    let now : Crosses b frame both lp ltold lsince rp rtold rsince m n mid after on =
+    now-crosses b frame both now_lp now_rp lp rp ltold lmid lsince rtold rmid rsince l r (λ lp rp. Crosses b frame both lp ltold lsince rp rtold rsince m n mid after on) e f is.ready plain crosses in
     record { ready = now.ready goes; text = λ sure. next-written b frame held mid after (is.text sure) below (now.unbroken goes sure) (now.text sure) }
 
-pub broken-crossing : (b : Bridge) (frame : ℕ) (both now_lp now_rp lp rp : Bool) (ltold lmid lsince rtold rmid rsince : Option (List Turn)) (s s' : Sides) (held mid after : Option (List ℕ)) (on : Bool)
-    → now_lp ≡ lp → now_rp ≡ rp → IsCrossing b frame both (drives lp ltold lmid rp rtold rmid) s held mid → frame < b.left.frames → ArePlain both lp rp
-    → (ArePlain both now_lp now_rp → AreReady b frame both (drives now_lp ltold lmid now_rp rtold rmid) s → Crosses b frame both (drives now_lp ltold lsince now_rp rtold rsince) s' mid after on)
-    → on ≡ false → WritesAll b both (drives lp ltold lsince rp rtold rsince) held after ending.Breach
-broken-crossing b frame both now_lp now_rp lp rp ltold lmid lsince rtold rmid rsince s s' held mid after on e f is below plain crosses stops =
-    let now : Crosses b frame both (drives lp ltold lsince rp rtold rsince) s' mid after on =
-    now-crosses b frame both now_lp now_rp lp rp ltold lmid lsince rtold rmid rsince s (λ lp rp. Crosses b frame both (drives lp ltold lsince rp rtold rsince) s' mid after on) e f is.ready plain crosses in
-    let off : BreaksOff b frame both (drives lp ltold lsince rp rtold rsince) = now.broken stops in
+pub broken-crossing : (b : Bridge) (frame : ℕ) (both now_lp now_rp lp rp : Bool) (ltold lmid lsince rtold rmid rsince : Option (List Turn)) (l r m n : Side) (held mid after : Option (List ℕ)) (on : Bool)
+    → now_lp ≡ lp → now_rp ≡ rp → IsCrossing b frame both lp ltold lmid rp rtold rmid l r held mid → frame < b.left.frames → ArePlain both lp rp
+    → (ArePlain both now_lp now_rp → AreReady b frame both now_lp ltold lmid now_rp rtold rmid l r → Crosses b frame both now_lp ltold lsince now_rp rtold rsince m n mid after on)
+    → on ≡ false → WritesAll b both lp ltold lsince rp rtold rsince held after ending.Breach
+broken-crossing b frame both now_lp now_rp lp rp ltold lmid lsince rtold rmid rsince l r m n held mid after on e f is below plain crosses stops =
+    let now : Crosses b frame both lp ltold lsince rp rtold rsince m n mid after on =
+    now-crosses b frame both now_lp now_rp lp rp ltold lmid lsince rtold rmid rsince l r (λ lp rp. Crosses b frame both lp ltold lsince rp rtold rsince m n mid after on) e f is.ready plain crosses in
+    let off : BreaksOff b frame both lp ltold lsince rp rtold rsince = now.broken stops in
     record {
       some = now.some;
       text = λ sure. (break-written b frame held mid after off.break (is.text sure) below (off.break_is sure) (now.text sure)).0;
       ends = (off.break, (λ sure. (break-written b frame held mid after off.break (is.text sure) below (off.break_is sure) (now.text sure)).1, (frame, off.all)));
     }
 
-pub part-crossing : (b : Bridge) (frame : ℕ) (both now_lp now_rp lp rp : Bool) (ltold lmid lsince rtold rmid rsince : Option (List Turn)) (s : Sides) (held mid after : Option (List ℕ))
-    → now_lp ≡ lp → now_rp ≡ rp → IsCrossing b frame both (drives lp ltold lmid rp rtold rmid) s held mid → frame < b.left.frames → ArePlain both lp rp
-    → (ArePlain both now_lp now_rp → AreReady b frame both (drives now_lp ltold lmid now_rp rtold rmid) s → CrossesPart b frame both (drives now_lp ltold lsince now_rp rtold rsince) mid after)
-    → WritesPart b both (drives lp ltold lsince rp rtold rsince) held after
-part-crossing b frame both now_lp now_rp lp rp ltold lmid lsince rtold rmid rsince s held mid after e f is below plain crosses =
-    let now : CrossesPart b frame both (drives lp ltold lsince rp rtold rsince) mid after =
-    now-crosses b frame both now_lp now_rp lp rp ltold lmid lsince rtold rmid rsince s (λ lp rp. CrossesPart b frame both (drives lp ltold lsince rp rtold rsince) mid after) e f is.ready plain crosses in
+pub part-crossing : (b : Bridge) (frame : ℕ) (both now_lp now_rp lp rp : Bool) (ltold lmid lsince rtold rmid rsince : Option (List Turn)) (l r : Side) (held mid after : Option (List ℕ))
+    → now_lp ≡ lp → now_rp ≡ rp → IsCrossing b frame both lp ltold lmid rp rtold rmid l r held mid → frame < b.left.frames → ArePlain both lp rp
+    → (ArePlain both now_lp now_rp → AreReady b frame both now_lp ltold lmid now_rp rtold rmid l r → CrossesPart b frame both now_lp ltold lsince now_rp rtold rsince mid after)
+    → WritesPart b both lp ltold lsince rp rtold rsince held after
+part-crossing b frame both now_lp now_rp lp rp ltold lmid lsince rtold rmid rsince l r held mid after e f is below plain crosses =
+    let now : CrossesPart b frame both lp ltold lsince rp rtold rsince mid after =
+    now-crosses b frame both now_lp now_rp lp rp ltold lmid lsince rtold rmid rsince l r (λ lp rp. CrossesPart b frame both lp ltold lsince rp rtold rsince mid after) e f is.ready plain crosses in
     record { some = now.some; text = λ sure. part-written b frame held mid after (is.text sure) below (now.text sure) }
 
 -- After the last frame.
@@ -252,35 +251,33 @@ Finishes is_plain mid since s =
     (sc : Scenario) (handed : List HandIn) (told : Option (List Turn)) (turns : List Turn)
     → IsUnderWay sc handed is_plain told mid s.world turns (is_last (record_of s.turn)) → RunsOut sc handed is_plain told since
 
-both-given : (b : Bridge) (frame : ℕ) (both now_lp now_rp lp rp : Bool) (ltold lmid lsince rtold rmid rsince : Option (List Turn)) (s : Sides) → frame ≡ b.left.frames → now_lp ≡ lp → now_rp ≡ rp
-    → AreReady b frame both (drives lp ltold lmid rp rtold rmid) s → Finishes now_lp lmid lsince s.left → Finishes now_rp rmid rsince s.right → GiveAll b frame both (drives lp ltold lsince rp rtold rsince)
-both-given b frame both now_lp now_rp lp rp ltold lmid lsince rtold rmid rsince s all e f ready left right = record {
-  left = all-given b Left frame both now_lp lp ltold lmid lsince s.left all e ready.left left;
-  right = all-given b Right frame both now_rp rp rtold rmid rsince s.right all f ready.right right;
+both-given : (b : Bridge) (frame : ℕ) (both now_lp now_rp lp rp : Bool) (ltold lmid lsince rtold rmid rsince : Option (List Turn)) (l r : Side) → frame ≡ b.left.frames → now_lp ≡ lp → now_rp ≡ rp
+    → AreReady b frame both lp ltold lmid rp rtold rmid l r → Finishes now_lp lmid lsince l → Finishes now_rp rmid rsince r → GiveAll b frame both lp ltold lsince rp rtold rsince
+both-given b frame both now_lp now_rp lp rp ltold lmid lsince rtold rmid rsince l r all e f ready left right = record {
+  left = all-given b Left frame both now_lp lp ltold lmid lsince l all e ready.left left;
+  right = all-given b Right frame both now_rp rp rtold rmid rsince r all f ready.right right;
 }
 
-both-some : (b : Bridge) (frame : ℕ) (both : Bool) (d : DrivesTold) → GiveAll b frame both d
-    → GiveSome b both d
-both-some b frame both d is = record {
-  left = all-are-some b Left frame both d.left.is_plain d.left.told d.left.since is.left;
-  right = all-are-some b Right frame both d.right.is_plain d.right.told d.right.since is.right;
-}
+both-some : (b : Bridge) (frame : ℕ) (both lp : Bool) (ltold lsince : Option (List Turn)) (rp : Bool) (rtold rsince : Option (List Turn)) → GiveAll b frame both lp ltold lsince rp rtold rsince
+    → GiveSome b both lp ltold lsince rp rtold rsince
+both-some b frame both lp ltold lsince rp rtold rsince is =
+    record { left = all-are-some b Left frame both lp ltold lsince is.left; right = all-are-some b Right frame both rp rtold rsince is.right }
 
-pub ended-crossing : (b : Bridge) (frame : ℕ) (both now_lp now_rp lp rp : Bool) (ltold lmid lsince rtold rmid rsince : Option (List Turn)) (s : Sides) (held mid after : Option (List ℕ))
-    → now_lp ≡ lp → now_rp ≡ rp → IsCrossing b frame both (drives lp ltold lmid rp rtold rmid) s held mid → frame ≡ b.left.frames
-    → Finishes now_lp lmid lsince s.left → Finishes now_rp rmid rsince s.right → Appends mid after (end_text frame) → WritesAll b both (drives lp ltold lsince rp rtold rsince) held after ending.Ended
-ended-crossing b frame both now_lp now_rp lp rp ltold lmid lsince rtold rmid rsince s held mid after e f is all left right now =
-    let given : GiveAll b frame both (drives lp ltold lsince rp rtold rsince) = both-given b frame both now_lp now_rp lp rp ltold lmid lsince rtold rmid rsince s all e f is.ready left right in
+pub ended-crossing : (b : Bridge) (frame : ℕ) (both now_lp now_rp lp rp : Bool) (ltold lmid lsince rtold rmid rsince : Option (List Turn)) (l r : Side) (held mid after : Option (List ℕ))
+    → now_lp ≡ lp → now_rp ≡ rp → IsCrossing b frame both lp ltold lmid rp rtold rmid l r held mid → frame ≡ b.left.frames
+    → Finishes now_lp lmid lsince l → Finishes now_rp rmid rsince r → Appends mid after (end_text frame) → WritesAll b both lp ltold lsince rp rtold rsince held after ending.Ended
+ended-crossing b frame both now_lp now_rp lp rp ltold lmid lsince rtold rmid rsince l r held mid after e f is all left right now =
+    let given : GiveAll b frame both lp ltold lsince rp rtold rsince = both-given b frame both now_lp now_rp lp rp ltold lmid lsince rtold rmid rsince l r all e f is.ready left right in
     record {
-      some = both-some b frame both (drives lp ltold lsince rp rtold rsince) given;
+      some = both-some b frame both lp ltold lsince rp rtold rsince given;
       text = λ sure. (end-written b frame held mid after (is.text sure) all now).0;
-      ends = (λ sure. (end-written b frame held mid after (is.text sure) all now).1, subst (λ f. GiveAll b f both (drives lp ltold lsince rp rtold rsince)) all given);
+      ends = (λ sure. (end-written b frame held mid after (is.text sure) all now).1, subst (λ f. GiveAll b f both lp ltold lsince rp rtold rsince) all given);
     }
 
-pub end-crossing : (b : Bridge) (frame : ℕ) (both now_lp now_rp lp rp : Bool) (ltold lmid lsince rtold rmid rsince : Option (List Turn)) (s : Sides) (held mid after : Option (List ℕ))
-    → now_lp ≡ lp → now_rp ≡ rp → IsCrossing b frame both (drives lp ltold lmid rp rtold rmid) s held mid → frame ≡ b.left.frames
-    → Finishes now_lp lmid lsince s.left → Finishes now_rp rmid rsince s.right → AppendsPart mid after (end_text frame) → WritesPart b both (drives lp ltold lsince rp rtold rsince) held after
-end-crossing b frame both now_lp now_rp lp rp ltold lmid lsince rtold rmid rsince s held mid after e f is all left right now = record {
-  some = both-some b frame both (drives lp ltold lsince rp rtold rsince) (both-given b frame both now_lp now_rp lp rp ltold lmid lsince rtold rmid rsince s all e f is.ready left right);
+pub end-crossing : (b : Bridge) (frame : ℕ) (both now_lp now_rp lp rp : Bool) (ltold lmid lsince rtold rmid rsince : Option (List Turn)) (l r : Side) (held mid after : Option (List ℕ))
+    → now_lp ≡ lp → now_rp ≡ rp → IsCrossing b frame both lp ltold lmid rp rtold rmid l r held mid → frame ≡ b.left.frames
+    → Finishes now_lp lmid lsince l → Finishes now_rp rmid rsince r → AppendsPart mid after (end_text frame) → WritesPart b both lp ltold lsince rp rtold rsince held after
+end-crossing b frame both now_lp now_rp lp rp ltold lmid lsince rtold rmid rsince l r held mid after e f is all left right now = record {
+  some = both-some b frame both lp ltold lsince rp rtold rsince (both-given b frame both now_lp now_rp lp rp ltold lmid lsince rtold rmid rsince l r all e f is.ready left right);
   text = λ sure. end-part b frame held mid after (is.text sure) all now;
 }

@@ -28,10 +28,9 @@ use Rattle.rb_bridge.specs.Running.{IsUnderWay}
 use Rattle.rb_bridge.proofs.FramesTold.{passed-tells}
 use Rattle.rb_bridge.proofs.UnderWay.{first-given, whole-given}
 use Rattle.rb_bridge.specs.declared.side.Side.{Side}
-use Rattle.rb_bridge.specs.declared.side.Sides.{Sides}
 use Rattle.rb_bridge.specs.declared.telling.Breach.{Breach as Found}
 use Rattle.rb_bridge.specs.Sides.{AfterFrame, AreGivenOf, BeforeFrame, GivesAll, GivesSome, break_by}
-use Rattle.rb_bridge.specs.Crossing.{ArePlain, DrivesTold, Finds, GivesAllOn, GoThrough, shown}
+use Rattle.rb_bridge.specs.Crossing.{ArePlain, Finds, GivesAllOn, GoThrough, shown}
 use Rattle.rb_bridge.proofs.SidesPassed.{over-some}
 use Rattle.rb_bridge.proofs.Whole.{after-crossed, before-crossed, breach-crossed}
 
@@ -140,13 +139,13 @@ none-found None e = refl
 none-found (Some x) e = cc
 
 -- the left bus tells a breach
-pub left-breaks : (b : Bridge) (frame : ℕ) (both : Bool) (d : DrivesTold) (s : Sides) (x : Found) (o : Option Found)
-    → IsBridge b → frame < b.left.frames → ArePlain both d.left.is_plain d.right.is_plain → AfterFrame b Left frame both d.left.is_plain d.left.told d.left.since s.left → BeforeFrame b Right frame both d.right.is_plain d.right.told d.right.since s.right
-    → option_map shown o ≡ break_by Left frame (record_of s.left.turn) → o ≡ Some x → GoThrough b frame both d s (Some (shown x))
-left-breaks b frame both d s x o bridge below plain left right told found = record {
+pub left-breaks : (b : Bridge) (frame : ℕ) (both lp : Bool) (ltold lsince : Option (List Turn)) (rp : Bool) (rtold rsince : Option (List Turn)) (l r : Side) (x : Found) (o : Option Found)
+    → IsBridge b → frame < b.left.frames → ArePlain both lp rp → AfterFrame b Left frame both lp ltold lsince l → BeforeFrame b Right frame both rp rtold rsince r
+    → option_map shown o ≡ break_by Left frame (record_of l.turn) → o ≡ Some x → GoThrough b frame both lp ltold lsince rp rtold rsince l r (Some (shown x))
+left-breaks b frame both lp ltold lsince rp rtold rsince l r x o bridge below plain left right told found = record {
   some = record {
-    left = some-after b Left frame both d.left.is_plain d.left.told d.left.since s.left bridge below plain.left left;
-    right = some-before b Right frame both d.right.is_plain d.right.told d.right.since s.right (omega (arith, below)) plain.right right;
+    left = some-after b Left frame both lp ltold lsince l bridge below plain.left left;
+    right = some-before b Right frame both rp rtold rsince r (omega (arith, below)) plain.right right;
   };
   through = λ none. absurd (never none);
   broken = λ k is. by k (here ∙ is);
@@ -156,23 +155,23 @@ left-breaks b frame both d s x o bridge below plain left right told found = reco
     never : Some (shown x) ≡ None → ⊥
     never e = cc
 
-    here : break_by Left frame (record_of s.left.turn) ≡ Some (shown x)
+    here : break_by Left frame (record_of l.turn) ≡ Some (shown x)
     here = sym told ∙ ap (option_map shown) found
 
-    by : (k : Break) → break_by Left frame (record_of s.left.turn) ≡ Some k → GivesAllOn b frame both d k.bank
+    by : (k : Break) → break_by Left frame (record_of l.turn) ≡ Some k → GivesAllOn b frame both lp ltold lsince rp rtold rsince k.bank
     by k e =
-        subst (GivesAllOn b frame both d) (break-bank Left frame (record_of s.left.turn) k e)
-        (all-after b Left frame both d.left.is_plain d.left.told d.left.since s.left k below plain.left left e)
+        subst (GivesAllOn b frame both lp ltold lsince rp rtold rsince) (break-bank Left frame (record_of l.turn) k e)
+        (all-after b Left frame both lp ltold lsince l k below plain.left left e)
 
 -- both have gone through
-pub both-through : (b : Bridge) (frame : ℕ) (both : Bool) (d : DrivesTold) (s : Sides) (o p : Option Found)
-    → IsBridge b → frame < b.left.frames → ArePlain both d.left.is_plain d.right.is_plain → AfterFrame b Left frame both d.left.is_plain d.left.told d.left.since s.left → AfterFrame b Right frame both d.right.is_plain d.right.told d.right.since s.right
-    → option_map shown o ≡ break_by Left frame (record_of s.left.turn) → o ≡ None → option_map shown p ≡ break_by Right frame (record_of s.right.turn)
-    → GoThrough b frame both d s (option_map shown p)
-both-through b frame both d s o p bridge below plain left right told none told' = record {
+pub both-through : (b : Bridge) (frame : ℕ) (both lp : Bool) (ltold lsince : Option (List Turn)) (rp : Bool) (rtold rsince : Option (List Turn)) (l r : Side) (o p : Option Found)
+    → IsBridge b → frame < b.left.frames → ArePlain both lp rp → AfterFrame b Left frame both lp ltold lsince l → AfterFrame b Right frame both rp rtold rsince r
+    → option_map shown o ≡ break_by Left frame (record_of l.turn) → o ≡ None → option_map shown p ≡ break_by Right frame (record_of r.turn)
+    → GoThrough b frame both lp ltold lsince rp rtold rsince l r (option_map shown p)
+both-through b frame both lp ltold lsince rp rtold rsince l r o p bridge below plain left right told none told' = record {
   some = record {
-    left = some-after b Left frame both d.left.is_plain d.left.told d.left.since s.left bridge below plain.left left;
-    right = some-after b Right frame both d.right.is_plain d.right.told d.right.since s.right bridge below plain.right right;
+    left = some-after b Left frame both lp ltold lsince l bridge below plain.left left;
+    right = some-after b Right frame both rp rtold rsince r bridge below plain.right right;
   };
   through = λ gone. record { left = left; right = right; unbroken = record { left = here; right = sym told' ∙ gone } };
   broken = λ k is. by k (sym told' ∙ is);
@@ -181,10 +180,10 @@ both-through b frame both d s o p bridge below plain left right told none told' 
       ∙ (right.plain sure).breach ∙ sym told';
 }
   where
-    here : break_by Left frame (record_of s.left.turn) ≡ None
+    here : break_by Left frame (record_of l.turn) ≡ None
     here = sym told ∙ ap (option_map shown) none
 
-    by : (k : Break) → break_by Right frame (record_of s.right.turn) ≡ Some k → GivesAllOn b frame both d k.bank
+    by : (k : Break) → break_by Right frame (record_of r.turn) ≡ Some k → GivesAllOn b frame both lp ltold lsince rp rtold rsince k.bank
     by k e =
-        subst (GivesAllOn b frame both d) (break-bank Right frame (record_of s.right.turn) k e)
-        (all-after b Right frame both d.right.is_plain d.right.told d.right.since s.right k below plain.right right e)
+        subst (GivesAllOn b frame both lp ltold lsince rp rtold rsince) (break-bank Right frame (record_of r.turn) k e)
+        (all-after b Right frame both rp rtold rsince r k below plain.right right e)

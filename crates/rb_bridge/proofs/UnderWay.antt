@@ -16,7 +16,7 @@ use Rattle.rb_run.specs.declared.ending.Ending.{Ending}
 use Rattle.rb_run.specs.Runs.{HasGivenNothing, end_at}
 use Rattle.rb_run.specs.Turns.{turn_of}
 use Rattle.rb_run.proofs.Bounds.{few-records}
-use Rattle.rb_run.proofs.UnderWay.{ends-last, no-record, not-over, same-record, tells-more, tells-none, turn-is}
+use Rattle.rb_run.proofs.UnderWay.{ends-last, no-record, not-over, record-is, same-record, tells-more, tells-none, turn-is}
 use Rattle.rb_world.specs.declared.ties.Ties.TheVariants.{First}
 use Rattle.rb_world.specs.Driving.{GoesAlike, Tells, bare}
 use Rattle.rb_world.specs.Nexts.{GoesToNext, is_last}

@@ -19,9 +19,7 @@ use Rattle.rb_rules_bridge.specs.Bridges.{Bridge, IsBridge, bus_on, members_on, 
 use Rattle.rb_rules_bridge.specs.Crossings.{crossing_value}
 use Rattle.rb_rules_bridge.specs.Texts.{Break, break_at, break_of, bridge_text, frame_text, side_breach_text}
 use Rattle.rb_bridge.specs.Refusals.{bank_of}
-use Rattle.rb_bridge.specs.declared.crossing.Drives.{Drives}
 use Rattle.rb_bridge.specs.declared.side.Side.{Side}
-use Rattle.rb_bridge.specs.declared.side.Sides.{Sides}
 use Rattle.rb_bridge.specs.declared.telling.Breach.{Breach}
 use Rattle.rb_bridge.specs.Sides.{AfterFrame, AreUnbroken, BeforeFrame, GivesAll, GivesSome, HasOpened}
 
@@ -54,157 +52,102 @@ pub record ArePlain (both lp rp : Bool) : Type 0 where
   pub left : both ≡ true → lp ≡ true
   pub right : both ≡ true → rp ≡ true
 
--- what a drive, plain or not, had told at one moment and has at a later one
-pub record DriveTold : Type 0 where
-  pub is_plain : Bool
-  pub told : Option (List Turn)
-  pub since : Option (List Turn)
-
-pub record DrivesTold : Type 0 where
-  pub left : DriveTold
-  pub right : DriveTold
-
-abbrev pub drives : Bool → Option (List Turn) → Option (List Turn) → Bool → Option (List Turn) → Option (List Turn) → DrivesTold
-drives lp ltold lsince rp rtold rsince = record {
-  left = record { is_plain = lp; told = ltold; since = lsince };
-  right = record { is_plain = rp; told = rtold; since = rsince };
-}
-
--- both drives at a first moment, of which one had told this, and at a later one
-abbrev pub told_from : {D : Type 0} → (D → Bool) → (D → Option (List Turn)) → Option (List Turn) → Option (List Turn) → Drives D → Drives D → DrivesTold
-told_from is_plain told ltold rtold first now = drives (is_plain first.left) ltold (told now.left) (is_plain first.right) rtold (told now.right)
-
--- of which each had told what it tells of itself
-abbrev pub told_between : {D : Type 0} → (D → Bool) → (D → Option (List Turn)) → Drives D → Drives D → DrivesTold
-told_between is_plain told first now = told_from is_plain told (told first.left) (told first.right) first now
-
--- no drive becomes plain, or ceases to be
-pub record StayAlike {D : Type 0} (is_plain : D → Bool) (first now : Drives D) : Type 0 where
-  pub left : is_plain now.left ≡ is_plain first.left
-  pub right : is_plain now.right ≡ is_plain first.right
-
 -- they go into a frame
-pub record AreReady (b : Bridge) (frame : ℕ) (both : Bool) (d : DrivesTold) (s : Sides) : Type 0 where
-  pub left : BeforeFrame b Left frame both d.left.is_plain d.left.told d.left.since s.left
-  pub right : BeforeFrame b Right frame both d.right.is_plain d.right.told d.right.since s.right
+pub record AreReady (b : Bridge) (frame : ℕ) (both lp : Bool) (ltold lsince : Option (List Turn)) (rp : Bool) (rtold rsince : Option (List Turn)) (l r : Side) : Type 0 where
+  pub left : BeforeFrame b Left frame both lp ltold lsince l
+  pub right : BeforeFrame b Right frame both rp rtold rsince r
 
 -- they have gone through it
-pub record AreThrough (b : Bridge) (frame : ℕ) (both : Bool) (d : DrivesTold) (s : Sides) : Type 0 where
-  pub left : AfterFrame b Left frame both d.left.is_plain d.left.told d.left.since s.left
-  pub right : AfterFrame b Right frame both d.right.is_plain d.right.told d.right.since s.right
-  pub unbroken : AreUnbroken frame s.left s.right
+pub record AreThrough (b : Bridge) (frame : ℕ) (both lp : Bool) (ltold lsince : Option (List Turn)) (rp : Bool) (rtold rsince : Option (List Turn)) (l r : Side) : Type 0 where
+  pub left : AfterFrame b Left frame both lp ltold lsince l
+  pub right : AfterFrame b Right frame both rp rtold rsince r
+  pub unbroken : AreUnbroken frame l r
 
 -- their drives gave the first turns of their runs
-pub record GiveSome (b : Bridge) (both : Bool) (d : DrivesTold) : Type 0 where
-  pub left : GivesSome b Left both d.left.is_plain d.left.told d.left.since
-  pub right : GivesSome b Right both d.right.is_plain d.right.told d.right.since
+pub record GiveSome (b : Bridge) (both lp : Bool) (ltold lsince : Option (List Turn)) (rp : Bool) (rtold rsince : Option (List Turn)) : Type 0 where
+  pub left : GivesSome b Left both lp ltold lsince
+  pub right : GivesSome b Right both rp rtold rsince
 
 -- or all of them
-pub record GiveAll (b : Bridge) (frame : ℕ) (both : Bool) (d : DrivesTold) : Type 0 where
-  pub left : GivesAll b Left frame both d.left.is_plain d.left.told d.left.since
-  pub right : GivesAll b Right frame both d.right.is_plain d.right.told d.right.since
+pub record GiveAll (b : Bridge) (frame : ℕ) (both lp : Bool) (ltold lsince : Option (List Turn)) (rp : Bool) (rtold rsince : Option (List Turn)) : Type 0 where
+  pub left : GivesAll b Left frame both lp ltold lsince
+  pub right : GivesAll b Right frame both rp rtold rsince
 
 -- that of one bank gave all of its turns
-abbrev pub GivesAllOn : Bridge → ℕ → Bool → DrivesTold → Bank → Type 0
-GivesAllOn b frame both d Left = GivesAll b Left frame both d.left.is_plain d.left.told d.left.since
-GivesAllOn b frame both d Right = GivesAll b Right frame both d.right.is_plain d.right.told d.right.since
+abbrev pub GivesAllOn : Bridge → ℕ → Bool → Bool → Option (List Turn) → Option (List Turn) → Bool → Option (List Turn) → Option (List Turn) → Bank → Type 0
+GivesAllOn b frame both lp ltold lsince rp rtold rsince Left = GivesAll b Left frame both lp ltold lsince
+GivesAllOn b frame both lp ltold lsince rp rtold rsince Right = GivesAll b Right frame both rp rtold rsince
 
 -- A frame.
 
 -- a drive may be asked for the turns of a frame
-pub record MayGoOn (d : DrivesTold) (s : Sides) : Type 0 where
-  pub left : is_last (record_of s.left.turn) ≡ false → IsOnItsWay d.left.is_plain d.left.since s.left.world s.left.terms s.left.passage
-  pub right : is_last (record_of s.right.turn) ≡ false → IsOnItsWay d.right.is_plain d.right.since s.right.world s.right.terms s.right.passage
+pub record MayGoOn (lp : Bool) (lsince : Option (List Turn)) (rp : Bool) (rsince : Option (List Turn)) (l r : Side) : Type 0 where
+  pub left : is_last (record_of l.turn) ≡ false → IsOnItsWay lp lsince l.world l.terms l.passage
+  pub right : is_last (record_of r.turn) ≡ false → IsOnItsWay rp rsince r.world r.terms r.passage
 
 -- both are the sides of a bridge with these pairs, and go into a frame of it
-pub record MayCross {D : Type 0} (is_plain : D → Bool) (told : D → Option (List Turn)) (pairs : List Pair) (frame : ℕ) (now : Drives D) (s : Sides) : Type 0 where
+pub record MayCross (pairs : List Pair) (frame : ℕ) (lp : Bool) (lsince : Option (List Turn)) (rp : Bool) (rsince : Option (List Turn)) (l r : Side) : Type 0 where
   pub b : Bridge
   pub bridge : IsBridge b
   pub pairs_are : b.pairs ≡ pairs
   pub within : frame < b.left.frames
   pub ltold : Option (List Turn)
   pub rtold : Option (List Turn)
-  pub ready : AreReady b frame false (told_from is_plain told ltold rtold now now) s
+  pub ready : AreReady b frame false lp ltold lsince rp rtold rsince l r
 
 -- they went through a frame, with this breach or none. Its bus gave all of its turns
-pub record GoThrough (b : Bridge) (frame : ℕ) (both : Bool) (d : DrivesTold) (s : Sides) (breach : Option Break) : Type 0 where
-  pub some : GiveSome b both d
-  pub through : breach ≡ None → AreThrough b frame both d s
-  pub broken : (k : Break) → breach ≡ Some k → GivesAllOn b frame both d k.bank
+pub record GoThrough (b : Bridge) (frame : ℕ) (both lp : Bool) (ltold lsince : Option (List Turn)) (rp : Bool) (rtold rsince : Option (List Turn)) (l r : Side) (breach : Option Break) : Type 0 where
+  pub some : GiveSome b both lp ltold lsince rp rtold rsince
+  pub through : breach ≡ None → AreThrough b frame both lp ltold lsince rp rtold rsince l r
+  pub broken : (k : Break) → breach ≡ Some k → GivesAllOn b frame both lp ltold lsince rp rtold rsince k.bank
   pub breach_is : both ≡ true → break_at b frame ≡ breach
 
 -- how a frame ends: they go on, or there is a breach
-pub record BreaksOff (b : Bridge) (frame : ℕ) (both : Bool) (d : DrivesTold) : Type 0 where
+pub record BreaksOff (b : Bridge) (frame : ℕ) (both lp : Bool) (ltold lsince : Option (List Turn)) (rp : Bool) (rtold rsince : Option (List Turn)) : Type 0 where
   pub break : Break
   pub break_is : both ≡ true → break_at b frame ≡ Some break
-  pub all : GivesAllOn b frame both d break.bank
+  pub all : GivesAllOn b frame both lp ltold lsince rp rtold rsince break.bank
 
-pub record Crosses (b : Bridge) (frame : ℕ) (both : Bool) (d : DrivesTold) (s : Sides) (held after : Option (List ℕ)) (goes_on : Bool) : Type 0 where
-  pub some : GiveSome b both d
+pub record Crosses (b : Bridge) (frame : ℕ) (both lp : Bool) (ltold lsince : Option (List Turn)) (rp : Bool) (rtold rsince : Option (List Turn)) (l r : Side) (held after : Option (List ℕ)) (goes_on : Bool) : Type 0 where
+  pub some : GiveSome b both lp ltold lsince rp rtold rsince
   pub text : both ≡ true → Appends held after (told_text b frame (break_at b frame))
-  pub ready : goes_on ≡ true → AreReady b (frame + 1) both d s
+  pub ready : goes_on ≡ true → AreReady b (frame + 1) both lp ltold lsince rp rtold rsince l r
   pub unbroken : goes_on ≡ true → both ≡ true → break_at b frame ≡ None
-  pub broken : goes_on ≡ false → BreaksOff b frame both d
+  pub broken : goes_on ≡ false → BreaksOff b frame both lp ltold lsince rp rtold rsince
 
 -- a first part of what is said of it was written
-pub record CrossesPart (b : Bridge) (frame : ℕ) (both : Bool) (d : DrivesTold) (held after : Option (List ℕ)) : Type 0 where
-  pub some : GiveSome b both d
+pub record CrossesPart (b : Bridge) (frame : ℕ) (both lp : Bool) (ltold lsince : Option (List Turn)) (rp : Bool) (rtold rsince : Option (List Turn)) (held after : Option (List ℕ)) : Type 0 where
+  pub some : GiveSome b both lp ltold lsince rp rtold rsince
   pub text : both ≡ true → AppendsPart held after (told_text b frame (break_at b frame))
-
--- what taking them into the next frame does to sides that have gone through one
-abbrev pub GoIntoNext : List Pair → Sides → Sides → Type 0
-GoIntoNext pairs s s' =
-    (b : Bridge) (frame : ℕ) (both : Bool) (d : DrivesTold) → IsBridge b → b.pairs ≡ pairs → frame < b.left.frames → ArePlain both d.left.is_plain d.right.is_plain
-    → (both ≡ true → AreUnbroken frame s.left s.right) → AfterFrame b Left frame both d.left.is_plain d.left.told d.left.since s.left
-    → AfterFrame b Right frame both d.right.is_plain d.right.told d.right.since s.right → AreReady b (frame + 1) both d s'
-
--- what taking them through a frame does to the sides of any bridge and to their drives
-abbrev pub PassBoth : {D : Type 0} → (D → Bool) → (D → Option (List Turn)) → ℕ → Drives D → Drives D → Sides → Sides → Option Break → Type 0
-PassBoth is_plain told frame before after s s' breach =
-    (b : Bridge) (both : Bool) (ltold rtold : Option (List Turn)) → IsBridge b → frame < b.left.frames → ArePlain both (is_plain before.left) (is_plain before.right)
-    → AreReady b frame both (told_from is_plain told ltold rtold before before) s → GoThrough b frame both (told_from is_plain told ltold rtold before after) s' breach
-
--- and what is then written, by what is said of a bridge with these pairs
-abbrev pub CrossFrame : {D : Type 0} → (D → Bool) → (D → Option (List Turn)) → List Pair → ℕ → Drives D → Drives D → Sides → (Bridge → Bool → DrivesTold → Type 0) → Type 0
-CrossFrame is_plain told pairs frame before after s Says =
-    (b : Bridge) (both : Bool) (ltold rtold : Option (List Turn)) → IsBridge b → b.pairs ≡ pairs → frame < b.left.frames
-    → ArePlain both (is_plain before.left) (is_plain before.right) → AreReady b frame both (told_from is_plain told ltold rtold before before) s
-    → Says b both (told_from is_plain told ltold rtold before after)
 
 -- All frames.
 
 -- the sides of a bridge before its first frame
-pub record HaveOpened (b : Bridge) (s : Sides) : Type 0 where
-  pub left : HasOpened (bus_on b Left) (members_on b Left) (slot_on b Left) s.left
-  pub right : HasOpened (bus_on b Right) (members_on b Right) (slot_on b Right) s.right
+pub record HaveOpened (b : Bridge) (l r : Side) : Type 0 where
+  pub left : HasOpened (bus_on b Left) (members_on b Left) (slot_on b Left) l
+  pub right : HasOpened (bus_on b Right) (members_on b Right) (slot_on b Right) r
 
-pub record MayBegin (pairs : List Pair) (frames : ℕ) (s : Sides) : Type 0 where
+pub record MayBegin (pairs : List Pair) (frames : ℕ) (l r : Side) : Type 0 where
   pub b : Bridge
   pub bridge : IsBridge b
   pub pairs_are : b.pairs ≡ pairs
   pub frames_are : b.left.frames ≡ frames
-  pub opened : HaveOpened b s
+  pub opened : HaveOpened b l r
 
 -- The bridge ends so. All that crosses was handed in by then, or all up to the begin of the frame with the breach
-abbrev pub EndsAs : Bridge → Bool → DrivesTold → Ending → Type 0
-EndsAs b both d ending.Ended =
-    (both ≡ true → break_of b ≡ None) × GiveAll b b.left.frames both d
-EndsAs b both d ending.Breach =
-    (k : Break) × ((both ≡ true → break_of b ≡ Some k) × ((frame : ℕ) × GivesAllOn b frame both d k.bank))
+abbrev pub EndsAs : Bridge → Bool → Bool → Option (List Turn) → Option (List Turn) → Bool → Option (List Turn) → Option (List Turn) → Ending → Type 0
+EndsAs b both lp ltold lsince rp rtold rsince ending.Ended =
+    (both ≡ true → break_of b ≡ None) × GiveAll b b.left.frames both lp ltold lsince rp rtold rsince
+EndsAs b both lp ltold lsince rp rtold rsince ending.Breach =
+    (k : Break) × ((both ≡ true → break_of b ≡ Some k) × ((frame : ℕ) × GivesAllOn b frame both lp ltold lsince rp rtold rsince k.bank))
 
 -- all was written that is said of the bridge, where both drives are plain. The drives gave turns of its runs
-pub record WritesAll (b : Bridge) (both : Bool) (d : DrivesTold) (held after : Option (List ℕ)) (e : Ending) : Type 0 where
-  pub some : GiveSome b both d
+pub record WritesAll (b : Bridge) (both lp : Bool) (ltold lsince : Option (List Turn)) (rp : Bool) (rtold rsince : Option (List Turn)) (held after : Option (List ℕ)) (e : Ending) : Type 0 where
+  pub some : GiveSome b both lp ltold lsince rp rtold rsince
   pub text : both ≡ true → Appends held after (bridge_text b)
-  pub ends : EndsAs b both d e
+  pub ends : EndsAs b both lp ltold lsince rp rtold rsince e
 
 -- or a first part of it
-pub record WritesPart (b : Bridge) (both : Bool) (d : DrivesTold) (held after : Option (List ℕ)) : Type 0 where
-  pub some : GiveSome b both d
+pub record WritesPart (b : Bridge) (both lp : Bool) (ltold lsince : Option (List Turn)) (rp : Bool) (rtold rsince : Option (List Turn)) (held after : Option (List ℕ)) : Type 0 where
+  pub some : GiveSome b both lp ltold lsince rp rtold rsince
   pub text : both ≡ true → AppendsPart held after (bridge_text b)
-
--- what is said of any bridge with these pairs and so many frames, of which these were the sides before its first frame
-abbrev pub CrossAll : {D : Type 0} → (D → Bool) → (D → Option (List Turn)) → List Pair → ℕ → Drives D → Drives D → Sides → (Bridge → Bool → DrivesTold → Type 0) → Type 0
-CrossAll is_plain told pairs frames before after s Says =
-    (b : Bridge) (both : Bool) → IsBridge b → b.pairs ≡ pairs → b.left.frames ≡ frames → HaveOpened b s → ArePlain both (is_plain before.left) (is_plain before.right)
-    → Says b both (told_between is_plain told before after)

@@ -44,9 +44,3 @@ pub record PassesFrame (sc : Scenario) (handed : List HandIn) (is_plain : Bool) 
   pub going : AreNotLast (before ++ more)
   pub holds : HoldsPassage terms frame (records_in (before ++ more)) p
   pub over : is_over terms.frames frame (record_of last) ≡ true
-
--- what passing a frame does, whatever was given before
-abbrev pub PassesOn : Bool → Option (List Turn) → Option (List Turn) → KeptWorld → KeptWorld → Terms → Passage → Passage → Turn → Type 0
-PassesOn is_plain mid since k k' terms p p' last =
-    (handed : List HandIn) (told : Option (List Turn)) (before : List Turn) → IsUnderWay k.bus handed is_plain told mid k before false
-    → HoldsPassage terms p.ports.frame (records_in before) p → PassesFrame k.bus handed is_plain told since k' before terms p.ports.frame p' last

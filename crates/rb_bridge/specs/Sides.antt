@@ -120,12 +120,6 @@ pub record AfterFrame (b : Bridge) (bank : Bank) (frame : ℕ) (both is_plain : 
   pub passed : HasPassed (bus_on b bank) handed is_plain told since s before
   pub plain : both ≡ true → HasTold b bank frame handed s
 
--- what going through a frame does to the side of any bridge
-abbrev pub GoesThrough : Bool → Option (List Turn) → Option (List Turn) → Side → Side → Type 0
-GoesThrough is_plain mid since s s' =
-    (b : Bridge) (bank : Bank) (frame : ℕ) (both : Bool) (told : Option (List Turn)) → frame < b.left.frames → b.left.frames ≡ b.right.frames
-    → (both ≡ true → is_plain ≡ true) → BeforeFrame b bank frame both is_plain told mid s → AfterFrame b bank frame both is_plain told since s'
-
 -- no bus tells a breach of the frame
 pub record AreUnbroken (frame : ℕ) (l r : Side) : Type 0 where
   pub left : break_by Left frame (record_of l.turn) ≡ None

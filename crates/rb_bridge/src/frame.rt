@@ -1,5 +1,5 @@
 //! A bus of a bridge that goes through a frame, and one that runs out.
-ghost use Rattle.std.specs.Prelude.{◌≡◌, true, false, Option, List};
+ghost use Rattle.std.specs.Prelude.{◌≡◌, ◌<◌, ℕ, Bool, true, false, Option, List};
 ghost use Rattle.rb_rules.specs.Goodness.{Scenario};
 ghost use Rattle.rb_rules.specs.Ports.{HandIn};
 ghost use Rattle.rb_world_book.specs.Records.{record_of};
@@ -7,7 +7,9 @@ ghost use Rattle.rb_world_book.specs.declared.turn.Turn.{Turn};
 ghost use Rattle.rb_world.specs.Nexts.{is_last};
 ghost use Rattle.rb_bridge.specs.Passing.{IsOnItsWay};
 ghost use Rattle.rb_bridge.specs.Running.{IsUnderWay};
-ghost use Rattle.rb_bridge.specs.Sides.{GoesThrough, IsUp, RunsOut};
+ghost use Rattle.rb_rules_bridge.specs.Bridges.{Bridge};
+ghost use Rattle.rb_rules_bridge.specs.declared.bank.Bank.{Bank};
+ghost use Rattle.rb_bridge.specs.Sides.{AfterFrame, BeforeFrame, IsUp, RunsOut};
 
 use crate::passing::pass_frame;
 use crate::side::Side;
@@ -33,8 +35,10 @@ pub(crate) fn pass<D: Drive>(side: &mut Side, apps: &Apps, drive: &mut D)
     requires { is_last (record_of side.old.turn) ≡ false
         → IsOnItsWay (D.is_plain drive.old) (D.told drive.old) side.old.world side.old.terms
         side.old.passage }
-    ensures passes { GoesThrough (D.is_plain drive.old) (D.told drive.old) (D.told drive.new)
-        side.old side.new }
+    ensures passes { (b : Bridge) (bank : Bank) (frame : ℕ) (both : Bool) (told : Option (List Turn)) → frame < b.left.frames → b.left.frames ≡ b.right.frames
+        → (both ≡ true → D.is_plain drive.old ≡ true)
+        → BeforeFrame b bank frame both (D.is_plain drive.old) told (D.told drive.old) side.old
+        → AfterFrame b bank frame both (D.is_plain drive.old) told (D.told drive.new) side.new }
     ensures stays { D.is_plain drive.new ≡ D.is_plain drive.old }
 {
     if is_last(&side.turn) {

@@ -3,13 +3,13 @@
 //! written.
 #![tactic(auto)]
 
-pub use crossing::{Drives, cross};
+pub use crossing::cross;
 pub use lines::{bridge_refused_line, cross_line, side_breach_line};
 pub use members::members_on;
-pub use side::{Side, Sides, open_side};
+pub use side::{Side, open_side};
 pub use telling::Breach;
 
-pub mod crossing;
+mod crossing;
 mod exchanging;
 mod fields;
 mod frame;

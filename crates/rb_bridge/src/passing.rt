@@ -1,10 +1,12 @@
 //! A bus that is taken through one frame.
-ghost use Rattle.std.specs.Prelude.{◌≡◌, ◌++◌, ◌∷◌, [], ℕ, List, false};
+ghost use Rattle.std.specs.Prelude.{◌≡◌, ◌++◌, ◌∷◌, [], ℕ, Option, List, false};
+ghost use Rattle.rb_rules.specs.Ports.{HandIn};
 ghost use Rattle.rb_world_book.specs.Records.{record_of};
 ghost use Rattle.rb_world_book.specs.declared.turn.Turn.{Turn};
 ghost use Rattle.rb_run.specs.Turns.{records_in};
 ghost use Rattle.rb_world.specs.Nexts.{is_last};
-ghost use Rattle.rb_bridge.specs.Passing.{HoldsPassage, IsOnItsWay, PassesOn, is_over};
+ghost use Rattle.rb_bridge.specs.Passing.{HoldsPassage, IsOnItsWay, PassesFrame, is_over};
+ghost use Rattle.rb_bridge.specs.Running.{IsUnderWay};
 
 use crate::values::{Values, note};
 use rb_group_run::ports::frame_or;
@@ -70,8 +72,11 @@ pub(crate) fn pass_frame<D: Drive>(
 ) -> Turn
     requires { IsOnItsWay (D.is_plain drive.old) (D.told drive.old) world.old terms.now
         passage.old }
-    ensures passes { PassesOn (D.is_plain drive.old) (D.told drive.old) (D.told drive.new)
-        world.old world.new terms.now passage.old passage.new result }
+    ensures passes { (handed : List HandIn) (told : Option (List Turn)) (before : List Turn)
+        → IsUnderWay world.old.bus handed (D.is_plain drive.old) told (D.told drive.old) world.old
+        before false
+        → HoldsPassage terms.now passage.old.ports.frame (records_in before) passage.old
+        → PassesFrame world.old.bus handed (D.is_plain drive.old) told (D.told drive.new) world.new before terms.now passage.old.ports.frame passage.new result }
     ensures bus { world.new.bus ≡ world.old.bus }
     ensures stays { D.is_plain drive.new ≡ D.is_plain drive.old }
 {

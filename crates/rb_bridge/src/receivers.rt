@@ -1,11 +1,12 @@
 //! What the receivers of a bus find for the words that crossed, written a line at a time.
-ghost use Rattle.std.specs.Prelude.{◌≡◌, ◌<◌, ℕ, List};
+ghost use Rattle.std.specs.Prelude.{◌≡◌, ◌<◌, ℕ, List, OnErr, OnOk};
+ghost use Rattle.std.specs.Io.KnownBytes.{Appends};
 ghost use Rattle.rb_base.specs.Nodes.Side.{Biu};
 ghost use Rattle.rb_base.specs.declared.values.Delivery.{Delivery};
 ghost use Rattle.rb_group.specs.Groups.{group_value};
 ghost use Rattle.rb_group.specs.declared.voters.Which.TheVariants.{Most};
+ghost use Rattle.rb_outside.specs.Bytes.{AppendsPart};
 ghost use Rattle.rb_outside.specs.Causes.{HasCause};
-ghost use Rattle.rb_outside.specs.Writing.{Writes};
 ghost use Rattle.rb_group_run.specs.Holding.{HoldPortions, IsScopeOf};
 ghost use Rattle.rb_rules.specs.Goodness.{Scenario, is_good};
 ghost use Rattle.rb_rules_bridge.specs.Texts.{cross_text, last_data_slot};
@@ -47,10 +48,12 @@ fn find(groups: &[Group; 16], port: u8) -> Heard
 // Writes the value that a port finds.
 fn write_value<K: Sink>(ports: &Ports, right: bool, port: u8, output: &mut K) -> Result<(), Failed>
     requires { port < 16 }
-    ensures line { (members : ℕ) (told : ℕ → List Delivery)
+    ensures all { (members : ℕ) (told : ℕ → List Delivery)
         → HoldPortions members told ports.now.groups
-        → Writes K.held K.faults output.old output.new result
-        (cross_text ports.now.frame (bank_of right) port (group_value Most members (told port))) }
+        → OnOk result (Appends (K.held output.old) (K.held output.new) (cross_text ports.now.frame (bank_of right) port (group_value Most members (told port)))) }
+    ensures part { (members : ℕ) (told : ℕ → List Delivery)
+        → HoldPortions members told ports.now.groups
+        → OnErr result (AppendsPart (K.held output.old) (K.held output.new) (cross_text ports.now.frame (bank_of right) port (group_value Most members (told port)))) }
     ensures cause { HasCause (K.faults output.old) (K.faults output.new) result }
 {
     let value = find(&ports.groups, port);
@@ -66,10 +69,12 @@ fn write_port<K: Sink>(
     output: &mut K,
 ) -> Result<(), Failed>
     requires { port < 16 }
-    ensures line { (sc : Scenario) (members : ℕ) (told : ℕ → List Delivery) → IsScopeOf sc scope.now
+    ensures all { (sc : Scenario) (members : ℕ) (told : ℕ → List Delivery) → IsScopeOf sc scope.now
         → HoldPortions members told ports.now.groups
-        → Writes K.held K.faults output.old output.new result (receiver_by sc ports.now.frame
-        (bank_of right) (λ i. group_value Most members (told i)) port) }
+        → OnOk result (Appends (K.held output.old) (K.held output.new) (receiver_by sc ports.now.frame (bank_of right) (λ i. group_value Most members (told i)) port)) }
+    ensures part { (sc : Scenario) (members : ℕ) (told : ℕ → List Delivery) → IsScopeOf sc scope.now
+        → HoldPortions members told ports.now.groups
+        → OnErr result (AppendsPart (K.held output.old) (K.held output.new) (receiver_by sc ports.now.frame (bank_of right) (λ i. group_value Most members (told i)) port)) }
     ensures cause { HasCause (K.faults output.old) (K.faults output.new) result }
 {
     if is_good_at_last(scope, ports.frame, port) {
@@ -89,10 +94,12 @@ pub(crate) fn write_receivers<K: Sink>(
     scope: &Scope,
     output: &mut K,
 ) -> Result<(), Failed>
-    ensures lines { (sc : Scenario) (members : ℕ) (told : ℕ → List Delivery)
-        → IsScopeOf sc scope.now → HoldPortions members told ports.now.groups
-        → Writes K.held K.faults output.old output.new result (receivers_by sc ports.now.frame
-        (bank_of right) (λ i. group_value Most members (told i))) }
+    ensures all { (sc : Scenario) (members : ℕ) (told : ℕ → List Delivery) → IsScopeOf sc scope.now
+        → HoldPortions members told ports.now.groups
+        → OnOk result (Appends (K.held output.old) (K.held output.new) (receivers_by sc ports.now.frame (bank_of right) (λ i. group_value Most members (told i)))) }
+    ensures part { (sc : Scenario) (members : ℕ) (told : ℕ → List Delivery) → IsScopeOf sc scope.now
+        → HoldPortions members told ports.now.groups
+        → OnErr result (AppendsPart (K.held output.old) (K.held output.new) (receivers_by sc ports.now.frame (bank_of right) (λ i. group_value Most members (told i)))) }
     ensures cause { HasCause (K.faults output.old) (K.faults output.new) result }
 {
     for port in 0..scope.shape.biu() {

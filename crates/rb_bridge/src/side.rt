@@ -25,13 +25,6 @@ pub struct Side {
     pub turn: Turn,
 }
 
-/// Both buses of a bridge.
-#[derive(Drop)]
-pub struct Sides {
-    pub left: Side,
-    pub right: Side,
-}
-
 // What is asked of a bus: the bridge's BIUs, and which data slot is carried over, counted from 0.
 fn terms_of(scope: &Scope, members: NodeSet<Biu>, slot: u16) -> Terms
     requires { slot < scope.now.shape.data_slots }

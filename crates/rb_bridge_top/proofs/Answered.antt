@@ -1,9 +1,10 @@
 -- The answer to `run`, from what came of its input and of its bridge.
 use Rattle.std.proofs.Common.{◌≡◌, ◌⊎◌, ℕ, Bool, List, Option, inl, inr, refl, subst, sym}
 use Rattle.rb_outside.specs.Causes.{Rose}
+use Rattle.rb_world_book.specs.declared.turn.Turn.{Turn}
 use Rattle.rb_bridge_document.specs.declared.bridge.Bridge.{Bridge as Kept}
 use Rattle.rb_bridge_document.specs.Acceptance.{as_bridge}
-use Rattle.rb_bridge.specs.Crossing.{DrivesTold, WritesPart}
+use Rattle.rb_bridge.specs.Crossing.{WritesPart}
 use Rattle.rb_bridge_top.specs.declared.status.Status.{Status}
 use Rattle.rb_bridge_top.specs.declared.status.Status.TheVariants.{Done, Breach, Usage, Refused, TooLong, ReadFault, WriteFault, OutOfMemory}
 use Rattle.rb_bridge_top.specs.Answers.{Answers, IsCrossed}
@@ -22,9 +23,9 @@ never-both OutOfMemory may ended = ended
 
 -- where no bridge was read
 pub none-answers : (both : Bool) (status : Status) (left left' : Option (List ℕ)) (reads reads' : ℕ) (held held' : Option (List ℕ)) (writes writes' : ℕ)
-    (d : DrivesTold) → ReadsNone status left left' reads reads' held held' writes writes'
-    → Answers both status left left' reads reads' held held' writes writes' d
-none-answers both status left left' reads reads' held held' writes writes' d n = record {
+    (lp : Bool) (ltold : Option (List Turn)) (rp : Bool) (rtold : Option (List Turn)) → ReadsNone status left left' reads reads' held held' writes writes'
+    → Answers both status left left' reads reads' held held' writes writes' lp ltold ltold rp rtold rtold
+none-answers both status left left' reads reads' held held' writes writes' lp ltold rp rtold n = record {
   known = λ e. subst MayRefuse e n.one_of;
   ended = λ h. absurd (never-both status n.one_of h);
   refused = n.refused;
@@ -34,12 +35,12 @@ none-answers both status left left' reads reads' held held' writes writes' d n =
 
 -- where one was, and it was taken to its end
 pub report-answers : (both : Bool) (status : Status) (left left' : Option (List ℕ)) (reads reads' : ℕ) (held held' : Option (List ℕ)) (writes writes' : ℕ)
-    (d : DrivesTold) (kept : Kept) → ReadsBridge left left' kept
-    → (HasEnded status → IsCrossed (as_bridge kept) both status d held held')
-    → (status ≡ WriteFault → WritesPart (as_bridge kept) both d held held')
+    (lp : Bool) (ltold lsince : Option (List Turn)) (rp : Bool) (rtold rsince : Option (List Turn)) (kept : Kept) → ReadsBridge left left' kept
+    → (HasEnded status → IsCrossed (as_bridge kept) both status lp ltold lsince rp rtold rsince held held')
+    → (status ≡ WriteFault → WritesPart (as_bridge kept) both lp ltold lsince rp rtold rsince held held')
     → (status ≡ WriteFault → Rose writes writes') → IsOfRun status
-    → Answers both status left left' reads reads' held held' writes writes' d
-report-answers both status left left' reads reads' held held' writes writes' d kept reads-it ended part rose one_of = record {
+    → Answers both status left left' reads reads' held held' writes writes' lp ltold lsince rp rtold rsince
+report-answers both status left left' reads reads' held held' writes writes' lp ltold lsince rp rtold rsince kept reads-it ended part rose one_of = record {
   known = λ e. subst IsOfRun e one_of;
   ended = λ h. record {
     input = reads-it.input;

@@ -10,7 +10,7 @@ use Rattle.rb_rules_bridge.specs.Bridges.{biu_on}
 use Rattle.rb_run.specs.declared.ending.Ending.{Ending}
 use Rattle.rb_run.specs.declared.ending.Ending.TheVariants as ending
 use Rattle.rb_scenario.specs.Acceptance.{as_scenario}
-use Rattle.rb_bridge.specs.declared.side.Sides.{Sides}
+use Rattle.rb_bridge.specs.declared.side.Side.{Side}
 use Rattle.rb_bridge.specs.Crossing.{HaveOpened}
 use Rattle.rb_bridge.specs.Sides.{HasOpened}
 use Rattle.rb_bridge_top.specs.declared.status.Status.{Status}
@@ -18,12 +18,12 @@ use Rattle.rb_bridge_top.specs.declared.status.Status.TheVariants.{WriteFault, O
 use Rattle.rb_bridge_top.specs.Statuses.{HasEnded, IsOfRun, status_of}
 
 -- both sides, opened with the BIUs of these pairs
-pub both-opened : (kept : Kept) (ps qs : List Pair) (m n : ℕ) (s : Sides) → ps ≡ kept.pairs.items → qs ≡ kept.pairs.items
+pub both-opened : (kept : Kept) (ps qs : List Pair) (m n : ℕ) (l r : Side) → ps ≡ kept.pairs.items → qs ≡ kept.pairs.items
     → m ≡ set_of (λ i. list_any (λ pair. biu_on Left pair == i) ps) → n ≡ set_of (λ i. list_any (λ pair. biu_on Right pair == i) qs)
-    → HasOpened (as_scenario kept.left) m kept.left_slot s.left → HasOpened (as_scenario kept.right) n kept.right_slot s.right → HaveOpened (as_bridge kept) s
-both-opened kept ps qs m n s of_left of_right m_is n_is is_l is_r = record {
-  left = subst (λ k. HasOpened (as_scenario kept.left) k kept.left_slot s.left) (m_is ∙ ap (λ ps. set_of (λ i. list_any (λ pair. biu_on Left pair == i) ps)) of_left) is_l;
-  right = subst (λ k. HasOpened (as_scenario kept.right) k kept.right_slot s.right) (n_is ∙ ap (λ ps. set_of (λ i. list_any (λ pair. biu_on Right pair == i) ps)) of_right) is_r;
+    → HasOpened (as_scenario kept.left) m kept.left_slot l → HasOpened (as_scenario kept.right) n kept.right_slot r → HaveOpened (as_bridge kept) l r
+both-opened kept ps qs m n l r of_left of_right m_is n_is is_l is_r = record {
+  left = subst (λ k. HasOpened (as_scenario kept.left) k kept.left_slot l) (m_is ∙ ap (λ ps. set_of (λ i. list_any (λ pair. biu_on Left pair == i) ps)) of_left) is_l;
+  right = subst (λ k. HasOpened (as_scenario kept.right) k kept.right_slot r) (n_is ∙ ap (λ ps. set_of (λ i. list_any (λ pair. biu_on Right pair == i) ps)) of_right) is_r;
 }
 
 -- The answer to an end.

@@ -1,9 +1,8 @@
 //! Reading a bridge from a source.
-ghost use Rattle.std.specs.Prelude.{◌≡◌, ◌≤◌, ◌⊎◌, IfOk, IfErr};
+ghost use Rattle.std.specs.Prelude.{◌≡◌, ◌≤◌, ◌⊎◌, IfOk, IfErr, OnOk, OnErr};
 ghost use Rattle.std.specs.Io.KnownBytes.{Appends};
 ghost use Rattle.rb_outside.specs.Bytes.{AppendsPart, Gave, ReadsToEnd};
-ghost use Rattle.rb_outside.specs.Causes.{Rose};
-ghost use Rattle.rb_outside.specs.Writing.{Writes};
+ghost use Rattle.rb_outside.specs.Causes.{HasCause, Rose};
 ghost use Rattle.rb_bridge_document.specs.Codes.{code_of, detail_of};
 ghost use Rattle.rb_bridge.specs.Refusals.{IsBridgeRefusal, bridge_refused_text};
 ghost use Rattle.rb_bridge_top.specs.Inputs.{HasLine, IsUnread, ReadsBridge, ReadsNone, input_limit, rule_text};
@@ -21,10 +20,8 @@ const INPUT_LIMIT: usize = 4_194_304;
 // The bytes that the source has left, or the answer where they are too many or can't be had.
 fn read_input<S: Source>(alloc: Global, input: &mut S) -> Result<Vec<u8>, Status>
     ensures whole { IfOk result (λ v. ReadsToEnd (S.left input.old) (S.left input.new) v.items) }
-    ensures short_enough { IfOk result
-        (λ _. Gave (S.left input.old) (S.left input.new) (λ n. n ≤ input_limit)) }
-    ensures unread { IfErr result (λ status. IsUnread status
-        (S.left input.old) (S.left input.new) (S.faults input.old) (S.faults input.new)) }
+    ensures short_enough { IfOk result (λ _. Gave (S.left input.old) (S.left input.new) (λ n. n ≤ input_limit)) }
+    ensures unread { IfErr result (λ status. IsUnread status (S.left input.old) (S.left input.new) (S.faults input.old) (S.faults input.new)) }
     ensures one_of { IfErr result IsNotRead }
 {
     match read_all(alloc, input, INPUT_LIMIT) {
@@ -38,7 +35,9 @@ fn read_input<S: Source>(alloc: Global, input: &mut S) -> Result<Vec<u8>, Status
 // Writes the line of a rule that is broken.
 fn write_rule<K: Sink>(rule: BridgeRefusal, output: &mut K) -> Result<(), Failed>
     requires { HasLine rule }
-    ensures { Writes K.held K.faults output.old output.new result (rule_text rule) }
+    ensures all { OnOk result (Appends (K.held output.old) (K.held output.new) (rule_text rule)) }
+    ensures part { OnErr result (AppendsPart (K.held output.old) (K.held output.new) (rule_text rule)) }
+    ensures cause { HasCause (K.faults output.old) (K.faults output.new) result }
 {
     let line = bridge_refused_line(rule.code().unwrap_or(0), rule.detail());
     write_line(output, &line)
@@ -67,9 +66,8 @@ pub(crate) fn read_document<S: Source, K: Sink>(
     output: &mut K,
 ) -> Result<Bridge, Status>
     ensures bridge { IfOk result (ReadsBridge (S.left input.old) (S.left input.new)) }
-    ensures none { IfErr result (λ status. ReadsNone status (S.left input.old) (S.left input.new)
-        (S.faults input.old) (S.faults input.new) (K.held output.old) (K.held output.new)
-        (K.faults output.old) (K.faults output.new)) }
+    ensures none { IfErr result (λ status. ReadsNone status (S.left input.old) (S.left input.new) (S.faults input.old) (S.faults input.new)
+        (K.held output.old) (K.held output.new) (K.faults output.old) (K.faults output.new)) }
     ensures unwritten { IfOk result (λ _. output.new ≡ output.old) }
     ensures nothing { IfErr result (λ status. WritesNothing status → output.new ≡ output.old) }
 {

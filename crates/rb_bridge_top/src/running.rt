@@ -1,13 +1,15 @@
 //! A bridge that is opened, and taken to its end.
-ghost use Rattle.std.specs.Prelude.{◌≡◌};
+ghost use Rattle.std.specs.Prelude.{◌≡◌, Bool};
+ghost use Rattle.rb_outside.specs.Causes.{Rose};
 ghost use Rattle.rb_rules_bridge.specs.Bridges.{IsBridge};
 ghost use Rattle.rb_bridge_document.specs.Acceptance.{as_bridge};
-ghost use Rattle.rb_bridge_top.specs.Answers.{Reports};
-ghost use Rattle.rb_bridge_top.specs.Statuses.{status_of};
+ghost use Rattle.rb_bridge.specs.Crossing.{ArePlain, WritesPart};
+ghost use Rattle.rb_bridge_top.specs.Answers.{IsCrossed};
+ghost use Rattle.rb_bridge_top.specs.Statuses.{HasEnded, IsOfRun, status_of};
 
 use crate::status::Status;
 use rb_base::OutOfMemory;
-use rb_bridge::{Drives, Sides, cross, members_on, open_side};
+use rb_bridge::{cross, members_on, open_side};
 use rb_bridge_document::Bridge;
 use rb_outside::{Failed, Sink};
 use rb_port::Apps;
@@ -32,11 +34,23 @@ pub(crate) fn report<K: Sink, D: Drive>(
     bridge: Bridge,
     output: &mut K,
     apps: &Apps,
-    drives: &mut Drives<D>,
+    left_drive: &mut D,
+    right_drive: &mut D,
 ) -> Status
     requires { IsBridge (as_bridge bridge) }
-    ensures { Reports (as_bridge bridge) result K.held K.faults output.old output.new
-        D.is_plain D.told drives.old drives.new }
+    ensures ended { HasEnded result → (both : Bool)
+        → ArePlain both (D.is_plain left_drive.old) (D.is_plain right_drive.old)
+        → IsCrossed (as_bridge bridge) both result (D.is_plain left_drive.old) (D.told left_drive.old) (D.told left_drive.new) (D.is_plain right_drive.old) (D.told right_drive.old) (D.told right_drive.new)
+        (K.held output.old) (K.held output.new) }
+    ensures part { result ≡ Status.WriteFault → (both : Bool)
+        → ArePlain both (D.is_plain left_drive.old) (D.is_plain right_drive.old)
+        → WritesPart (as_bridge bridge) both (D.is_plain left_drive.old) (D.told left_drive.old) (D.told left_drive.new) (D.is_plain right_drive.old) (D.told right_drive.old) (D.told right_drive.new)
+        (K.held output.old) (K.held output.new) }
+    ensures cause { result ≡ Status.WriteFault → Rose (K.faults output.old) (K.faults output.new) }
+    ensures unopened { result ≡ Status.OutOfMemory
+        → (output.new ≡ output.old)
+        × ((left_drive.new ≡ left_drive.old) × (right_drive.new ≡ right_drive.old)) }
+    ensures one_of { IsOfRun result }
 {
     let Bridge {
         left,
@@ -48,16 +62,24 @@ pub(crate) fn report<K: Sink, D: Drive>(
     let frames = left.frames;
     let left_members = members_on(Bank::Left, pairs.as_slice());
     let right_members = members_on(Bank::Right, pairs.as_slice());
-    let left = match open_side(alloc, left, left_members, left_slot) {
+    let mut left = match open_side(alloc, left, left_members, left_slot) {
         Ok(side) => side,
         Err(OutOfMemory) => return Status::OutOfMemory,
     };
-    let right = match open_side(alloc, right, right_members, right_slot) {
+    let mut right = match open_side(alloc, right, right_members, right_slot) {
         Ok(side) => side,
         Err(OutOfMemory) => return Status::OutOfMemory,
     };
-    let mut sides = Sides { left, right };
-    match cross(&mut sides, pairs.as_slice(), frames, apps, drives, output) {
+    match cross(
+        &mut left,
+        &mut right,
+        pairs.as_slice(),
+        frames,
+        apps,
+        left_drive,
+        right_drive,
+        output,
+    ) {
         Ok(ending) => status_of(ending),
         Err(Failed) => Status::WriteFault,
     }

@@ -1,12 +1,20 @@
 //! The top call of a bridge.
-ghost use Rattle.rb_bridge_top.specs.Answers.{Serves, WordsAnswers};
+ghost use Rattle.std.specs.Prelude.{◌≡◌, Bool, IsTrue};
+ghost use Rattle.rb_flags.specs.declared.Flag.{Flag};
+ghost use Rattle.rb_bridge.specs.Crossing.{ArePlain};
+ghost use Rattle.rb_bridge_top.specs.declared.form.Form.TheVariants.{Run, Show};
+ghost use Rattle.rb_bridge_top.specs.Answers.{Answers, Completes, Ends, FailsToWrite, Refuses, Untouched, UsageExactly};
+ghost use Rattle.rb_bridge_top.specs.Inputs.{IsUnread};
+ghost use Rattle.rb_bridge_top.specs.Pages.{Shows};
+ghost use Rattle.rb_bridge_top.specs.Promise.{KeepsTheBridge};
+ghost use Rattle.rb_bridge_top.specs.Statuses.{HasEnded, RunsNothing, WritesNothing};
+ghost use Rattle.rb_bridge_top.specs.Words.{AskFor};
 
 use crate::form::{Form, form_of};
 use crate::pages::write_page;
 use crate::reading::read_document;
 use crate::running::report;
 use crate::status::Status;
-use rb_bridge::Drives;
 use rb_outside::{Sink, Source};
 use rb_port::Apps;
 use rb_world::Drive;
@@ -18,23 +26,30 @@ fn serve<S: Source, K: Sink, D: Drive>(
     input: &mut S,
     output: &mut K,
     apps: &Apps,
-    drives: &mut Drives<D>,
+    left: &mut D,
+    right: &mut D,
 ) -> Status
-    ensures { Serves result S.left S.faults input.old input.new K.held K.faults output.old
-        output.new D.is_plain D.told drives.old drives.new }
+    ensures answers { (both : Bool) → ArePlain both (D.is_plain left.old) (D.is_plain right.old)
+        → Answers both result (S.left input.old) (S.left input.new)
+        (S.faults input.old) (S.faults input.new)
+        (K.held output.old) (K.held output.new) (K.faults output.old) (K.faults output.new)
+        (D.is_plain left.old) (D.told left.old) (D.told left.new)
+        (D.is_plain right.old) (D.told right.old) (D.told right.new) }
+    ensures unwritten { WritesNothing result → output.new ≡ output.old }
+    ensures not_driven { RunsNothing result → (left.new ≡ left.old) × (right.new ≡ right.old) }
 {
     match read_document(alloc, input, output) {
-        Ok(bridge) => report(alloc, bridge, output, apps, drives),
+        Ok(bridge) => report(alloc, bridge, output, apps, left, right),
         Err(status) => status,
     }
 }
 
-/// The program `robus_bridge` as a call: it does what the words ask for. The drives are asked for
-/// the turns of both buses.
+/// The program `robus_bridge` as a call: it does what the words ask for. `left` is asked for the
+/// turns of the left bus, and `right` for those of the right one.
 ///
 /// | words | what it does |
 /// |---|---|
-/// | `run` | reads a bridge of two buses, runs both, writes what their receivers find by lines |
+/// | `run` | reads a bridge of two buses, runs both and writes what their receivers find, a line at a time |
 /// | `--help`, `-h` | writes a page with these words and the statuses, at once; reads nothing |
 /// | `--version` | writes the name of the program and its version; reads nothing |
 ///
@@ -51,13 +66,46 @@ pub fn run_bridge<S: Source, K: Sink, D: Drive>(
     input: &mut S,
     output: &mut K,
     apps: &Apps,
-    drives: &mut Drives<D>,
+    left: &mut D,
+    right: &mut D,
 ) -> Status
-    ensures { WordsAnswers words.now result S.left S.faults input.old input.new K.held K.faults
-        output.old output.new D.is_plain D.told drives.old drives.new }
+    ensures usage { UsageExactly result words.now }
+    ensures untouched { Untouched words.now result input.old input.new output.old output.new
+        left.old left.new right.old right.new }
+    ensures shown { (flag : Flag) → AskFor words.now (Show flag)
+        → Shows flag result (K.held output.old) (K.held output.new)
+        (K.faults output.old) (K.faults output.new) }
+    ensures promise { AskFor words.now Run
+        → IsTrue (D.is_plain left.old) → IsTrue (D.is_plain right.old) → HasEnded result
+        → KeepsTheBridge result (S.left input.old) (S.left input.new)
+        (K.held output.old) (K.held output.new) }
+    ensures ended { AskFor words.now Run
+        → (both : Bool) → ArePlain both (D.is_plain left.old) (D.is_plain right.old)
+        → HasEnded result
+        → Ends both result (S.left input.old) (S.left input.new)
+        (K.held output.old) (K.held output.new)
+        (D.is_plain left.old) (D.told left.old) (D.told left.new)
+        (D.is_plain right.old) (D.told right.old) (D.told right.new) }
+    ensures refused { result ≡ Status.Refused
+        → Refuses (S.left input.old) (S.left input.new) (K.held output.old) (K.held output.new) }
+    ensures unread { AskFor words.now Run
+        → IsUnread result (S.left input.old) (S.left input.new)
+        (S.faults input.old) (S.faults input.new) }
+    ensures write_fault { AskFor words.now Run
+        → (both : Bool) → ArePlain both (D.is_plain left.old) (D.is_plain right.old)
+        → result ≡ Status.WriteFault
+        → FailsToWrite both (S.left input.old) (S.left input.new)
+        (K.held output.old) (K.held output.new)
+        (K.faults output.old) (K.faults output.new)
+        (D.is_plain left.old) (D.told left.old) (D.told left.new)
+        (D.is_plain right.old) (D.told right.old) (D.told right.new) }
+    ensures complete { AskFor words.now Run
+        → (both : Bool) → ArePlain both (D.is_plain left.old) (D.is_plain right.old)
+        → Completes both result (S.left input.old) (S.faults input.old) (S.faults input.new)
+        (K.faults output.old) (K.faults output.new) }
 {
     match form_of(words) {
-        Some(Form::Run) => serve(alloc, input, output, apps, drives),
+        Some(Form::Run) => serve(alloc, input, output, apps, left, right),
         Some(Form::Show(flag)) => write_page(flag, output),
         None => Status::Usage,
     }

@@ -1,6 +1,5 @@
 //! Calls of the programs on bytes in memory.
 use crate::steps::Program;
-use rb_bridge::Drives;
 use rb_bridge_top::run_bridge;
 use rb_group::Voters;
 use rb_outside::{MemSink, MemSource};
@@ -48,18 +47,15 @@ impl Answerer {
         input: &mut MemSource,
         output: &mut MemSink,
     ) -> u8 {
+        let (mut drive, mut other) = (FirstDrive::new(), FirstDrive::new());
         match program {
             Program::Robus => {
                 let (apps, voters) = (&self.apps, &self.voters);
-                let mut drive = FirstDrive::new();
                 run_robus(alloc, words, input, output, apps, &mut drive, voters) as u8
             }
             Program::Bridge => {
-                let mut drives = Drives {
-                    left: FirstDrive::new(),
-                    right: FirstDrive::new(),
-                };
-                run_bridge(alloc, words, input, output, &self.apps, &mut drives) as u8
+                let apps = &self.apps;
+                run_bridge(alloc, words, input, output, apps, &mut drive, &mut other) as u8
             }
             Program::Picture => draw(alloc, words, input, output) as u8,
         }

@@ -2,7 +2,6 @@
 //! and a plain drive for each bus. It ends with the number of the status.
 #![tactic(auto)]
 
-use rb_bridge::Drives;
 use rb_bridge_top::run_bridge;
 use rb_outside::{StdSink, StdSource};
 use rb_port::{Apps, applications};
@@ -36,17 +35,16 @@ fn arguments(rt: &HostRuntime) -> Result<Vec<String>, u8> {
 fn serve_with(rt: &HostRuntime, words: &[String], apps: &Apps) -> u8 {
     let mut input = StdSource::new(rt.reader());
     let mut output = StdSink::new(io::writer(rt));
-    let mut drives = Drives {
-        left: FirstDrive::new(),
-        right: FirstDrive::new(),
-    };
+    let mut left = FirstDrive::new();
+    let mut right = FirstDrive::new();
     let status = run_bridge(
         rt.alloc(),
         words,
         &mut input,
         &mut output,
         apps,
-        &mut drives,
+        &mut left,
+        &mut right,
     );
     status as u8
 }

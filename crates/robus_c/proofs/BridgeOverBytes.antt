@@ -7,8 +7,7 @@ use Rattle.rb_flags.specs.declared.Flag.{Flag}
 use Rattle.robus_c.specs.Held.{Held, faults_of}
 use Rattle.robus_c.proofs.OverBytes.{fresh, given_over, never_rose, no_fault, read_is, written_is}
 use Rattle.rb_bridge_document.specs.Acceptance.{IsBridgeAccepted}
-use Rattle.rb_bridge.specs.declared.crossing.Drives.{Drives}
-use Rattle.rb_bridge.specs.Crossing.{ArePlain, drives}
+use Rattle.rb_bridge.specs.Crossing.{ArePlain}
 use Rattle.rb_bridge_top.specs.declared.form.Form.{Form}
 use Rattle.rb_bridge_top.specs.declared.form.Form.TheVariants.{Run, Show}
 use Rattle.rb_bridge_top.specs.declared.status.Status.{Status}
@@ -39,6 +38,9 @@ due_or_memory : (status end : Status) → (status ≡ end) ⊎ HasFailed status 
 due_or_memory status end (inl is) second = inl is
 due_or_memory status end (inr failed) (inl h) = absurd (never_both status h failed)
 due_or_memory status end (inr failed) (inr memory) = inr memory
+
+not_usage : (status : Status) → MayRefuse status → ¬ (status ≡ code.Usage)
+not_usage status may e = subst MayRefuse e may
 
 shown_or : (status : Status) → (status ≡ code.Done) ⊎ (status ≡ code.WriteFault) → status ≡ code.ReadFault → ⊥
 shown_or status (inl done) e = let n : 0 ≡ 5 = ap number_of (sym done ∙ e) in absurd (omega (arith, n))
@@ -71,7 +73,7 @@ rose_so writes writes' f g (inr b) = g b
 never_written : (words : List (String Global)) (status : Status) (source source' : List ℕ) (sink sink' : Held) → sink ≡ fresh → sink'.failed ≡ false
     → ((flag : Flag) → AskFor words (Show flag) → Shows flag status (Some sink.bytes) (Some sink'.bytes) (faults_of sink) (faults_of sink'))
     → (AskFor words Run → (both : Bool) → ArePlain both true true → status ≡ code.WriteFault
-    → FailsToWrite both (Some source) (Some source') (Some sink.bytes) (Some sink'.bytes) (faults_of sink) (faults_of sink') (drives true None None true None None))
+    → FailsToWrite both (Some source) (Some source') (Some sink.bytes) (Some sink'.bytes) (faults_of sink) (faults_of sink') true None None true None None)
     → status ≡ code.WriteFault → (form : Form) → AskFor words form → ⊥
 never_written words status source source' sink sink' f ok shows fails e Run a =
     no_fault sink sink' f ok (rose_so (faults_of sink) (faults_of sink') (λ x. x.rose) (λ x. x.rose) (fails a true both_plain e))
@@ -90,26 +92,26 @@ shown_done : (flag : Flag) (status : Status) (sink sink' : Held) → sink ≡ fr
 shown_done flag status sink sink' f ok s = shown_by flag status sink sink' f ok s s.one_of
 
 -- all clauses of the call, with a source of this input and an empty sink, of which no call failed
-pub over_bytes : (words : List (String Global)) (status : Status) (input source source' : List ℕ) (sink sink' : Held) (both both' : Drives FirstDrive)
+pub over_bytes : (words : List (String Global)) (status : Status) (input source source' : List ℕ) (sink sink' : Held) (left left' right right' : FirstDrive)
     → source ≡ input → sink ≡ fresh → sink'.failed ≡ false
     → UsageExactly status words
-    → Untouched words status source source' sink sink' both both'
+    → Untouched words status source source' sink sink' left left' right right'
     → ((flag : Flag) → AskFor words (Show flag) → Shows flag status (Some sink.bytes) (Some sink'.bytes) (faults_of sink) (faults_of sink'))
     → (AskFor words Run → IsTrue true → IsTrue true → HasEnded status
     → outside.KeepsTheBridge status (Some source) (Some source') (Some sink.bytes) (Some sink'.bytes))
     → (status ≡ code.Refused → Refuses (Some source) (Some source') (Some sink.bytes) (Some sink'.bytes))
     → (AskFor words Run → IsUnread status (Some source) (Some source') 0 0)
     → (AskFor words Run → (both : Bool) → ArePlain both true true → status ≡ code.WriteFault
-    → FailsToWrite both (Some source) (Some source') (Some sink.bytes) (Some sink'.bytes) (faults_of sink) (faults_of sink') (drives true None None true None None))
+    → FailsToWrite both (Some source) (Some source') (Some sink.bytes) (Some sink'.bytes) (faults_of sink) (faults_of sink') true None None true None None)
     → (AskFor words Run → (both : Bool) → ArePlain both true true → Completes both status (Some source) 0 0 (faults_of sink) (faults_of sink'))
     → Answers (map string_bytes words) input sink'.bytes status
-over_bytes words status input source source' sink sink' both both' e f ok usage untouched shows promise refuses unread fails completes = record {
+over_bytes words status input source source' sink sink' left left' right right' e f ok usage untouched shows promise refuses unread fails completes = record {
   unknown = usage.unknown;
   usage = usage.refused;
   nothing = λ w. ap (λ s. s.bytes) (untouched.unwritten w) ∙ ap (λ s. s.bytes) f;
-  reads = λ fault. let known : (form : Form) × AskFor words form = usage.known (λ e. subst MayRefuse (sym fault ∙ e) tt) in
+  reads = λ fault. let known : (form : Form) × AskFor words form = usage.known (not_usage status (subst MayRefuse (sym fault) tt)) in
       never_read words status source source' _ _ _ _ shows unread fault known.0 known.1;
-  writes = λ fault. let known : (form : Form) × AskFor words form = usage.known (λ e. subst MayRefuse (sym fault ∙ e) tt) in
+  writes = λ fault. let known : (form : Form) × AskFor words form = usage.known (not_usage status (subst MayRefuse (sym fault) tt)) in
       never_written words status source source' sink sink' f ok shows fails fault known.0 known.1;
   shown = λ flag a. shown_done flag status sink sink' f ok (shows flag a);
   run = λ a. record {

@@ -5,7 +5,6 @@ ghost use Rattle.robus_c.specs.Bridge.{Says, number_of};
 use crate::program::Program;
 use crate::sink::HeldSink;
 use crate::source::SliceSource;
-use rb_bridge::Drives;
 use rb_bridge_top::{Status, run_bridge};
 use rb_port::{Apps, applications};
 use rb_world::FirstDrive;
@@ -28,11 +27,9 @@ fn run_over(alloc: Global, words: &[String], input: &[u8], sink: &mut HeldSink, 
         → Says (map string_bytes words.now) input.now sink.new.bytes result }
 {
     let mut source = SliceSource::new(input);
-    let mut drives = Drives {
-        left: FirstDrive::new(),
-        right: FirstDrive::new(),
-    };
-    let status = run_bridge(alloc, words, &mut source, sink, apps, &mut drives);
+    let mut left = FirstDrive::new();
+    let mut right = FirstDrive::new();
+    let status = run_bridge(alloc, words, &mut source, sink, apps, &mut left, &mut right);
     number_of(status)
 }
 

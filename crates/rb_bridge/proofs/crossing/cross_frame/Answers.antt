@@ -4,7 +4,7 @@ use Rattle.rb_base.proofs.Plain.{on_err}
 use Rattle.rb_outside.specs.Bytes.{AppendsPart}
 use Rattle.rb_rules_bridge.specs.declared.bank.Bank.TheVariants.{Left, Right}
 use Rattle.rb_bridge.proofs.Crossed.{breaks-off, crosses-part, goes-on, none-found, pairs-small, some-found, told-all}
-use Rattle.rb_bridge.specs.Crossing.{DrivesTold, shown, told_from}
+use Rattle.rb_bridge.specs.Crossing.{shown}
 use Rattle.rb_bridge.proofs.SidesPassed.{on-its-way}
 use Rattle.rb_bridge.proofs.crossing.cross_frame.Goals as goal
 
@@ -12,8 +12,8 @@ pub pass_both-breach-requires : goal.pass_both-breach-requires
 pass_both-breach-requires g c =
     let r = c.requires in
     record {
-      left = λ last. on-its-way r.b Left c.args.frame false _ r.ltold _ c.args.sides.now.left r.ready.left last;
-      right = λ last. on-its-way r.b Right c.args.frame false _ r.rtold _ c.args.sides.now.right r.ready.right last;
+      left = λ last. on-its-way r.b Left c.args.frame false _ r.ltold _ c.args.left.now r.ready.left last;
+      right = λ last. on-its-way r.b Right c.args.frame false _ r.rtold _ c.args.right.now r.ready.right last;
     }
 
 pub exchange-requires-clause-left : goal.exchange-requires-clause-left
@@ -25,27 +25,27 @@ exchange-requires-clause-right g c = pairs-small c.requires.b Right c.args.pairs
 pub returns-in_err-tell-clause-part : goal.returns-in_err-tell-clause-part
 returns-in_err-tell-clause-part g c = λ b both ltold rtold bridge pairs below plain ready.
     let is = c.pass_both-breach.ensures.through b both ltold rtold bridge below plain ready in
-    let d : DrivesTold = told_from g.D.Drive.is_plain g.D.Drive.told ltold rtold c.args.drives.now c.pass_both-breach.new.drives in
-    on_err _ (crosses-part b c.args.frame both d c.pass_both-breach.new.sides c.pass_both-breach.result _ _ is
-    (told-all b c.args.frame both d c.pass_both-breach.new.sides c.pass_both-breach.result
-    (AppendsPart (g.K.Sink.held c.args.output.now) (g.K.Sink.held c.tell.new.output)) below plain is (λ found. (c.in_err-tell.ensures.lines b found).part)))
+    on_err _ (crosses-part b c.args.frame both _ ltold _ _ rtold _ c.pass_both-breach.new.left c.pass_both-breach.new.right c.pass_both-breach.result _ _ is
+    (told-all b c.args.frame both _ ltold _ _ rtold _ c.pass_both-breach.new.left c.pass_both-breach.new.right c.pass_both-breach.result
+    (AppendsPart (g.K.Sink.held c.args.output.now) (g.K.Sink.held c.tell.new.output)) below plain is (λ found. c.in_err-tell.ensures.part b found)))
 
 pub returns-then-is_some-clause-all : goal.returns-then-is_some-clause-all
 returns-then-is_some-clause-all g c = λ b both ltold rtold bridge pairs below plain ready.
     let is = c.pass_both-breach.ensures.through b both ltold rtold bridge below plain ready in
-    let d : DrivesTold = told_from g.D.Drive.is_plain g.D.Drive.told ltold rtold c.args.drives.now c.pass_both-breach.new.drives in
     let found = some-found c.pass_both-breach.result (sym c.is_some.ensures ∙ c.if-is_some.true) in
-    breaks-off b c.args.frame both d c.pass_both-breach.new.sides c.pass_both-breach.new.sides c.pass_both-breach.result found.0 _ _ is found.1
-    (told-all b c.args.frame both d c.pass_both-breach.new.sides c.pass_both-breach.result
-    (Appends (g.K.Sink.held c.args.output.now) (g.K.Sink.held c.tell.new.output)) below plain is (λ found. (c.in_ok-tell.ensures.lines b found).all))
+    breaks-off b c.args.frame both _ ltold _ _ rtold _ c.pass_both-breach.new.left c.pass_both-breach.new.right c.pass_both-breach.new.left c.pass_both-breach.new.right c.pass_both-breach.result found.0 _ _ is found.1
+    (told-all b c.args.frame both _ ltold _ _ rtold _ c.pass_both-breach.new.left c.pass_both-breach.new.right c.pass_both-breach.result
+    (Appends (g.K.Sink.held c.args.output.now) (g.K.Sink.held c.tell.new.output)) below plain is (λ found. c.in_ok-tell.ensures.all b found))
 
 pub returns-clause-all : goal.returns-clause-all
 returns-clause-all g c = λ b both ltold rtold bridge pairs below plain ready.
     let is = c.pass_both-breach.ensures.through b both ltold rtold bridge below plain ready in
-    let d : DrivesTold = told_from g.D.Drive.is_plain g.D.Drive.told ltold rtold c.args.drives.now c.pass_both-breach.new.drives in
     let none = none-found c.pass_both-breach.result (sym c.is_some.ensures ∙ c.if-is_some.false) in
     let through = is.through (ap (option_map shown) none) in
-    goes-on b c.args.frame both d c.pass_both-breach.new.sides c.exchange.new.sides c.pass_both-breach.result _ _ is none
-    (told-all b c.args.frame both d c.pass_both-breach.new.sides c.pass_both-breach.result
-    (Appends (g.K.Sink.held c.args.output.now) (g.K.Sink.held c.tell.new.output)) below plain is (λ found. (c.in_ok-tell.ensures.lines b found).all))
-    (c.exchange.ensures b c.args.frame both d bridge pairs below plain (λ sure. through.unbroken) through.left through.right)
+    goes-on b c.args.frame both _ ltold _ _ rtold _ c.pass_both-breach.new.left c.pass_both-breach.new.right c.exchange.new.left c.exchange.new.right c.pass_both-breach.result _ _ is none
+    (told-all b c.args.frame both _ ltold _ _ rtold _ c.pass_both-breach.new.left c.pass_both-breach.new.right c.pass_both-breach.result
+    (Appends (g.K.Sink.held c.args.output.now) (g.K.Sink.held c.tell.new.output)) below plain is (λ found. c.in_ok-tell.ensures.all b found))
+    (record {
+      left = c.exchange.ensures.left b c.args.frame both _ _ ltold _ rtold _ bridge pairs below plain.left plain.right (λ sure. through.unbroken) through.left through.right;
+      right = c.exchange.ensures.right b c.args.frame both _ _ ltold _ rtold _ bridge pairs below plain.left plain.right (λ sure. through.unbroken) through.left through.right;
+    })

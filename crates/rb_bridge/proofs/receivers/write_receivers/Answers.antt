@@ -15,28 +15,19 @@ pub loop-port-preserved : goal.loop-port-preserved
 loop-port-preserved g c = record {
   written = λ sc members told is hold.
       lines_more (receiver_by sc c.args.ports.now.frame (bank_of c.args.right) (λ i. group_value Most members (told i))) c.loop-port.port _ _ _
-      (c.loop-port.invariant.written sc members told is hold) (c.in_ok-write_port.ensures.line sc members told is hold).all;
+      (c.loop-port.invariant.written sc members told is hold) (c.in_ok-write_port.ensures.all sc members told is hold);
   later = search rules;
 }
 
-pub returns-in_err-write_port-clause-lines : goal.returns-in_err-write_port-clause-lines
-returns-in_err-write_port-clause-lines g c = λ sc members told is hold.
+pub returns-in_err-write_port-clause-part : goal.returns-in_err-write_port-clause-part
+returns-in_err-write_port-clause-part g c = λ sc members told is hold.
     let bius : c.biu-port-end.result ≡ sc.sizes.bius = c.biu-port-end.ensures.value ∙ ap (λ (s : Sizes). s.bius) is.sizes_are in
-    record {
-      all = search rules;
-      part =
-          on_err _ (lines_part (receiver_by sc c.args.ports.now.frame (bank_of c.args.right) (λ i. group_value Most members (told i))) c.loop-port.port sc.sizes.bius _ _ _ (omega (arith, bius))
-          (c.loop-port.invariant.written sc members told is hold) (c.in_err-write_port.ensures.line sc members told is hold).part);
-      cause = search rules;
-    }
+    on_err _ (lines_part (receiver_by sc c.args.ports.now.frame (bank_of c.args.right) (λ i. group_value Most members (told i))) c.loop-port.port sc.sizes.bius _ _ _ (omega (arith, bius))
+    (c.loop-port.invariant.written sc members told is hold) (c.in_err-write_port.ensures.part sc members told is hold))
 
-pub returns-clause-lines : goal.returns-clause-lines
-returns-clause-lines g c = λ sc members told is hold.
+pub returns-clause-all : goal.returns-clause-all
+returns-clause-all g c = λ sc members told is hold.
     let bius : c.biu-port-end.result ≡ sc.sizes.bius = c.biu-port-end.ensures.value ∙ ap (λ (s : Sizes). s.bius) is.sizes_are in
     let all : c.loop-port.port ≡ sc.sizes.bius = omega (arith, bius) in
-    record {
-      all = subst (λ n. Appends (g.K.Sink.held c.args.output.now) (g.K.Sink.held c.loop-port.output) (flat_map (receiver_by sc c.args.ports.now.frame (bank_of c.args.right) (λ i. group_value Most members (told i))) (numbers n))) all
-          (c.loop-port.invariant.written sc members told is hold);
-      part = search rules;
-      cause = search rules;
-    }
+    subst (λ n. Appends (g.K.Sink.held c.args.output.now) (g.K.Sink.held c.loop-port.output) (flat_map (receiver_by sc c.args.ports.now.frame (bank_of c.args.right) (λ i. group_value Most members (told i))) (numbers n))) all
+    (c.loop-port.invariant.written sc members told is hold)

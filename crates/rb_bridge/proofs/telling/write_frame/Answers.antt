@@ -1,16 +1,21 @@
-use Rattle.std.proofs.Common.{List, ℕ, subst, rules}
-use Rattle.rb_outside.specs.Writing.{Writes}
+use Rattle.std.proofs.Common.{subst}
+use Rattle.std.specs.Io.KnownBytes.{Appends}
+use Rattle.std.proofs.lemmas.Result.{on_err_weaker, on_ok_weaker}
+use Rattle.rb_outside.specs.Bytes.{AppendsPart}
 use Rattle.rb_bridge.proofs.Found.{first-lines, frame-lines}
 use Rattle.rb_bridge.proofs.telling.write_frame.Goals as goal
 
-pub returns-then-frame-eq0-clause-lines : goal.returns-then-frame-eq0-clause-lines
-returns-then-frame-eq0-clause-lines g c = λ b is. record {
-  all = first-lines b c.args.frame _ c.if-frame-eq0.true;
-  part = search rules;
-  cause = search rules;
-}
+pub returns-then-frame-eq0-clause-all : goal.returns-then-frame-eq0-clause-all
+returns-then-frame-eq0-clause-all g c = λ b is. first-lines b c.args.frame _ c.if-frame-eq0.true
 
-pub returns-clause-lines : goal.returns-clause-lines
-returns-clause-lines g c = λ b is.
-    let P : List ℕ → Type 0 = λ t. Writes g.K.Sink.held g.K.Sink.faults c.args.output.now c.write_both.new.output c.write_both.result t in
-    subst P (frame-lines b c.args.frame c.if-frame-eq0.false) (c.write_both.ensures.lines b c.args.frame is)
+pub returns-clause-all : goal.returns-clause-all
+returns-clause-all g c = λ b is.
+    on_ok_weaker c.write_both.result
+    (λ a. subst (λ t. Appends (g.K.Sink.held c.args.output.now) (g.K.Sink.held c.write_both.new.output) t) (frame-lines b c.args.frame c.if-frame-eq0.false) a)
+    (c.write_both.ensures.all b c.args.frame is)
+
+pub returns-clause-part : goal.returns-clause-part
+returns-clause-part g c = λ b is.
+    on_err_weaker c.write_both.result
+    (λ a. subst (λ t. AppendsPart (g.K.Sink.held c.args.output.now) (g.K.Sink.held c.write_both.new.output) t) (frame-lines b c.args.frame c.if-frame-eq0.false) a)
+    (c.write_both.ensures.part b c.args.frame is)

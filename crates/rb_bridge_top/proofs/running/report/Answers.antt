@@ -1,4 +1,4 @@
-use Rattle.std.proofs.Common.{refl, sym, rules}
+use Rattle.std.proofs.Common.{refl, sym}
 use Rattle.rb_rules_bridge.specs.declared.bank.Bank.TheVariants.{Left, Right}
 use Rattle.rb_bridge_document.specs.Acceptance.{as_bridge}
 use Rattle.rb_bridge.proofs.Crossed.{pairs-small}
@@ -29,32 +29,32 @@ cross-requires g c = record {
   bridge = c.requires;
   pairs_are = sym c.as_slice-3.ensures.value;
   frames_are = refl;
-  opened = both-opened c.args.bridge c.as_slice.result.now c.as_slice-2.result.now _ _ (record { left = c.in-Ok.side; right = c.in-Ok-open_side.side }) c.as_slice.ensures.value c.as_slice-2.ensures.value
+  opened = both-opened c.args.bridge c.as_slice.result.now c.as_slice-2.result.now _ _ _ _ c.as_slice.ensures.value c.as_slice-2.ensures.value
       c.members_on-left_members.ensures c.members_on-right_members.ensures c.in-Ok.ensures c.in-Ok-open_side.ensures;
 }
 
-pub returns-in-Ok-cross : goal.returns-in-Ok-cross
-returns-in-Ok-cross g c = record {
-  ended = λ h both plain. record {
-    ending = c.in-Ok-cross.ending;
-    answer_is = c.status_of.ensures;
-    written = c.in-Ok-cross.ensures.all (as_bridge c.args.bridge) both c.requires (sym c.as_slice-3.ensures.value) refl
-        (both-opened c.args.bridge c.as_slice.result.now c.as_slice-2.result.now _ _ (record { left = c.in-Ok.side; right = c.in-Ok-open_side.side }) c.as_slice.ensures.value c.as_slice-2.ensures.value
-        c.members_on-left_members.ensures c.members_on-right_members.ensures c.in-Ok.ensures c.in-Ok-open_side.ensures) plain;
-  };
-  part = λ e. absurd (end-written c.in-Ok-cross.ending c.status_of.result c.status_of.ensures e);
-  cause = λ e. absurd (end-written c.in-Ok-cross.ending c.status_of.result c.status_of.ensures e);
-  unopened = λ e. absurd (end-opened c.in-Ok-cross.ending c.status_of.result c.status_of.ensures e);
-  one_of = end-runs c.in-Ok-cross.ending c.status_of.result c.status_of.ensures;
+pub returns-in-Ok-cross-clause-ended : goal.returns-in-Ok-cross-clause-ended
+returns-in-Ok-cross-clause-ended g c h both plain = record {
+  ending = c.in-Ok-cross.ending;
+  answer_is = c.status_of.ensures;
+  written = c.in-Ok-cross.ensures.all (as_bridge c.args.bridge) both c.requires (sym c.as_slice-3.ensures.value) refl
+      (both-opened c.args.bridge c.as_slice.result.now c.as_slice-2.result.now _ _ _ _ c.as_slice.ensures.value c.as_slice-2.ensures.value
+      c.members_on-left_members.ensures c.members_on-right_members.ensures c.in-Ok.ensures c.in-Ok-open_side.ensures) plain;
 }
 
-pub returns : goal.returns
-returns g c = record {
-  ended = search rules;
-  part = λ e both plain. c.in-Err-cross.ensures.part (as_bridge c.args.bridge) both c.requires (sym c.as_slice-3.ensures.value) refl
-      (both-opened c.args.bridge c.as_slice.result.now c.as_slice-2.result.now _ _ (record { left = c.in-Ok.side; right = c.in-Ok-open_side.side }) c.as_slice.ensures.value c.as_slice-2.ensures.value
-      c.members_on-left_members.ensures c.members_on-right_members.ensures c.in-Ok.ensures c.in-Ok-open_side.ensures) plain;
-  cause = search rules;
-  unopened = search rules;
-  one_of = search rules;
-}
+pub returns-in-Ok-cross-clause-part : goal.returns-in-Ok-cross-clause-part
+returns-in-Ok-cross-clause-part g c e = absurd (end-written c.in-Ok-cross.ending c.status_of.result c.status_of.ensures e)
+
+pub returns-in-Ok-cross-clause-cause : goal.returns-in-Ok-cross-clause-cause
+returns-in-Ok-cross-clause-cause g c e = absurd (end-written c.in-Ok-cross.ending c.status_of.result c.status_of.ensures e)
+
+pub returns-in-Ok-cross-clause-unopened : goal.returns-in-Ok-cross-clause-unopened
+returns-in-Ok-cross-clause-unopened g c e = absurd (end-opened c.in-Ok-cross.ending c.status_of.result c.status_of.ensures e)
+
+pub returns-in-Ok-cross-clause-one_of : goal.returns-in-Ok-cross-clause-one_of
+returns-in-Ok-cross-clause-one_of g c = end-runs c.in-Ok-cross.ending c.status_of.result c.status_of.ensures
+
+pub returns-clause-part : goal.returns-clause-part
+returns-clause-part g c e both plain = c.in-Err-cross.ensures.part (as_bridge c.args.bridge) both c.requires (sym c.as_slice-3.ensures.value) refl
+    (both-opened c.args.bridge c.as_slice.result.now c.as_slice-2.result.now _ _ _ _ c.as_slice.ensures.value c.as_slice-2.ensures.value
+    c.members_on-left_members.ensures c.members_on-right_members.ensures c.in-Ok.ensures c.in-Ok-open_side.ensures) plain
