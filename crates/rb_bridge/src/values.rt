@@ -56,12 +56,13 @@ fn note_lines(kept: &mut Values, lines: &[SlotLine])
 }
 
 // Keeps what a slot brought, if it is this one.
-fn note_slot(kept: &mut Values, frame: u32, slot: u16, record: &SlotRecord)
+fn note_slot(kept: &mut Values, frame: u32, slot: u16, brought: &SlotRecord)
     ensures { (told : ℕ → Option Heard) → HoldValues told kept.old
-        → HoldValues (λ i. option_or (told i) (value_with frame slot (Some (Record.Slot record.now.frame record.now.slot record.now.lines.items)) i)) kept.new }
+        → HoldValues (λ i. option_or (told i) (value_with frame slot
+        (Some (Record.Slot brought.now.frame brought.now.slot brought.now.lines.items)) i)) kept.new }
 {
-    if record.frame == frame && record.slot == slot {
-        note_lines(kept, record.lines.as_slice());
+    if brought.frame == frame && brought.slot == slot {
+        note_lines(kept, brought.lines.as_slice());
     }
 }
 
@@ -72,7 +73,7 @@ fn note_turn(kept: &mut Values, frame: u32, slot: u16, turn: &Turn)
         kept.new }
 {
     match turn {
-        Turn::Slot(record) => note_slot(kept, frame, slot, record),
+        Turn::Slot(brought) => note_slot(kept, frame, slot, brought),
         Turn::Quiet => {}
         Turn::Frame(_) => {}
         Turn::Ended => {}
