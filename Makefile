@@ -39,7 +39,7 @@ bridge:
 	@status=0; tools/bridge "$(SCENARIO)" || status=$$?; test $$status -le 1 || exit $$status
 
 build:
-	@tools/proved $(ROBUS) || echo "make build: no proved program is up to date: each of the 56 crates below it is proved first: 90 minutes of one processor, of which two to four are used" >&2
+	@tools/proved $(ROBUS) || echo "make build: no proved program is up to date: the crates below it are proved first: some 90 minutes of processor time for all three programs" >&2
 	tools/proved $(ROBUS) || (cd crates/robus && rt run -- run < stdin > /dev/null)
 	tools/proved $(PICTURE) || (cd crates/robus_picture && rt run < stdin > /dev/null)
 	tools/proved $(BRIDGE) || (cd crates/robus_bridge && rt run -- run < stdin > /dev/null)
