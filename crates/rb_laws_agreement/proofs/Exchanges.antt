@@ -6,14 +6,14 @@ use Rattle.std.specs.List.{list_any}
 use Rattle.std.proofs.lemmas.Bool.{or_left}
 use Rattle.rb_base.specs.Nodes.{Side, other, has}
 use Rattle.rb_base.specs.Nodes.Side.{Biu, Rmu}
-use Rattle.rb_base.specs.Sizes.{Sizes, IsShape, sync_slot_of}
+use Rattle.rb_base.specs.Sizes.{IsShape, sync_slot_of}
 use Rattle.rb_base.specs.declared.values.Heard.{Heard}
 use Rattle.rb_base.specs.declared.values.Place.{Place}
 use Rattle.rb_base.specs.declared.values.See.TheVariants.{Nothing}
 use Rattle.rb_base.proofs.Plain.{less-differs}
 use Rattle.rb_rules.specs.declared.sense.Sense.{Sense}
 use Rattle.rb_rules.specs.Book.{of_kind, judged_of}
-use Rattle.rb_rules.specs.ExactStage.{Outcome, says_of, says, message_of, see_value, close_exact}
+use Rattle.rb_rules.specs.ExactStage.{says_of, says, message_of, see_value, close_exact}
 use Rattle.rb_rules.specs.Goodness.{Scenario, is_good}
 use Rattle.rb_rules.specs.Hearing.{sole_time, judged_see}
 use Rattle.rb_rules.specs.Judging.{JudgedStage, are_alike, is_something, was_taken, was_unlike, is_asymmetric, is_benign}
@@ -23,11 +23,10 @@ use Rattle.rb_rules.specs.Rounds.{Moment}
 use Rattle.rb_rules.specs.Sense.{value_in}
 use Rattle.rb_rules.specs.Slots.{Sender, expects, role_of, sender_in}
 use Rattle.rb_rules.specs.Standing.{Standing, is_eligible, taken_of, does_wrong}
-use Rattle.rb_rules.specs.SyncStage.{close_sync}
 use Rattle.rb_rules.specs.Windows.{send_offset_of}
 use Rattle.rb_rules.proofs.RoundStates.{keeping-stays}
 use Rattle.rb_rules.proofs.Senses.{IsCarried, value_suits, value_is_message}
-use Rattle.rb_rules.proofs.Slots.{few_slots}
+use Rattle.rb_rules.proofs.Slots.{close-exact, few_slots}
 use Rattle.rb_rules.proofs.Votes.{taken_at}
 use Rattle.rb_laws_agreement.proofs.Tests.{true_or_false, or_neither_first}
 use Rattle.rb_laws_agreement.proofs.NodeWindows.{Windows, word_at, kept_in, heard_in, sense_in, good_is_silent, good_is_heard}
@@ -116,16 +115,6 @@ good_heard sc m s slot q ws me i j st source shape below small here there is goo
     }
 
 -- What is seen.
-
-pub close-exact : (sizes : Sizes) (me : Side) (i : ℕ) (st : NodeState) (slot stage first : ℕ) (sense : ℕ → Sense) → (slot == sync_slot_of sizes) ≡ false
-    → close sizes me i st slot stage first sense ≡ close_exact sizes me i st slot stage sense
-close-exact sizes me i st slot stage first sense away = go (slot == sync_slot_of sizes) away
-  where
-    go : (b : Bool) → b ≡ false
-        → (elim b as (λ _. Outcome) [ true ↦ close_sync sizes me st stage (st.epoch + first) sense | false ↦ close_exact sizes me i st slot stage sense ])
-        ≡ close_exact sizes me i st slot stage sense
-    go true h = cc
-    go false h = refl
 
 -- what a node's close of the window makes, part by part
 pub closes_exactly : (sc : Scenario) (m : Moment) (slot stage : ℕ) (ws : Windows sc m slot stage) (me : Side) (i : ℕ) (st : NodeState) → slot < sync_slot_of sc.sizes

@@ -130,12 +130,12 @@ first_time sc hands (suc frame) =
     least-or sc hands (suc frame) (first_of (starts sc hands (suc frame)) 16) (first_time sc hands frame + tail_start_of sc.sizes sc.plan * shortest_of sc.plan)
 
 -- a node that begins the frame at a time
-record Starts (sc : Scenario) (hands : List HandIn) (frame : ℕ) (me : Side) (i time : ℕ) : Type 0 where
+pub record Starts (sc : Scenario) (hands : List HandIn) (frame : ℕ) (me : Side) (i time : ℕ) : Type 0 where
   pub st : NodeState
   pub is : IsGoodBefore sc hands frame 0 me i st
   pub at : time_in_frame sc me i st 0 ≡ time
 
-starts-there : (sc : Scenario) (hands : List HandIn) (frame : ℕ) (me : Side) (i time : ℕ) → starts sc hands frame me i ≡ Some time → Starts sc hands frame me i time
+pub starts-there : (sc : Scenario) (hands : List HandIn) (frame : ℕ) (me : Side) (i time : ℕ) → starts sc hands frame me i ≡ Some time → Starts sc hands frame me i time
 unfolding starts start-at
 starts-there sc hands frame me i time h = go (is_good sc me i frame 0) (slice_get (of_kind me (before_slot sc hands frame 0).nodes) i) refl refl h
   where
@@ -145,7 +145,7 @@ starts-there sc hands frame me i time h = go (is_good sc me i frame 0) (slice_ge
     go true None p q h = cc
     go false o p q h = cc
 
-starts-so : (sc : Scenario) (hands : List HandIn) (frame : ℕ) (me : Side) (i : ℕ) (st : NodeState) → IsGoodBefore sc hands frame 0 me i st
+pub starts-so : (sc : Scenario) (hands : List HandIn) (frame : ℕ) (me : Side) (i : ℕ) (st : NodeState) → IsGoodBefore sc hands frame 0 me i st
     → starts sc hands frame me i ≡ Some (time_in_frame sc me i st 0)
 unfolding starts start-at
 starts-so sc hands frame me i st g =

@@ -20,14 +20,14 @@ use Rattle.rb_rules.specs.Slots.Sender.{Nobody, Node}
 use Rattle.rb_rules.specs.Standing.{does_wrong, is_unlike}
 use Rattle.rb_rules.proofs.ExactStages.{idle_expects_nobody, vote_over_nothing}
 use Rattle.rb_rules.proofs.RoundStates.{Stays, stays-trans, keeping-stays, close-stays}
-use Rattle.rb_rules.proofs.Slots.{other_twice}
+use Rattle.rb_rules.proofs.Slots.{close-exact, other_twice}
 use Rattle.rb_rules.proofs.Votes.{closing_vote_is}
 use Rattle.rb_laws_agreement.specs.OneSlot.{Exchange, closes_in, state_after, takes_after, Brings, IsSpared, IsExchange, NoneIsAsymmetric, KeepsPremise, sender_of}
 use Rattle.rb_laws_agreement.specs.Values.{vote_on}
 use Rattle.rb_laws_agreement.proofs.Tests.{true_or_false}
 use Rattle.rb_laws_agreement.proofs.Goodnesses.{few_nodes, exact_role, single_sender}
 use Rattle.rb_laws_agreement.proofs.ExactWindows.{IsSingle, expects_who_speaks, expected_at, closing_at, IsSenseOf, takes_what_is_said, does_right, sent_by, with_sent, keeping-is, ExactClose, exact_close, spares_right, spares_alike}
-use Rattle.rb_laws_agreement.proofs.Exchanges.{trusted-either, far-trusted, close-exact, eligible}
+use Rattle.rb_laws_agreement.proofs.Exchanges.{trusted-either, far-trusted, eligible}
 use Rattle.rb_laws_agreement.proofs.JudgedWindows.{stays-trusted}
 
 -- what node j of a kind says in the stage after these, and the vote of a node's close of it
