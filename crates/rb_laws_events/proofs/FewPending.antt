@@ -30,7 +30,7 @@ times-many s = by s.ahead
     by (Some a) = let same = length-mapped (λ c. c.time) s.coming in omega (arith, same)
 
 -- at each node no more is pending than its lane holds
-abbrev HaveRoom : Scenario → Each Site → Type 0
+abbrev pub HaveRoom : Scenario → Each Site → Type 0
 HaveRoom sc sites = (me : Side) (i : ℕ) (s : Site) → slice_get (of_kind me sites) i ≡ Some s → length (times_of s) ≤ most_pending sc me
 
 world-few : (sc : Scenario) (w : World) → StandsInRounds sc w → HaveRoom sc w.sites
@@ -73,7 +73,7 @@ received sc me i frame x j z runs =
         let one = length-append z.coming (coming_of sc (other me) j i frame x ∷ []) in
         omega (arith, new, old, one)
 
-message-few : (sc : Scenario) (me : Side) (i frame k : ℕ) (o : Option Message) (m : Message) (change : Site → Site) (sites : Each Site)
+pub message-few : (sc : Scenario) (me : Side) (i frame k : ℕ) (o : Option Message) (m : Message) (change : Site → Site) (sites : Each Site)
     → HaveRoom sc (with_message sc me i frame k o (at_node me i change sites)) → o ≡ Some m → (j : ℕ) (z : Site) → slice_get (of_kind (other me) sites) j ≡ Some z
     → z.runs ≡ true → length (times_of z) + 1 ≤ most_pending sc (other me)
 message-few sc me i frame k o m change sites fits e j z there runs =
@@ -86,7 +86,7 @@ message-few sc me i frame k o m change sites fits e j z there runs =
     let few = fits (other me) j (sent_to sc me i frame x (other me) j z) after in
     omega (arith, more, few)
 
-own-few : (sc : Scenario) (me : Side) (i frame k : ℕ) (o : Option Message) (change : Site → Site) (sites : Each Site) (s : Site)
+pub own-few : (sc : Scenario) (me : Side) (i frame k : ℕ) (o : Option Message) (change : Site → Site) (sites : Each Site) (s : Site)
     → HaveRoom sc (with_message sc me i frame k o (at_node me i change sites)) → slice_get (of_kind me sites) i ≡ Some s
     → length (times_of (change s)) ≤ most_pending sc me
 own-few sc me i frame k o change sites s fits there =

@@ -38,7 +38,7 @@ length-mapped f [] = refl
 length-mapped f (x ∷ xs) = ap suc (length-mapped f xs)
 
 -- how many entries source j says to the node in a window
-abbrev entries_of : Scenario → Side → ℕ → Span → ℕ → ℕ
+abbrev pub entries_of : Scenario → Side → ℕ → Span → ℕ → ℕ
 entries_of sc me i span j = length (filter (is_said me i j span) sc.says)
 
 said-many : (sc : Scenario) (me : Side) (i : ℕ) (span : Span) (j : ℕ) → length (said_by sc me i span j) ≡ entries_of sc me i span j
@@ -57,7 +57,7 @@ pub if-sent : (b : Bool) (xs : List Coming) → length xs ≤ 1 → length (elim
 if-sent true xs le = le
 if-sent false xs le = omega arith
 
-heard-few : (sc : Scenario) (m : Moment) (me : Side) (i : ℕ) (span : Span) (sent : ℕ → Bool) (j : ℕ)
+pub heard-few : (sc : Scenario) (m : Moment) (me : Side) (i : ℕ) (span : Span) (sent : ℕ → Bool) (j : ℕ)
     → length (heard_so_far sc m me i span sent j) ≤ 1 + entries_of sc me i span j
 heard-few sc m me i span sent j = by (is_good_at sc m (other me) j)
   where

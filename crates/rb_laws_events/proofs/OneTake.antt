@@ -15,7 +15,7 @@ use Rattle.rb_laws_events.proofs.Behind.{WaitsAt, closes-before, runs-there, wai
 use Rattle.rb_laws_events.proofs.Pace.{Bound, IsWithin, Paced, event-paced}
 use Rattle.rb_laws_events.proofs.ToldSoFar.{AllHaveTold}
 use Rattle.rb_laws_events.proofs.UpToThere.{UpTo}
-use Rattle.rb_rules.specs.WorldStep.{Due, Pending, Site, Timed, Way, World, happens, is_complete, needs_no_event, record_since, settle, settle_next, take_if_due, with_pending}
+use Rattle.rb_rules.specs.WorldStep.{Due, Pending, Site, Timed, Way, World, due_of, happens, is_complete, needs_no_event, record_since, settle, settle_next, take, take_if_due, with_act, with_pending}
 use Rattle.rb_rules.specs.WorldStep.Pending.{Tick, Arrival}
 use Rattle.rb_rules.specs.WorldStep.Way.{ByAnEvent}
 use Rattle.rb_laws_agreement.proofs.Goodnesses.{good_counts}
@@ -44,6 +44,26 @@ settle-hands sc way (suc n) w = by (record_since w (settle_next sc way w)) (sett
         → (elim r as (λ _. World) [ None ↦ settle sc way n (settle_next sc way w) | Some r ↦ record (settle_next sc way w) { turn = Some r } ]).hands ≡ w.hands
     by None rest = rest
     by (Some r) rest = next-hands sc way w
+
+happens-hands : (sc : Scenario) (w : World) (d : Due) → (happens sc w d).hands ≡ w.hands
+unfolding happens with_act
+happens-hands sc w d = by (slice_get (of_kind d.side w.sites) d.node)
+  where
+    pending : (s : Site) (p : Pending) → (with_pending sc w d.side d.node s p).hands ≡ w.hands
+    pending s (Tick k) = refl
+    pending s (Arrival place c) = refl
+
+    by : (o : Option Site) → (elim o as (λ _. World) [ None ↦ w | Some s ↦ with_pending sc w d.side d.node s d.pending ]).hands ≡ w.hands
+    by None = refl
+    by (Some s) = pending s d.pending
+
+pub take-hands : (sc : Scenario) (w : World) (i : ℕ) → (take sc w i).hands ≡ w.hands
+unfolding take
+take-hands sc w i = by (slice_get (due_of sc w) i)
+  where
+    by : (o : Option Due) → (take_if_due sc w o).hands ≡ w.hands
+    by None = refl
+    by (Some d) = settle-hands sc ByAnEvent 2 (happens sc w d) ∙ happens-hands sc w d
 
 -- a world that stands in the rounds, in some moments, at some time
 pub record StandsInRounds (sc : Scenario) (w : World) : Type 0 where

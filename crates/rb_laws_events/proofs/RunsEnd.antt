@@ -1,5 +1,5 @@
 -- For the law that every run ends: where each world has ticks left, only so many events are taken, whatever is chosen.
-use Rattle.std.proofs.Common.{◌≡◌, ℕ, zero, suc, ◌+◌, ◌*◌, ◌^◌, ◌<◌, ◌≤◌, ◌==◌, ◌&&◌, Bool, true, false, List, [], ◌∷◌, ◌++◌, length, map, refl, sym, ◌∙◌, subst, arith, Option, Some, None, slice_get}
+use Rattle.std.proofs.Common.{◌≡◌, ℕ, zero, suc, ◌+◌, ◌*◌, ◌^◌, ◌<◌, ◌≤◌, ◌==◌, ◌&&◌, Bool, true, false, List, [], ◌∷◌, ◌++◌, fold, length, map, refl, sym, ◌∙◌, subst, arith, Option, Some, None, slice_get}
 use Rattle.std.specs.List.{range_with_len}
 use Rattle.std.proofs.lemmas.Nat.{mul-le}
 use Rattle.std.proofs.lemmas.Option.{same_Some}
@@ -7,10 +7,9 @@ use Rattle.rb_base.specs.Nodes.{Side}
 use Rattle.rb_base.specs.Nodes.Side.{Biu, Rmu}
 use Rattle.rb_rules.specs.Book.{of_kind}
 use Rattle.rb_rules.specs.Core.{Act}
-use Rattle.rb_rules.specs.Goodness.{Scenario, is_good}
-use Rattle.rb_rules.specs.Ports.{with_state}
+use Rattle.rb_rules.specs.Goodness.{Scenario}
 use Rattle.rb_rules.specs.Slots.{count_of, same_side}
-use Rattle.rb_rules.specs.WorldStep.{Choice, Due, Pending, Site, Timed, World, after_act, after_arrival, at_node, choose, due_of, first_world, frame_in, fresh_site, go_on, hand, happens, pass_and_tick, proceed, settle, span_from, take, take_if_due, with_act, with_pending, world_after}
+use Rattle.rb_rules.specs.WorldStep.{Choice, Due, Pending, Site, Timed, World, after_act, after_arrival, at_node, choose, due_of, first_world, fresh_site, go_on, hand, happens, pass_and_tick, proceed, settle, span_from, take, take_if_due, with_act, with_pending, world_after}
 use Rattle.rb_rules.specs.WorldStep.Choice.{Take, GoOn, Hand}
 use Rattle.rb_rules.specs.WorldStep.Pending.{Tick, Arrival}
 use Rattle.rb_rules.specs.WorldStep.Way.{ByAnEvent, ByItself}
@@ -21,6 +20,7 @@ use Rattle.rb_laws_events.proofs.EveryWorld.{after-more, due-going}
 use Rattle.rb_laws_events.proofs.OneEvent.{all-pend, up-there}
 use Rattle.rb_laws_events.proofs.OneTake.{StandsInRounds}
 use Rattle.rb_laws_events.proofs.Takes.{LeavesFew, all_left, arrival-left, enter-few, left_of, message-left, one-less, sum_left, tick-left, ticks_left}
+use Rattle.rb_laws_events.proofs.WorldBooks.{hand-leaves}
 use Rattle.rb_laws_events.proofs.WorldNodes.{events-due, settle-sites}
 use Rattle.rb_laws_events.proofs.WorldStands.{AllPend, IsUp, sent_by}
 
@@ -75,7 +75,7 @@ happens-less sc w d h due =
 
 choice-less : (sc : Scenario) (choices : List Choice) (c : Choice) → ((world_after sc choices).book.ended ≡ false → HasTicksLeft sc (world_after sc choices))
     → taken_by sc (world_after sc choices) c + all_left (most_at_once sc) (choose sc (world_after sc choices) c).sites ≤ all_left (most_at_once sc) (world_after sc choices).sites
-unfolding take go_on hand
+unfolding take go_on
 choice-less sc choices (Take i) h = by (slice_get (due_of sc (world_after sc choices)) i) refl
   where
     by : (o : Option Due) → slice_get (due_of sc (world_after sc choices)) i ≡ o
@@ -95,23 +95,16 @@ choice-less sc choices GoOn h = by (world_after sc choices).book.ended
     by false =
         subst (λ sites. 0 + all_left (most_at_once sc) sites ≤ all_left (most_at_once sc) (world_after sc choices).sites)
         (sym (settle-sites sc ByItself 2 (world_after sc choices))) (omega arith)
-choice-less sc choices (Hand biu state) h = by (world_after sc choices) (frame_in (world_after sc choices).turn)
+choice-less sc choices (Hand biu state) h = by (world_after sc choices)
   where
-    inner : (w x : World) (b : Bool) → x.sites ≡ w.sites → 0 + all_left (most_at_once sc) (elim b as (λ _. World) [ true ↦ x | false ↦ w ]).sites ≤ all_left (most_at_once sc) w.sites
-    inner w x true e = subst (λ sites. 0 + all_left (most_at_once sc) sites ≤ all_left (most_at_once sc) w.sites) (sym e) (omega arith)
-    inner w x false e = omega arith
-
-    by : (w : World) (o : Option ℕ) → 0 + all_left (most_at_once sc) (elim o as (λ _. World) [
-      | None ↦ w
-      | Some frame ↦ elim (is_good sc Biu biu frame 0) [
-        | true ↦ record w { ports = with_state biu state w.ports; hands = w.hands ++ record { frame = frame; biu = biu; state = state } ∷ [] }
-        | false ↦ w
-      ]
-    ]).sites ≤ all_left (most_at_once sc) w.sites
-    by w None = omega arith
-    by w (Some frame) = inner w (record w { ports = with_state biu state w.ports; hands = w.hands ++ record { frame = frame; biu = biu; state = state } ∷ [] }) (is_good sc Biu biu frame 0) refl
+    by : (w : World) → 0 + all_left (most_at_once sc) (hand sc w biu state).sites ≤ all_left (most_at_once sc) w.sites
+    by w = hand-leaves (λ x. 0 + all_left (most_at_once sc) x.sites ≤ all_left (most_at_once sc) w.sites) sc w biu state (λ ports hands. omega arith) (omega arith)
 
 -- All choices.
+
+pub takes-append : (sc : Scenario) (w : World) (cs : List Choice) (c : Choice) → takes_from sc w (cs ++ c ∷ []) ≡ takes_from sc w cs + taken_by sc (fold (choose sc) w cs) c
+takes-append sc w [] c = omega arith
+takes-append sc w (x ∷ xs) c = let rest = takes-append sc (choose sc w x) xs c in omega (arith, rest)
 
 choices-less : (sc : Scenario) → ((choices : List Choice) → (world_after sc choices).book.ended ≡ false → HasTicksLeft sc (world_after sc choices)) → (before rest : List Choice)
     → takes_from sc (world_after sc before) rest ≤ all_left (most_at_once sc) (world_after sc before).sites

@@ -16,7 +16,7 @@ use Rattle.rb_rules.specs.Plan.{f0_of, tail_start_of}
 use Rattle.rb_rules.specs.Ports.{HandIn}
 use Rattle.rb_rules.specs.Rounds.{Moment, moment}
 use Rattle.rb_rules.specs.SyncStage.{new_epoch_of}
-use Rattle.rb_rules.proofs.RoundStates.{Knows, knows}
+use Rattle.rb_rules.proofs.RoundStates.{Knows}
 use Rattle.rb_rules.proofs.WindowNumbers.{sync-numbered}
 use Rattle.rb_laws_synchrony.proofs.CallTicks.{KeepsTicks, all_keep_ticks, all_know_next, not-yet}
 use Rattle.rb_laws_synchrony.proofs.EpochTicks.{frame_ticks}

@@ -13,7 +13,7 @@ use Rattle.rb_rules.specs.Book.Milestone.{Begin, Stage, End}
 use Rattle.rb_rules.specs.Book.Record.{Slot, Ended, Breach}
 use Rattle.rb_rules.specs.Goodness.{Scenario, is_good}
 use Rattle.rb_rules.specs.Judging.{JudgedStage, verdict_of}
-use Rattle.rb_rules.specs.Ports.{with_state}
+use Rattle.rb_rules.specs.Ports.{HandIn, PortState, with_state}
 use Rattle.rb_rules.specs.WorldStep.{Site, World, Pending, Due, Way, with_pending, with_act, happens, is_complete, book_with, comes_so, settle_next, record_since, settle, take_if_due, take, go_on, hand, frame_in, Choice, choose}
 use Rattle.rb_rules.specs.WorldStep.Choice.{Take, GoOn, Hand}
 use Rattle.rb_rules.specs.WorldStep.Pending.{Tick, Arrival}
@@ -184,27 +184,31 @@ pub go-on-on : (sc : Scenario) (w : World) → GoesOn w.book (go_on sc w).book
 unfolding go_on
 go-on-on sc w = go-on-by sc w w.book.ended
 
-hand-by : (sc : Scenario) (w : World) (biu state : ℕ) (o : Option ℕ) → (elim o as (λ _. World) [
-  | None ↦ w
-  | Some frame ↦ elim (is_good sc Biu biu frame 0) [
-    | true ↦ record w { ports = with_state biu state w.ports; hands = w.hands ++ record { frame = frame; biu = biu; state = state } ∷ [] }
-    | false ↦ w
-  ]
-]).book ≡ w.book
-hand-by sc w biu state None = refl
-hand-by sc w biu state (Some frame) = inner (is_good sc Biu biu frame 0)
+-- a hand-in changes the ports and the hand-ins alone
+pub hand-leaves : (P : World → Type 0) (sc : Scenario) (w : World) (biu state : ℕ) → ((ports : List PortState) (hands : List HandIn) → P (record w { ports = ports; hands = hands }))
+    → P w → P (hand sc w biu state)
+unfolding hand
+hand-leaves P sc w biu state changed same = by (frame_in w.turn)
   where
-    inner : (b : Bool) → (elim b as (λ _. World) [
-      | true ↦ record w { ports = with_state biu state w.ports; hands = w.hands ++ record { frame = frame; biu = biu; state = state } ∷ [] }
-      | false ↦ w
-    ]).book ≡ w.book
-    inner true = refl
-    inner false = refl
+    inner : (x : World) (b : Bool) → P x → P (elim b as (λ _. World) [ true ↦ x | false ↦ w ])
+    inner x true h = h
+    inner x false h = same
+
+    by : (o : Option ℕ) → P (elim o as (λ _. World) [
+      | None ↦ w
+      | Some frame ↦ elim (is_good sc Biu biu frame 0) [
+        | true ↦ record w { ports = with_state biu state w.ports; hands = w.hands ++ record { frame = frame; biu = biu; state = state } ∷ [] }
+        | false ↦ w
+      ]
+    ])
+    by None = same
+    by (Some frame) =
+        inner (record w { ports = with_state biu state w.ports; hands = w.hands ++ record { frame = frame; biu = biu; state = state } ∷ [] }) (is_good sc Biu biu frame 0)
+        (changed (with_state biu state w.ports) (w.hands ++ record { frame = frame; biu = biu; state = state } ∷ []))
 
 -- a hand-in leaves it alone
 pub hand-book : (sc : Scenario) (w : World) (biu state : ℕ) → (hand sc w biu state).book ≡ w.book
-unfolding hand
-hand-book sc w biu state = hand-by sc w biu state (frame_in w.turn)
+hand-book sc w biu state = hand-leaves (λ x. x.book ≡ w.book) sc w biu state (λ ports hands. refl) refl
 
 pub choose-on : (sc : Scenario) (w : World) (c : Choice) → GoesOn w.book (choose sc w c).book
 choose-on sc w (Take place) = take-on sc w place

@@ -17,15 +17,16 @@ use Rattle.rb_rules.specs.Core.{Act}
 use Rattle.rb_rules.specs.Goodness.{Scenario, is_good, clock_of}
 use Rattle.rb_rules.specs.Hearing.{Coming, Sending, Span, coming_said, said_by, is_said, coming_of}
 use Rattle.rb_rules.specs.NodeState.{NodeState}
-use Rattle.rb_rules.specs.Ports.{PortState, with_state}
+use Rattle.rb_rules.specs.Ports.{PortState}
 use Rattle.rb_rules.specs.Slots.{count_of, same_side}
-use Rattle.rb_rules.specs.WorldStep.{Site, World, says_in, await, stop, enter, proceed, span_from, with_close, with_epoch, after_act, after_arrival, sent_to, with_message, at_node, with_act, pass_and_tick, Pending, with_pending, Due, happens, is_complete, book_with, Way, comes_so, settle_next, record_since, settle, take_if_due, due_of, take, go_on, frame_in, hand, fresh_site, first_world, Choice, choose, world_after}
+use Rattle.rb_rules.specs.WorldStep.{Site, World, says_in, await, stop, enter, proceed, span_from, with_close, with_epoch, after_act, after_arrival, sent_to, with_message, at_node, with_act, pass_and_tick, Pending, with_pending, Due, happens, is_complete, book_with, Way, comes_so, settle_next, record_since, settle, take_if_due, due_of, take, go_on, fresh_site, first_world, Choice, choose, world_after}
 use Rattle.rb_rules.specs.WorldStep.Choice.{Take, GoOn, Hand}
 use Rattle.rb_rules.specs.WorldStep.Pending.{Tick, Arrival}
 use Rattle.rb_rules.specs.WorldStep.Way.{ByAnEvent, ByItself}
 use Rattle.rb_rules.proofs.WindowNumbers.{get-each, length-each, get-made}
 use Rattle.rb_laws_events.proofs.DueEvents.{IsDue, due-is}
 use Rattle.rb_laws_events.proofs.SameHeard.{Every}
+use Rattle.rb_laws_events.proofs.WorldBooks.{hand-leaves}
 
 -- what comes to a node of kind me is of nodes that there are
 abbrev pub Known : Sizes → Side → List Coming → Type 0
@@ -210,26 +211,12 @@ go-sites : (sc : Scenario) (w : World) (b : Bool)
 go-sites sc w true = refl
 go-sites sc w false = settle-sites sc ByItself 2 w
 
-hand-inner : (w : World) (x : World) (b : Bool) → x.sites ≡ w.sites → (elim b as (λ _. World) [ true ↦ x | false ↦ w ]).sites ≡ w.sites
-hand-inner w x true e = e
-hand-inner w x false e = refl
-
-hand-by : (sc : Scenario) (w : World) (biu state : ℕ) (o : Option ℕ) → (elim o as (λ _. World) [
-  | None ↦ w
-  | Some frame ↦ elim (is_good sc Biu biu frame 0) [
-    | true ↦ record w { ports = with_state biu state w.ports; hands = w.hands ++ record { frame = frame; biu = biu; state = state } ∷ [] }
-    | false ↦ w
-  ]
-]).sites ≡ w.sites
-hand-by sc w biu state None = refl
-hand-by sc w biu state (Some frame) = hand-inner w _ (is_good sc Biu biu frame 0) refl
-
 -- whatever is chosen
 pub choose-known : (sc : Scenario) (w : World) (c : Choice) → NodesKnown sc w.sites → NodesKnown sc (choose sc w c).sites
-unfolding take go_on hand
+unfolding take go_on
 choose-known sc w (Take place) known = due-known sc w (slice_get (due_of sc w) place) known
 choose-known sc w GoOn known = subst (NodesKnown sc) (sym (go-sites sc w w.book.ended)) known
-choose-known sc w (Hand biu state) known = subst (NodesKnown sc) (sym (hand-by sc w biu state (frame_in w.turn))) known
+choose-known sc w (Hand biu state) known = hand-leaves (λ x. NodesKnown sc x.sites) sc w biu state (λ ports hands. known) known
 
 pub first-counts : {X : Type 0} (sizes : Sizes) (make : Side → ℕ → X) (me : Side) → length (of_kind me (each_of sizes make)) ≡ count_of me sizes
 first-counts sizes make Biu = length-map-range_with_len (make Biu) 0 sizes.bius
