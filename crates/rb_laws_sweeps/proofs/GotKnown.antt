@@ -2,7 +2,6 @@
 use Rattle.std.proofs.Common.{◌≡◌, ℕ, ◌<◌, ◌&&◌, Bool, true, false, List, [], ◌∷◌, ◌++◌, fold, length, refl, ap, sym, ◌∙◌, subst, arith, Option, Some, None, slice_get}
 use Rattle.std.proofs.lemmas.Option.{same_Some, slice_get_within}
 use Rattle.rb_base.specs.Nodes.{Side, other}
-use Rattle.rb_base.specs.Nodes.Side.{Biu}
 use Rattle.rb_base.proofs.Plain.{option_map-back}
 use Rattle.rb_rules.specs.declared.closing.Closed.{Closed}
 use Rattle.rb_rules.specs.declared.message.Message.{Message}
@@ -11,9 +10,9 @@ use Rattle.rb_rules.specs.Book.{Each, each_of, map_each, of_kind}
 use Rattle.rb_rules.specs.Core.{Act}
 use Rattle.rb_rules.specs.Goodness.{Scenario, is_good}
 use Rattle.rb_rules.specs.Hearing.{Sending, Span, coming_of}
-use Rattle.rb_rules.specs.Ports.{PortState, with_state}
+use Rattle.rb_rules.specs.Ports.{PortState}
 use Rattle.rb_rules.specs.Slots.{count_of, same_side}
-use Rattle.rb_rules.specs.WorldStep.{Choice, Due, Pending, Site, World, after_act, after_arrival, at_node, await, choose, due_of, enter, first_world, frame_in, fresh_site, go_on, hand, happens, pass_and_tick, proceed, says_in, sent_to, settle, span_from, stop, take, take_if_due, with_act, with_close, with_epoch, with_message, with_pending, world_after}
+use Rattle.rb_rules.specs.WorldStep.{Choice, Due, Pending, Site, World, after_act, after_arrival, at_node, await, choose, due_of, enter, first_world, fresh_site, go_on, happens, pass_and_tick, proceed, says_in, sent_to, settle, span_from, stop, take, take_if_due, with_act, with_close, with_epoch, with_message, with_pending, world_after}
 use Rattle.rb_rules.specs.WorldStep.Choice.{GoOn, Hand, Take}
 use Rattle.rb_rules.specs.WorldStep.Pending.{Arrival, Tick}
 use Rattle.rb_rules.specs.WorldStep.Way.{ByAnEvent, ByItself}
@@ -23,6 +22,7 @@ use Rattle.rb_laws_events.proofs.OneEvent.{happens-is}
 use Rattle.rb_laws_events.proofs.Receiving.{every-stands}
 use Rattle.rb_laws_events.proofs.WorldNodes.{Known, NodesKnown, choose-known, first-counts, first-known, known-append, settle-sites}
 use Rattle.rb_laws_events.proofs.WorldStands.{is_node, node-is}
+use Rattle.rb_laws_events.proofs.WorldBooks.{hand-leaves}
 
 abbrev pub GotKnown : Scenario → Each Site → Type 0
 GotKnown sc sites = (me : Side) (i : ℕ) (s : Site) → slice_get (of_kind me sites) i ≡ Some s → Known sc.sizes me s.got
@@ -108,7 +108,7 @@ due-got sc w d due known h =
 -- A choice.
 
 choose-got : (sc : Scenario) (w : World) (c : Choice) → NodesKnown sc w.sites → GotKnown sc w.sites → GotKnown sc (choose sc w c).sites
-unfolding take go_on hand
+unfolding take go_on
 choose-got sc w (Take i) known h = by (slice_get (due_of sc w) i) refl
   where
     by : (o : Option Due) → slice_get (due_of sc w) i ≡ o → GotKnown sc (take_if_due sc w o).sites
@@ -119,21 +119,7 @@ choose-got sc w GoOn known h = by w.book.ended
     by : (b : Bool) → GotKnown sc (elim b as (λ _. World) [ true ↦ w | false ↦ settle sc ByItself 2 w ]).sites
     by true = h
     by false = subst (GotKnown sc) (sym (settle-sites sc ByItself 2 w)) h
-choose-got sc w (Hand biu state) known h = by (frame_in w.turn)
-  where
-    inner : (x : World) → x.sites ≡ w.sites → (b : Bool) → GotKnown sc (elim b as (λ _. World) [ true ↦ x | false ↦ w ]).sites
-    inner x same true = subst (GotKnown sc) (sym same) h
-    inner x same false = h
-
-    by : (o : Option ℕ) → GotKnown sc (elim o as (λ _. World) [
-      | None ↦ w
-      | Some frame ↦ elim (is_good sc Biu biu frame 0) [
-        | true ↦ record w { ports = with_state biu state w.ports; hands = w.hands ++ record { frame = frame; biu = biu; state = state } ∷ [] }
-        | false ↦ w
-      ]
-    ]).sites
-    by None = h
-    by (Some frame) = inner (record w { ports = with_state biu state w.ports; hands = w.hands ++ record { frame = frame; biu = biu; state = state } ∷ [] }) refl (is_good sc Biu biu frame 0)
+choose-got sc w (Hand biu state) known h = hand-leaves (λ x. GotKnown sc x.sites) sc w biu state (λ ports hands. h) h
 
 -- Worlds.
 

@@ -6,14 +6,14 @@ use Rattle.rb_base.specs.Nodes.{Side, other}
 use Rattle.rb_base.specs.Sizes.{Sizes}
 use Rattle.rb_rules.specs.Clock.{time_of}
 use Rattle.rb_rules.specs.Goodness.{Scenario, clock_of}
-use Rattle.rb_rules.specs.Hearing.{Coming, Span, coming_said, is_said, said_by, span_of}
+use Rattle.rb_rules.specs.Hearing.{Coming, Span, is_said, span_of}
 use Rattle.rb_rules.specs.NodeState.{NodeState}
 use Rattle.rb_rules.specs.Ports.{HandIn}
 use Rattle.rb_rules.specs.Rounds.{Moment, moment, window_in}
 use Rattle.rb_rules.specs.Slots.{count_of}
 use Rattle.rb_rules.specs.WorldStep.{Site, Timed, coming_from}
-use Rattle.rb_laws_events.proofs.FewThere.{ahead-few, entry-once, if-sent, length-mapped, said-once}
-use Rattle.rb_laws_events.proofs.Invariant.{NodeStands, ahead_so_far, entry_of, heard_so_far, is_good_at, last_tick, next_stage}
+use Rattle.rb_laws_events.proofs.FewThere.{ahead-few, entries_of, heard-few, said-once}
+use Rattle.rb_laws_events.proofs.Invariant.{NodeStands, ahead_so_far, heard_so_far, last_tick, next_stage}
 use Rattle.rb_laws_events.proofs.PendingLists.{Hears}
 use Rattle.rb_laws_events.proofs.SourceSums.{all-of-sources, coming_of_source, items-once, sum-larger, sum-le, sum-plus, sum-twos, sum_to}
 
@@ -53,20 +53,6 @@ got-of-sources n (c ∷ cs) = by (nat_lt c.from n) refl (got-of-sources n cs)
 sum-both : (f g : ℕ → ℕ) (n : ℕ) → sum_to (λ j. f j + g j) n ≡ sum_to f n + sum_to g n
 sum-both f g zero = omega arith
 sum-both f g (suc n) = let rest = sum-both f g n in omega (arith, rest)
-
--- how many entries source j says to the node in a window
-abbrev entries_of : Scenario → Side → ℕ → Span → ℕ → ℕ
-entries_of sc me i span j = length (filter (is_said me i j span) sc.says)
-
-heard-few : (sc : Scenario) (m : Moment) (me : Side) (i : ℕ) (span : Span) (sent : ℕ → Bool) (j : ℕ) → length (heard_so_far sc m me i span sent j) ≤ 1 + entries_of sc me i span j
-heard-few sc m me i span sent j = by (is_good_at sc m (other me) j)
-  where
-    by : (b : Bool) → length (elim b as (λ _. List Coming) [
-      | true ↦ elim (sent j) as (λ _. List Coming) [ true ↦ entry_of sc m me i j | false ↦ [] ]
-      | false ↦ said_by sc me i span j
-    ]) ≤ 1 + entries_of sc me i span j
-    by true = let one = if-sent (sent j) (entry_of sc m me i j) (entry-once sc m me i j) in omega (arith, one)
-    by false = let many = length-mapped (coming_said sc.plan.version (clock_of sc me i) j span) (filter (is_said me i j span) sc.says) in omega (arith, many)
 
 pub had-where-it-stands : (sc : Scenario) (hands : List HandIn) (sent : Side → ℕ → ℕ → Bool) (now : ℕ) (me : Side) (i p : ℕ) (s : Site) (st : NodeState) (a : Timed)
     → NodeStands sc hands sent now me i p s st a → length (filter (is_known sc.sizes me) s.got) + length s.coming ≤ 2 * count_of (other me) sc.sizes + length sc.says

@@ -2,7 +2,6 @@
 use Rattle.std.proofs.Common.{◌≡◌, ℕ, ◌+◌, ◌<◌, ◌≤◌, ◌&&◌, Bool, true, false, List, [], ◌∷◌, ◌++◌, fold, length, refl, ap, sym, ◌∙◌, subst, arith, Option, Some, None, option_map, slice_get}
 use Rattle.std.proofs.lemmas.Option.{same_Some, slice_get_within}
 use Rattle.rb_base.specs.Nodes.{Side, other}
-use Rattle.rb_base.specs.Nodes.Side.{Biu}
 use Rattle.rb_base.proofs.Plain.{option_map-back, true-false}
 use Rattle.rb_rules.specs.declared.closing.Closed.{Closed}
 use Rattle.rb_rules.specs.declared.message.Message.{Message}
@@ -11,9 +10,9 @@ use Rattle.rb_rules.specs.Book.{Each, each_of, map_each, of_kind}
 use Rattle.rb_rules.specs.Core.{Act}
 use Rattle.rb_rules.specs.Goodness.{Scenario, is_good}
 use Rattle.rb_rules.specs.Hearing.{Coming, Sending, Span, coming_of}
-use Rattle.rb_rules.specs.Ports.{PortState, with_state}
+use Rattle.rb_rules.specs.Ports.{PortState}
 use Rattle.rb_rules.specs.Slots.{count_of, same_side}
-use Rattle.rb_rules.specs.WorldStep.{Choice, Due, Pending, Site, Timed, World, after_act, after_arrival, at_node, await, choose, due_of, enter, first_world, frame_in, fresh_site, go_on, hand, happens, pass_and_tick, proceed, says_in, sent_to, settle, span_from, stop, take, take_if_due, with_act, with_close, with_epoch, with_message, with_pending}
+use Rattle.rb_rules.specs.WorldStep.{Choice, Due, Pending, Site, Timed, World, after_act, after_arrival, at_node, await, choose, due_of, enter, first_world, fresh_site, go_on, happens, pass_and_tick, proceed, says_in, sent_to, settle, span_from, stop, take, take_if_due, with_act, with_close, with_epoch, with_message, with_pending}
 use Rattle.rb_rules.specs.WorldStep.Choice.{GoOn, Hand, Take}
 use Rattle.rb_rules.specs.WorldStep.Pending.{Arrival, Tick}
 use Rattle.rb_rules.specs.WorldStep.Way.{ByAnEvent, ByItself}
@@ -24,6 +23,7 @@ use Rattle.rb_laws_events.proofs.PendingLists.{StandsAt}
 use Rattle.rb_laws_events.proofs.SameHeard.{Every}
 use Rattle.rb_laws_events.proofs.WorldNodes.{NodesKnown, choose-known, first-counts, first-known, settle-sites}
 use Rattle.rb_laws_events.proofs.WorldStands.{get-at, is_node, node-is, node-itself}
+use Rattle.rb_laws_events.proofs.WorldBooks.{hand-leaves}
 use Rattle.rb_laws_sweeps.specs.AheadOf.{IsFirstTick, tick_alone}
 use Rattle.rb_laws_sweeps.specs.Room.{StoppedHaveNothing, StoppedStayEmptyInEach}
 use Rattle.rb_laws_sweeps.specs.Sweeping.{swept}
@@ -136,7 +136,7 @@ due-empty sc w d due h =
     (pending-empty sc w d.side d.node due.t due.s d.pending due.there due.ready h)
 
 choose-empty : (sc : Scenario) (w : World) (c : Choice) → NodesKnown sc w.sites → AllRunOrEmpty w.sites → AllRunOrEmpty (choose sc w c).sites
-unfolding take go_on hand
+unfolding take go_on
 choose-empty sc w (Take i) known h = by (slice_get (due_of sc w) i) refl
   where
     by : (o : Option Due) → slice_get (due_of sc w) i ≡ o → AllRunOrEmpty (take_if_due sc w o).sites
@@ -147,21 +147,7 @@ choose-empty sc w GoOn known h = by w.book.ended
     by : (b : Bool) → AllRunOrEmpty (elim b as (λ _. World) [ true ↦ w | false ↦ settle sc ByItself 2 w ]).sites
     by true = h
     by false = subst AllRunOrEmpty (sym (settle-sites sc ByItself 2 w)) h
-choose-empty sc w (Hand biu state) known h = by (frame_in w.turn)
-  where
-    inner : (x : World) → x.sites ≡ w.sites → (b : Bool) → AllRunOrEmpty (elim b as (λ _. World) [ true ↦ x | false ↦ w ]).sites
-    inner x same true = subst AllRunOrEmpty (sym same) h
-    inner x same false = h
-
-    by : (o : Option ℕ) → AllRunOrEmpty (elim o as (λ _. World) [
-      | None ↦ w
-      | Some frame ↦ elim (is_good sc Biu biu frame 0) [
-        | true ↦ record w { ports = with_state biu state w.ports; hands = w.hands ++ record { frame = frame; biu = biu; state = state } ∷ [] }
-        | false ↦ w
-      ]
-    ]).sites
-    by None = h
-    by (Some frame) = inner (record w { ports = with_state biu state w.ports; hands = w.hands ++ record { frame = frame; biu = biu; state = state } ∷ [] }) refl (is_good sc Biu biu frame 0)
+choose-empty sc w (Hand biu state) known h = hand-leaves (λ x. AllRunOrEmpty x.sites) sc w biu state (λ ports hands. h) h
 
 first-empty : (sc : Scenario) → AllRunOrEmpty (first_world sc).sites
 unfolding first_world proceed

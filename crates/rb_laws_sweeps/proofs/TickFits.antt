@@ -1,20 +1,15 @@
 -- What a tick makes pending behind is few, too.
-use Rattle.std.proofs.Common.{◌≡◌, ℕ, suc, ◌+◌, ◌≤◌, ◌&&◌, true, false, List, [], length, ap, sym, ◌∙◌, subst, arith, Option, Some, option_map, slice_get}
-use Rattle.rb_base.specs.Nodes.{Side, other}
-use Rattle.rb_rules.specs.declared.message.Message.{Message}
-use Rattle.rb_rules.specs.Book.{Each, of_kind}
+use Rattle.std.proofs.Common.{◌≡◌, suc, ◌+◌, true, false, List, ap, sym, ◌∙◌, subst, Some, option_map, slice_get}
+use Rattle.rb_base.specs.Nodes.{other}
+use Rattle.rb_rules.specs.Book.{of_kind}
 use Rattle.rb_rules.specs.Core.{Act}
-use Rattle.rb_rules.specs.Goodness.{Scenario}
-use Rattle.rb_rules.specs.Hearing.{Sending}
-use Rattle.rb_rules.specs.WorldStep.{Choice, Due, Site, World, after_act, at_node, happens, pass_and_tick, sent_to, times_of, with_act, with_message, world_after}
+use Rattle.rb_rules.specs.WorldStep.{Choice, Due, Site, World, after_act, at_node, happens, pass_and_tick, with_act, world_after}
 use Rattle.rb_rules.specs.WorldStep.Pending.{Tick}
 use Rattle.rb_rules.specs.WorldStep.Way.{ByAnEvent}
-use Rattle.rb_laws_events.specs.PendingEvents.{most_pending}
-use Rattle.rb_laws_events.proofs.FewPending.{received}
+use Rattle.rb_laws_events.proofs.FewPending.{HaveRoom, message-few, own-few}
 use Rattle.rb_laws_events.proofs.OneEvent.{happens-is}
 use Rattle.rb_laws_events.proofs.WorldNodes.{settle-sites}
 use Rattle.rb_laws_events.proofs.WorldStands.{get-at, is_node, node-itself, not-other}
-use Rattle.rb_laws_events.proofs.WorldTicks.{after_tick, get-after, kind-other, reached, reached-not}
 use Rattle.rb_laws_sweeps.specs.AheadOf.{GoesOnAhead, after_takes, ahead_of, tick_alone, until_tick}
 use Rattle.rb_laws_sweeps.specs.Room.{TicksBehindFit}
 use Rattle.rb_laws_sweeps.specs.Sweeping.{swept}
@@ -22,36 +17,6 @@ use Rattle.rb_laws_sweeps.proofs.AfterTick.{takes-are}
 use Rattle.rb_laws_sweeps.proofs.BehindFew.{behind-few}
 use Rattle.rb_laws_sweeps.proofs.GoesOn.{worlds-go-on}
 use Rattle.rb_laws_sweeps.proofs.Stopped.{stopped-stay-empty}
-
--- at each node no more is pending than its lane holds
-abbrev HaveRoom : Scenario → Each Site → Type 0
-HaveRoom sc sites = (me : Side) (i : ℕ) (s : Site) → slice_get (of_kind me sites) i ≡ Some s → length (times_of s) ≤ most_pending sc me
-
--- A tick makes pending what is pending after it.
-
-message-few : (sc : Scenario) (me : Side) (i frame k : ℕ) (o : Option Message) (m : Message) (change : Site → Site) (sites : Each Site)
-    → HaveRoom sc (with_message sc me i frame k o (at_node me i change sites)) → o ≡ Some m → (j : ℕ) (z : Site) → slice_get (of_kind (other me) sites) j ≡ Some z
-    → z.runs ≡ true → length (times_of z) + 1 ≤ most_pending sc (other me)
-message-few sc me i frame k o m change sites fits e j z there runs =
-    let x : Sending = record { tick = k; message = m } in
-    let after : slice_get (of_kind (other me) (with_message sc me i frame k o (at_node me i change sites))) j ≡ Some (sent_to sc me i frame x (other me) j z) =
-    get-after sc me i frame k o change sites (other me) j ∙ ap (option_map (after_tick sc me i frame k o change (other me) j)) there
-    ∙ ap (λ b. Some (reached sc me i frame k o (other me) j (elim b as (λ _. Site) [ true ↦ change z | false ↦ z ]))) (not-other me i j)
-    ∙ ap (λ o. Some (reached sc me i frame k o (other me) j z)) e in
-    let more = received sc me i frame x j z runs in
-    let few = fits (other me) j (sent_to sc me i frame x (other me) j z) after in
-    omega (arith, more, few)
-
-own-few : (sc : Scenario) (me : Side) (i frame k : ℕ) (o : Option Message) (change : Site → Site) (sites : Each Site) (s : Site)
-    → HaveRoom sc (with_message sc me i frame k o (at_node me i change sites)) → slice_get (of_kind me sites) i ≡ Some s
-    → length (times_of (change s)) ≤ most_pending sc me
-own-few sc me i frame k o change sites s fits there =
-    fits me i (change s)
-    (get-after sc me i frame k o change sites me i ∙ ap (option_map (after_tick sc me i frame k o change me i)) there
-    ∙ ap (λ b. Some (reached sc me i frame k o me i (elim b as (λ _. Site) [ true ↦ change s | false ↦ s ]))) (node-itself me i)
-    ∙ ap Some (reached-not sc me i frame k o me i (change s) (ap (λ b. b && (change s).runs) (kind-other me))))
-
--- So it is behind.
 
 pub ticks-behind-fit : TicksBehindFit
 unfolding with_act
