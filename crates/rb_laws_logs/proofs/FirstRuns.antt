@@ -1,5 +1,5 @@
 -- A run in which always the first due event is taken ends, and nothing is given after its end.
-use Rattle.std.proofs.Common.{◌≡◌, ℕ, zero, suc, ◌+◌, ◌-◌, ◌≤◌, ◌||◌, Bool, true, false, List, [], ◌∷◌, ◌++◌, fold, flat_map, length, length-append, refl, ap, sym, ◌∙◌, subst, arith, inl, inr, Some, None, slice_get}
+use Rattle.std.proofs.Common.{◌≡◌, ℕ, zero, suc, ◌+◌, ◌-◌, ◌≤◌, ◌||◌, Bool, true, false, List, [], ◌∷◌, ◌++◌, flat_map, length, length-append, refl, ap, sym, ◌∙◌, subst, arith, inl, inr, Some, None, slice_get}
 use Rattle.std.proofs.lemmas.Bool.{cases_lt}
 use Rattle.rb_base.specs.declared.event.Event.{Event}
 use Rattle.rb_base.specs.declared.node.NodeName.{NodeName}
@@ -16,6 +16,7 @@ use Rattle.std.proofs.lemmas.List.{append-nil}
 use Rattle.rb_laws_events.proofs.GivenAlone.{given-alone}
 use Rattle.rb_laws_events.proofs.WorldBooks.{choose-on}
 use Rattle.rb_laws_events.proofs.EventsHold.{due-holds, ends-hold, events-hold}
+use Rattle.rb_laws_events.proofs.RunsEnd.{takes-append}
 use Rattle.rb_laws_logs.specs.Given.{AreGiven, first_run, first_step, given_in, step_with}
 use Rattle.rb_laws_logs.specs.Laws.{OneListIsGiven}
 use Rattle.rb_laws_logs.proofs.NoBreach.{choice_with, choices_in, run-is}
@@ -59,12 +60,6 @@ one-only sc name events others a b = b.all ∙ elim (cases_lt a.steps b.steps) [
 ] ∙ sym a.all
 
 -- Up to the end.
-
-takes-append : (sc : Scenario) (w : World) (cs : List Choice) (c : Choice) → takes_from sc w (cs ++ c ∷ []) ≡ takes_from sc w cs + taken_by sc (fold (choose sc) w cs) c
-takes-append sc w [] c = omega arith
-takes-append sc w (x ∷ cs) c =
-    let rest : takes_from sc (choose sc w x) (cs ++ c ∷ []) ≡ takes_from sc (choose sc w x) cs + taken_by sc (fold (choose sc) (choose sc w x) cs) c = takes-append sc (choose sc w x) cs c in
-    omega (arith, rest)
 
 prefix-length : (xs ys : List Record) → IsPrefix xs ys → length xs ≤ length ys
 prefix-length xs ys p = let e : length ys ≡ length xs + length p.0 = ap length p.1 ∙ length-append xs p.0 in omega (arith, e)

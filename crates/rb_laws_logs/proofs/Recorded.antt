@@ -1,10 +1,9 @@
 -- The law of a recorded log: what is given to a node can happen, so that its log is read as the same events.
-use Rattle.std.proofs.Common.{◌≡◌, ℕ, zero, suc, ◌+◌, ◌^◌, ◌<◌, ◌≤◌, ◌&&◌, ◌⊎◌, nat_le, Bool, true, false, All, List, [], ◌∷◌, ◌++◌, length, refl, ap, sym, ◌∙◌, subst, arith, inl, inr, Option, Some, None, is_some, slice_get, get_or, if◌then◌else◌}
+use Rattle.std.proofs.Common.{◌≡◌, ℕ, zero, suc, ◌+◌, ◌^◌, ◌<◌, ◌≤◌, ◌&&◌, ◌⊎◌, nat_le, Bool, true, false, All, List, [], ◌∷◌, ◌++◌, refl, ap, sym, ◌∙◌, subst, arith, inl, inr, Option, Some, None, is_some, slice_get, if◌then◌else◌}
 use Rattle.std.specs.Prelude.{flat_map}
 use Rattle.std.proofs.Math.ListN.{replicate}
-use Rattle.std.proofs.lemmas.Bool.{cases_lt}
 use Rattle.std.proofs.lemmas.Bool.Decides.{nat_tests}
-use Rattle.std.proofs.lemmas.List.{append-nil, get_or_past}
+use Rattle.std.proofs.lemmas.List.{append-nil}
 use Rattle.std.proofs.lemmas.List.Elements.{All-append, All-cons, All-nil}
 use Rattle.std.proofs.lemmas.Option.{same_Some}
 use Rattle.rb_base.specs.Nodes.{Side, other}
@@ -16,14 +15,12 @@ use Rattle.rb_base.specs.declared.node.NodeName.{NodeName}
 use Rattle.rb_base.specs.declared.node.NodeName.TheVariants as node
 use Rattle.rb_rules.specs.declared.message.Message.{Message}
 use Rattle.rb_rules.specs.declared.plan.Plan.{Plan}
-use Rattle.rb_rules.specs.declared.role.Role.{Role}
-use Rattle.rb_rules.specs.declared.role.Role.TheVariants.{Schedule, Data, DiagBiu, DiagRmu, Sync}
 use Rattle.rb_rules.specs.Book.{of_kind}
 use Rattle.rb_rules.specs.Core.{Act, Core, CoreEvent, act_at, act_on, arrive, epoch_at, first_core, is_last, is_spent, of_source, pass_to, said_at, state_at, state_kept, tick, window_here}
 use Rattle.rb_rules.specs.Core as core
 use Rattle.rb_rules.specs.ExactStage.{Outcome}
 use Rattle.rb_rules.specs.Goodness.{Scenario}
-use Rattle.rb_rules.specs.Hearing.{Coming, close_window, word_for}
+use Rattle.rb_rules.specs.Hearing.{Coming, close_window}
 use Rattle.rb_rules.specs.Lawful.{IsLawful, IsNodeOf, kind_of}
 use Rattle.rb_rules.specs.NodeState.{NodeState}
 use Rattle.rb_rules.specs.Ports.{PortState}
@@ -41,6 +38,7 @@ use Rattle.rb_laws_events.proofs.SameHeard.{Every}
 use Rattle.rb_laws_events.proofs.WorldNodes.{worlds-known}
 use Rattle.rb_laws_events.proofs.WorldStands.{is_node, node-is, node-itself}
 use Rattle.rb_laws_agreement.proofs.Goodnesses.{good_counts}
+use Rattle.rb_laws_agreement.proofs.Speaking.{word_fits}
 use Rattle.rb_laws_logs.specs.Given.{first_run, given_in, given_next, index_of, site_of}
 use Rattle.rb_laws_logs.specs.Laws.{EndsWithoutBreach, IsGoodThroughout, ALogTellsTheReport}
 use Rattle.rb_laws_logs.specs.Replays.{replay_text}
@@ -193,23 +191,13 @@ next-given sc name n node = by (step-sites sc n)
 
 -- It can happen.
 
-small-word : (sc : Scenario) (ports : List PortState) (i slot : ℕ) (r : Role) → IsLawful sc → word_for sc ports i slot r < 2 ^ 32
-small-word sc ports i slot (Schedule n) lawful = elim (cases_lt i (length sc.requests)) [
-  | inl lt ↦ let few : get_or sc.requests i 0 ≤ 64 = lawful.requests.each i 0 lt in omega (arith, few)
-  | inr ge ↦ let none : get_or sc.requests i 0 ≡ 0 = get_or_past sc.requests i 0 ge in omega (arith, none)
-]
-small-word sc ports i slot (Data n) lawful = omega arith
-small-word sc ports i slot (DiagBiu n) lawful = omega arith
-small-word sc ports i slot (DiagRmu n) lawful = omega arith
-small-word sc ports i slot Sync lawful = omega arith
-
 can-happen : (sc : Scenario) (ports : List PortState) (me : Side) (i t : ℕ) (s : Site) (p : Pending) → IsLawful sc → IsReady t s p → Every (λ (c : Coming). c.from < count_of (other me) sc.sizes) s.coming
     → AreSized s.coming → MayHappen (count_of (other me) sc.sizes) (event_of sc ports me i s.core p).kind
 can-happen sc ports me i t s (Tick k) lawful ready known sized = by (wants_in sc me i (pass_to k s.core))
   where
     by : (slot : Option ℕ) → MayHappen (count_of (other me) sc.sizes) (kind.Tick (word_of sc ports i slot) (is_some slot))
     by None = refl
-    by (Some slot) = small-word sc ports i slot (role_of sc.sizes slot) lawful
+    by (Some slot) = word_fits sc ports i slot (role_of sc.sizes slot) lawful
 can-happen sc ports me i t s (Arrival place c) lawful ready known sized =
     let from = every-stands (λ (c : Coming). c.from < count_of (other me) sc.sizes) place c s.coming ready.0 known in
     let bytes = every-stands (λ (c : Coming). IsSized c.bytes) place c s.coming ready.0 sized in

@@ -1,6 +1,6 @@
 -- For the law of record and replay: the worlds of a run in which the first due event is taken, where it has no breach: all nodes stand in
 -- the rounds, and so does one that takes a tick.
-use Rattle.std.proofs.Common.{◌≡◌, ℕ, zero, suc, ◌<◌, ◌≤◌, ◌⊎◌, Bool, true, false, List, [], ◌∷◌, refl, ap, sym, ◌∙◌, subst, inl, inr, Option, Some, None, slice_get}
+use Rattle.std.proofs.Common.{◌≡◌, ℕ, zero, suc, ◌<◌, ◌≤◌, ◌⊎◌, Bool, true, false, List, [], ◌∷◌, refl, ap, sym, ◌∙◌, subst, inl, inr, Some, None, slice_get}
 use Rattle.std.proofs.lemmas.Option.{same_Some}
 use Rattle.rb_base.specs.Nodes.{Side}
 use Rattle.rb_base.specs.Nodes.Side.{Biu}
@@ -12,9 +12,9 @@ use Rattle.rb_rules.specs.Moments.{IsRunning}
 use Rattle.rb_rules.specs.NodeState.{NodeState}
 use Rattle.rb_rules.specs.Ports.{HandIn}
 use Rattle.rb_rules.specs.Rounds.{moment}
-use Rattle.rb_rules.specs.WorldStep.{Due, Pending, Site, Timed, World, due_of, first_world, go_on, happens, needs_no_event, pass_and_tick, settle, take, take_if_due, with_act, with_pending}
-use Rattle.rb_rules.specs.WorldStep.Pending.{Tick, Arrival}
-use Rattle.rb_rules.specs.WorldStep.Way.{ByAnEvent, ByItself}
+use Rattle.rb_rules.specs.WorldStep.{Due, Site, Timed, World, due_of, first_world, go_on, needs_no_event, pass_and_tick, settle}
+use Rattle.rb_rules.specs.WorldStep.Pending.{Tick}
+use Rattle.rb_rules.specs.WorldStep.Way.{ByItself}
 use Rattle.rb_laws_events.proofs.BreakNodes.{BreaksAt}
 use Rattle.rb_laws_events.proofs.Behind.{WaitsAt}
 use Rattle.rb_laws_events.proofs.DueEvents.{IsDue}
@@ -23,7 +23,7 @@ use Rattle.rb_laws_events.proofs.EveryWorld.{AnyWorld, InRun, due-going}
 use Rattle.rb_laws_events.proofs.Invariant.{last_tick, next_stage}
 use Rattle.rb_laws_events.proofs.NodeActs.{HasRoom}
 use Rattle.rb_laws_events.proofs.OneEvent.{ClosesEarlier, MayHappen, WorldInRounds}
-use Rattle.rb_laws_events.proofs.OneTake.{StandsInRounds, are-in-time, closes-earlier, settle-hands, world-waits}
+use Rattle.rb_laws_events.proofs.OneTake.{StandsInRounds, are-in-time, closes-earlier, settle-hands, take-hands, world-waits}
 use Rattle.rb_laws_events.proofs.PortMoments.{has-word}
 use Rattle.rb_laws_events.proofs.SameHeard.{Every}
 use Rattle.rb_laws_events.proofs.TickRooms.{has-room}
@@ -36,26 +36,6 @@ use Rattle.rb_laws_logs.specs.Laws.{EndsWithoutBreach}
 use Rattle.rb_laws_logs.proofs.NoBreach.{breaks-not, choices_in, run-is}
 
 -- Nothing is handed in.
-
-happens-hands : (sc : Scenario) (w : World) (d : Due) → (happens sc w d).hands ≡ w.hands
-unfolding happens with_act
-happens-hands sc w d = by (slice_get (of_kind d.side w.sites) d.node)
-  where
-    pending : (s : Site) (p : Pending) → (with_pending sc w d.side d.node s p).hands ≡ w.hands
-    pending s (Tick k) = refl
-    pending s (Arrival place c) = refl
-
-    by : (o : Option Site) → (elim o as (λ _. World) [ None ↦ w | Some s ↦ with_pending sc w d.side d.node s d.pending ]).hands ≡ w.hands
-    by None = refl
-    by (Some s) = pending s d.pending
-
-take-hands : (sc : Scenario) (w : World) (i : ℕ) → (take sc w i).hands ≡ w.hands
-unfolding take
-take-hands sc w i = by (slice_get (due_of sc w) i)
-  where
-    by : (o : Option Due) → (take_if_due sc w o).hands ≡ w.hands
-    by None = refl
-    by (Some d) = settle-hands sc ByAnEvent 2 (happens sc w d) ∙ happens-hands sc w d
 
 pub go-on-hands : (sc : Scenario) (w : World) → (go_on sc w).hands ≡ w.hands
 unfolding go_on
