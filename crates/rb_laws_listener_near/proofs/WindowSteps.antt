@@ -1,6 +1,6 @@
 -- A listener closes a window below the sync slot as each good BIU does.
 use Rattle.std.proofs.Common.{◌≡◌, ℕ, ◌+◌, ◌<◌, ◌==◌, ◌&&◌, Bool, true, false, List, Option, None, slice_get, slice_set, take, if◌then◌else◌, refl, sym, ◌∙◌, ap, subst}
-use Rattle.rb_base.specs.Nodes.{Side, has}
+use Rattle.rb_base.specs.Nodes.{has}
 use Rattle.rb_base.specs.Nodes.Side.{Biu, Rmu}
 use Rattle.rb_base.specs.Sizes.{Sizes, sync_slot_of}
 use Rattle.rb_base.specs.declared.values.Heard.{Heard}
@@ -9,7 +9,7 @@ use Rattle.rb_base.proofs.Plain.{less-differs}
 use Rattle.rb_rules.specs.declared.closing.Closing.{Closing}
 use Rattle.rb_rules.specs.declared.sense.Sense.{Sense}
 use Rattle.rb_rules.specs.Book.{of_kind}
-use Rattle.rb_rules.specs.ExactStage.{Outcome, close_exact, owners_after, reference_value, votes_after, votes_in}
+use Rattle.rb_rules.specs.ExactStage.{Outcome, owners_after, reference_value, votes_after, votes_in}
 use Rattle.rb_rules.specs.Goodness.{Scenario}
 use Rattle.rb_rules.specs.Judging.{JudgedStage}
 use Rattle.rb_rules.specs.NodeState.{NodeState, sender_at}
@@ -18,8 +18,8 @@ use Rattle.rb_rules.specs.Owners.{owners_of}
 use Rattle.rb_rules.specs.Ports.{HandIn}
 use Rattle.rb_rules.specs.Rounds.{Moment, sent_in, window_in}
 use Rattle.rb_rules.specs.Slots.{role_of}
-use Rattle.rb_rules.specs.SyncStage.{close_sync}
 use Rattle.rb_rules.proofs.RoundStates.{Stays, close-stays, through-stays}
+use Rattle.rb_rules.proofs.Slots.{close-exact}
 use Rattle.rb_laws_agreement.proofs.Tests.{Present}
 use Rattle.rb_laws_agreement.proofs.Invariant.{IsGoodNode, Shared, is_good_now, slot_numbered}
 use Rattle.rb_laws_agreement.proofs.ExactWindows.{ExactClose, closing_at, exact_close, expected_at, spares_right, with_sent}
@@ -33,16 +33,6 @@ use Rattle.rb_laws_listener_near.specs.Judged.{verdict_with}
 use Rattle.rb_laws_listener_near.proofs.Tracking.{IsTaken, MostStay, Senses, Tracks, is_taken, listener_vote}
 use Rattle.rb_laws_listener_near.proofs.VotesAlike.{SawTaken, vote_alike}
 
-close-exact : (sizes : Sizes) (me : Side) (i : ℕ) (st : NodeState) (slot stage first : ℕ) (sense : ℕ → Sense) → slot < sync_slot_of sizes
-    → close sizes me i st slot stage first sense ≡ close_exact sizes me i st slot stage sense
-close-exact sizes me i st slot stage first sense below = go (slot == sync_slot_of sizes) (less-differs slot (sync_slot_of sizes) below)
-  where
-    go : (b : Bool) → b ≡ false
-        → (elim b as (λ _. Outcome) [ true ↦ close_sync sizes me st stage (st.epoch + first) sense | false ↦ close_exact sizes me i st slot stage sense ])
-        ≡ close_exact sizes me i st slot stage sense
-    go true h = cc
-    go false h = refl
-
 -- what the listener makes of a window
 abbrev pub closed_by : Scenario → ℕ → ℕ → ℕ → NodeState → (ℕ → Sense) → Outcome
 closed_by sc slot stage first st sense = close sc.sizes Biu 16 st slot stage first sense
@@ -50,7 +40,7 @@ closed_by sc slot stage first st sense = close sc.sizes Biu 16 st slot stage fir
 pub closes_parts : (sc : Scenario) (slot stage first : ℕ) (st : NodeState) (sense : ℕ → Sense) → slot < sync_slot_of sc.sizes
     → ExactClose sc.sizes Biu 16 st st.sent slot stage sense (closed_by sc slot stage first st sense)
 closes_parts sc slot stage first st sense below =
-    subst (ExactClose sc.sizes Biu 16 st st.sent slot stage sense) (sym (close-exact sc.sizes Biu 16 st slot stage first sense below))
+    subst (ExactClose sc.sizes Biu 16 st st.sent slot stage sense) (sym (close-exact sc.sizes Biu 16 st slot stage first sense (less-differs slot (sync_slot_of sc.sizes) below)))
     (exact_close sc.sizes Biu 16 st st.sent slot stage sense)
 
 -- Votes and schedule.
