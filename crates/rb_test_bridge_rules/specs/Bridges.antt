@@ -123,3 +123,7 @@ both_break_text = codes "breach left 1 0 1 FewGoodBiu\n"
 -- of three BIUs that ask for one data slot each the owners, in order
 abbrev pub slot_each : ℕ → Option ℕ
 slot_each slot = if slot == 3 then Some 0 else (if slot == 4 then Some 1 else (if slot == 5 then Some 2 else None))
+
+-- two BIUs with one word, and a third that is not good when its slot comes
+abbrev pub faulty_replica : Scenario
+faulty_replica = triple 10 10 30 (Some (0, 3))

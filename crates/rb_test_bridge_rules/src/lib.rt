@@ -1,15 +1,16 @@
-//! Bridges of two buses, computed from the definitions alone: each function does nothing, and its
-//! contract is a case.
+//! Bridges of two buses and a group of replicas, computed from the definitions alone: each function
+//! does nothing, and its contract is a case.
 #![tactic(auto, unfolding(rb_base::specs::Nodes::set_of, rb_base::specs::Nodes::set_below, rb_base::specs::Nodes::size, rb_rules::specs::Spelling::message_in, rb_rules::specs::ExactStage::close_exact, rb_rules::specs::ExactStage::outcome_of, rb_rules::specs::SyncStage::close_sync, rb_rules::specs::SyncStage::sync_outcome_of, rb_rules::specs::Conviction::convicted_by, rb_rules::specs::Conviction::turn, rb_rules::specs::Links::delay_of, rb_rules::specs::Judging::classes_of, rb_rules::specs::Judging::verdict_of, rb_rules::specs::Hearing::sending, rb_rules::specs::Hearing::heard_from, rb_rules::specs::Hearing::row_of, rb_rules::specs::Book::with_stage, rb_rules::specs::Book::with_frame, rb_rules::specs::Rounds::sent_in, rb_rules::specs::Rounds::close_on, rb_rules::specs::Rounds::go_through, rb_rules::specs::Rounds::results_of, rb_rules::specs::Rounds::after_window, rb_rules::specs::Rounds::begin_frame, rb_rules::specs::Rounds::step, rb_group::specs::Groups::values_of))]
 
-ghost use Rattle.std.specs.Prelude.{◌≡◌};
+ghost use Rattle.std.specs.Prelude.{◌≡◌, []};
 ghost use Rattle.rb_laws_bridge.specs.Laws.{AreUnbroken, SoundPairsOutnumber};
-ghost use Rattle.rb_laws_groups.specs.Laws.{IsSchedule};
+ghost use Rattle.rb_laws_groups.specs.Laws.{AreServed, IsGoodPort, IsSchedule, OffersAreWithin, Outnumber, has_slot, is_good_owner, offers};
+ghost use Rattle.rb_rules.specs.Lawful.{IsLawful};
 ghost use Rattle.rb_rules_bridge.specs.declared.bank.Bank.TheVariants.{Right};
 ghost use Rattle.rb_rules_bridge.specs.Bridges.{IsBridge};
 ghost use Rattle.rb_rules_bridge.specs.Crossings.{hands_of};
 ghost use Rattle.rb_rules_bridge.specs.Texts.{bridge_text};
-ghost use Rattle.rb_test_bridge_rules.specs.Bridges.{both_break, both_break_text, idle_slot, idle_slot_text, last_data_slot, last_data_slot_text, left_breaks, left_breaks_text, no_majority, no_majority_text, other_slots, other_slots_text, outvoted, outvoted_text, right_breaks, right_breaks_text, slot_each, three_frames, three_frames_text};
+ghost use Rattle.rb_test_bridge_rules.specs.Bridges.{both_break, both_break_text, faulty_replica, idle_slot, idle_slot_text, last_data_slot, last_data_slot_text, left_breaks, left_breaks_text, no_majority, no_majority_text, other_slots, other_slots_text, outvoted, outvoted_text, right_breaks, right_breaks_text, slot_each, three_frames, three_frames_text};
 
 /// Each finds the other's word in the second frame, and in the third its own, which the other has
 /// handed back.
@@ -57,6 +58,21 @@ pub fn left_breaks()
 /// Both break it at once: the left bus's breach is told.
 pub fn both_break()
     ensures { bridge_text both_break ≡ both_break_text }
+{}
+
+/// The premises of the laws on groups: of three replicas with a data slot each, two are good and
+/// offer one word, and the third is not good.
+pub fn a_faulty_replica()
+    ensures lawful { IsLawful faulty_replica }
+    ensures served { AreServed faulty_replica [] 0 }
+    ensures schedule { IsSchedule faulty_replica [] 0 slot_each }
+    ensures word { Outnumber (offers faulty_replica [] 0 slot_each 7 10)
+        (has_slot faulty_replica slot_each 7) }
+    ensures owners { Outnumber (is_good_owner faulty_replica [] 0 slot_each 7)
+        (has_slot faulty_replica slot_each 7) }
+    ensures within { OffersAreWithin faulty_replica [] 0 slot_each 7 10 10 }
+    ensures port { IsGoodPort faulty_replica 0 0 }
+    ensures other_port { IsGoodPort faulty_replica 0 1 }
 {}
 
 /// The premises of the law that words cross, of the bridge whose left BIU is outvoted: two pairs

@@ -1,0 +1,68 @@
+use Rattle.std.proofs.Common.{◌≡◌, ℕ, zero, suc, ◌≤◌, ◌==◌, false, Option, Some, None, [], lit<, lit≤, refl, sym, ◌∙◌, ap, arith}
+use Rattle.std.proofs.lemmas.Bool.Decides.{nat_tests}
+use Rattle.std.proofs.lemmas.Option.{same_Some}
+use Rattle.rb_base.specs.Nodes.{set_below, set_of, size}
+use Rattle.rb_rules.specs.Book.{with_frame, with_stage}
+use Rattle.rb_rules.specs.Conviction.{convicted_by, turn}
+use Rattle.rb_rules.specs.ExactStage.{close_exact, outcome_of}
+use Rattle.rb_rules.specs.Hearing.{heard_from, row_of, sending}
+use Rattle.rb_rules.specs.Judging.{classes_of, verdict_of}
+use Rattle.rb_rules.specs.Links.{delay_of}
+use Rattle.rb_rules.specs.Rounds.{after_window, begin_frame, close_on, go_through, results_of, sent_in, step}
+use Rattle.rb_rules.specs.Spelling.{message_in}
+use Rattle.rb_rules.specs.SyncStage.{close_sync, sync_outcome_of}
+use Rattle.rb_laws_groups.specs.Laws.{Outnumber, first_slot, offer_in, offer_of}
+use Rattle.rb_test_bridge_rules.specs.Bridges.{faulty_replica, slot_each}
+use Rattle.rb_test_bridge_rules.proofs.Triples.{HoldTheSlots, lawful, schedule}
+use Rattle.rb_test_bridge_rules.proofs.a_faulty_replica.Goals as goal
+
+pub returns-clause-lawful : goal.returns-clause-lawful
+returns-clause-lawful c = lawful 10 10 30 (Some (0, 3)) (lit< tt) (lit< tt) (lit< tt) (lit< tt, lit≤ tt)
+
+pub returns-clause-served : goal.returns-clause-served
+unfolding set_below set_of size with_frame with_stage convicted_by turn close_exact outcome_of heard_from row_of sending classes_of verdict_of delay_of after_window begin_frame close_on go_through results_of sent_in step message_in close_sync sync_outcome_of
+returns-clause-served c = refl
+
+held : HoldTheSlots faulty_replica [] 0
+unfolding set_below set_of size with_frame with_stage convicted_by turn close_exact outcome_of heard_from row_of sending classes_of verdict_of delay_of after_window begin_frame close_on go_through results_of sent_in step message_in close_sync sync_outcome_of
+held = record {
+  first = record { first = refl; second = refl; third = refl; rmu = refl };
+  second = record { first = refl; second = refl; third = refl; rmu = refl };
+  third = record { first = refl; second = refl; third = refl; rmu = refl };
+}
+
+pub returns-clause-schedule : goal.returns-clause-schedule
+returns-clause-schedule c = schedule 10 10 30 (Some (0, 3)) [] 0 held
+
+pub returns-clause-word : goal.returns-clause-word
+unfolding Outnumber set_below set_of size with_frame with_stage convicted_by turn close_exact outcome_of heard_from row_of sending classes_of verdict_of delay_of after_window begin_frame close_on go_through results_of sent_in step message_in close_sync sync_outcome_of
+returns-clause-word c = lit< tt
+
+pub returns-clause-owners : goal.returns-clause-owners
+unfolding Outnumber set_below set_of size with_frame with_stage convicted_by turn close_exact outcome_of heard_from row_of sending classes_of verdict_of delay_of after_window begin_frame close_on go_through results_of sent_in step message_in close_sync sync_outcome_of
+returns-clause-owners c = lit< tt
+
+-- the third offers nothing, and nobody else owns a slot
+no-slot : (i : ℕ) → 3 ≤ i → first_slot faulty_replica.sizes slot_each i ≡ None
+no-slot i high =
+    let first : (0 == i) ≡ false = grind (arith, nat_tests) in
+    let second : (1 == i) ≡ false = grind (arith, nat_tests) in
+    let third : (2 == i) ≡ false = grind (arith, nat_tests) in
+    rw (first, second, third) refl
+
+nothing : (word : ℕ) (o : Option ℕ) → o ≡ None → o ≡ Some word → (10 ≤ word) × (word ≤ 10)
+nothing word o none some = let apart : None ≡ Some word = sym none ∙ some in absurd (cc)
+
+pub returns-clause-within : goal.returns-clause-within
+unfolding set_below set_of size with_frame with_stage convicted_by turn close_exact outcome_of heard_from row_of sending classes_of verdict_of delay_of after_window begin_frame close_on go_through results_of sent_in step message_in close_sync sync_outcome_of
+returns-clause-within c zero word member offered = let e : 10 ≡ word = same_Some 10 word offered in (omega arith, omega arith)
+returns-clause-within c (suc zero) word member offered = let e : 10 ≡ word = same_Some 10 word offered in (omega arith, omega arith)
+returns-clause-within c (suc (suc zero)) word member offered = nothing word None refl offered
+returns-clause-within c (suc (suc (suc i))) word member offered =
+    nothing word (offer_of faulty_replica [] 0 slot_each (suc (suc (suc i)))) (ap (offer_in faulty_replica [] 0 (suc (suc (suc i)))) (no-slot (suc (suc (suc i))) (omega arith))) offered
+
+pub returns-clause-port : goal.returns-clause-port
+returns-clause-port c = refl
+
+pub returns-clause-other_port : goal.returns-clause-other_port
+returns-clause-other_port c = refl
