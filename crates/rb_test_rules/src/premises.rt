@@ -2,22 +2,41 @@
 //! each.
 #![tactic(auto, unfolding(rb_base::specs::Nodes::set_of, rb_base::specs::Nodes::set_below, rb_rules::specs::ExactStage::close_exact, rb_rules::specs::ExactStage::outcome_of, rb_rules::specs::SyncStage::close_sync, rb_rules::specs::SyncStage::sync_outcome_of, rb_laws_agreement::specs::OneSlot::state_after))]
 
-ghost use Rattle.std.specs.Prelude.{◌≡◌, ◌∷◌, [], map, Some};
+ghost use Rattle.std.specs.Prelude.{◌≡◌, ◌∷◌, ◌+◌, ◌<◌, [], All, get_or, map, None, Some, true};
+ghost use Rattle.rb_base.specs.Nodes.{set_of};
 ghost use Rattle.rb_base.specs.Nodes.Side.{Biu, Rmu};
 ghost use Rattle.rb_base.specs.declared.values.Heard.TheVariants.{Word};
+ghost use Rattle.rb_listen.specs.Passes.{are_most};
 ghost use Rattle.rb_laws_agreement.specs.Histories.{AreAlike};
 ghost use Rattle.rb_laws_agreement.specs.Laws.{IsAccusedByAll};
 ghost use Rattle.rb_laws_agreement.specs.OneSlot.{IsExchange, KeepsPremise, state_after, vote_after};
+ghost use Rattle.rb_laws_agreement.specs.Values.{IsGoodSender};
 ghost use Rattle.rb_laws_synchrony.specs.OneStage.{HearNear, middle_kept};
 ghost use Rattle.rb_laws_events.specs.OwnMoments.{IsBeforeTheBreak};
+ghost use Rattle.rb_laws_letters.specs.Laws.{AreFirst};
+ghost use Rattle.rb_laws_letters.specs.Offers.{IsGoodThrough, offered_by};
+ghost use Rattle.rb_laws_letters.specs.Sent.{IsFirstPart, IsLetter, without_zeros, words_of};
+ghost use Rattle.rb_laws_listener_learns.specs.Ears.{is_always_good};
+ghost use Rattle.rb_laws_listener_learns.specs.Onsets.{BeginsBeside};
+ghost use Rattle.rb_laws_listener_near.specs.Calls.{AreMostGood, SawTheTimes, TakesTheCalls};
+ghost use Rattle.rb_laws_listener_near.specs.Judged.{verdict_with};
+ghost use Rattle.rb_test_rules.specs.Buses.{steady};
+ghost use Rattle.rb_test_rules.specs.Letters.{letter_records, letter_sent, one_sender, second_word};
 ghost use Rattle.rb_test_rules.specs.Lies.{silent_rmu};
 ghost use Rattle.rb_test_rules.specs.OneSlot.{all_trusted, lying_relay};
 ghost use Rattle.rb_test_rules.specs.OneStage.{early_listener, first_two, late_listener};
-ghost use Rattle.rb_test_rules.specs.Ordinary.{one_state};
+ghost use Rattle.rb_test_rules.specs.Ordinary.{one_state, smallest_bus};
 ghost use Rattle.rb_test_rules.specs.Parts.{plan};
 ghost use Rattle.rb_test_rules.specs.Premises.{RunsAfterSlot, RunsInSlot, handed_to_both, third_stage};
+ghost use Rattle.rb_test_rules.specs.Receiver.{call_seen, call_taken, call_time, failing_rmu, latest_clock, said_before};
+ghost use Rattle.rb_rules.specs.Clock.{IsClock, time_of};
+ghost use Rattle.rb_rules.specs.ExactStage.{each_node, present};
+ghost use Rattle.rb_rules.specs.Judging.{is_benign};
 ghost use Rattle.rb_rules.specs.Lawful.{IsLawful};
-ghost use Rattle.rb_rules.specs.Moments.{IsComplete};
+ghost use Rattle.rb_rules.specs.Middle.{middle_of};
+ghost use Rattle.rb_rules.specs.Moments.{IsComplete, IsRunning, after_slot, before_slot, before_stage};
+ghost use Rattle.rb_rules.specs.NodeState.{first_state};
+ghost use Rattle.rb_rules.specs.Plan.{longest_of, shortest_of};
 
 /// A slot in which an RMU lies asymmetrically: the premise holds, all vote for the request, and
 /// both BIUs accuse the RMU, one by mismatch and one directly.
@@ -40,9 +59,18 @@ pub fn stage_with_near_calls()
     ensures late { middle_kept late_listener ≡ Some 877 }
 {}
 
-/// A silent RMU is accused by all good BIUs when they send their vectors.
+/// Of a silent RMU nothing is taken up to the slot for its vector, and all good BIUs accuse it when
+/// they send theirs.
 pub fn accused_by_all()
-    ensures { IsAccusedByAll silent_rmu [] 0 Rmu 2 }
+    ensures lawful { IsLawful silent_rmu }
+    ensures complete { IsComplete silent_rmu [] 0 19 }
+    ensures unheard { is_benign Rmu (after_slot silent_rmu [] 0 18).book.stages 2 ≡ true }
+    ensures accused { IsAccusedByAll silent_rmu [] 0 Rmu 2 }
+{}
+
+/// A good BIU sends in the first slot.
+pub fn good_sender()
+    ensures { IsGoodSender one_state [] 0 0 0 (first_state one_state.sizes Biu) }
 {}
 
 /// Two BIUs with one application and one first word, to which the same is handed, or nothing.
@@ -62,4 +90,43 @@ pub fn running_nodes()
     ensures first { RunsAfterSlot 0 }
     ensures second { RunsAfterSlot 1 }
     ensures alike { AreAlike one_state third_stage.hands 0 1 }
+{}
+
+/// A receiver beside the smallest bus takes the call of its RMU as the BIU does: the premises of
+/// `frames_begin_near`.
+pub fn a_receiver_beside_the_bus()
+    ensures lawful { IsLawful smallest_bus }
+    ensures complete { IsComplete smallest_bus [] 0 4 }
+    ensures most_good { AreMostGood smallest_bus 0 }
+    ensures clock { IsClock (shortest_of smallest_bus.plan) (longest_of smallest_bus.plan) steady }
+    ensures takes { TakesTheCalls smallest_bus [] 0 steady call_taken call_time }
+    ensures verdict { verdict_with call_seen (before_stage smallest_bus [] 0 4 3).book.stages
+        ≡ None }
+    ensures saw { SawTheTimes (before_stage smallest_bus [] 0 4 3).book.stages
+        call_taken call_time call_seen }
+    ensures middle { middle_of (present (each_node call_taken)) ≡ Some 203 }
+{}
+
+/// What an RMU says less than a tick before it fails, by a late clock beside the bus: the premises
+/// of `faulty_rmus_may_speak_by_any_clock`.
+pub fn a_failing_rmu_by_the_latest_clock()
+    ensures lawful { IsLawful failing_rmu }
+    ensures most_good { are_most failing_rmu.sizes (set_of (is_always_good failing_rmu [])) ≡ true }
+    ensures begins { BeginsBeside failing_rmu [] latest_clock 0 0 }
+    ensures running { IsRunning (before_slot failing_rmu [] 0 2) }
+    ensures onset { get_or failing_rmu.rmu_onsets said_before.from None ≡ Some (0, 2) }
+    ensures time { time_of latest_clock 90 < said_before.time + shortest_of failing_rmu.plan }
+{}
+
+/// In the two frames of a run a good BIU offers the words of one letter, which a sender of letters
+/// gave: the premises of the laws of letters.
+pub fn a_letter_over_the_bus()
+    ensures lawful { IsLawful one_sender }
+    ensures first { AreFirst one_sender second_word letter_records }
+    ensures receiver { IsGoodThrough one_sender 1 letter_records }
+    ensures sender { IsGoodThrough one_sender 0 letter_records }
+    ensures offered { offered_by one_sender second_word 0 letter_records ≡ letter_sent.words }
+    ensures letters { All IsLetter letter_sent.taken }
+    ensures bytes { All (λ letter. All (λ byte. byte < 256) letter) letter_sent.taken }
+    ensures words { IsFirstPart (without_zeros letter_sent.words) (words_of letter_sent.taken) }
 {}

@@ -16,6 +16,7 @@ use Rattle.rb_rules.specs.Rounds.{sent_in, close_on, go_through, results_of, aft
 use Rattle.rb_rules.specs.Spelling.{message_in}
 use Rattle.rb_rules.specs.SyncStage.{close_sync, sync_outcome_of}
 use Rattle.rb_test_rules.specs.Lies.{silent_rmu}
+use Rattle.rb_test_rules.proofs.LawfulTests.{lawful_by_tests}
 use Rattle.rb_test_rules.proofs.premises.accused_by_all.Goals as goal
 
 -- the node is there, and accuses RMU 2
@@ -31,6 +32,17 @@ each (suc (suc zero)) h = refl
 each (suc (suc (suc zero))) h = refl
 each (suc (suc (suc (suc i)))) h = absurd (omega arith)
 
-pub returns : goal.returns
-returns c i st good there =
+pub returns-clause-lawful : goal.returns-clause-lawful
+returns-clause-lawful c = lawful_by_tests silent_rmu refl
+
+pub returns-clause-complete : goal.returns-clause-complete
+unfolding set_of set_below size message_in close_exact outcome_of close_sync sync_outcome_of turn convicted_by classes_of verdict_of delay_of with_stage with_frame sending heard_from row_of sent_in close_on go_through results_of after_window begin_frame step
+returns-clause-complete c = refl
+
+pub returns-clause-unheard : goal.returns-clause-unheard
+unfolding set_of set_below size message_in close_exact outcome_of close_sync sync_outcome_of turn convicted_by classes_of verdict_of delay_of with_stage with_frame sending heard_from row_of sent_in close_on go_through results_of after_window begin_frame step
+returns-clause-unheard c = refl
+
+pub returns-clause-accused : goal.returns-clause-accused
+returns-clause-accused c i st good there =
     sym (ap accuses there) ∙ each i (ltb-true i 4 (and_first (nat_lt i 4) (is_before (get_or silent_rmu.biu_onsets i None) 0 19) good))

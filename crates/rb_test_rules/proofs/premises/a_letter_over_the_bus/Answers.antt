@@ -1,0 +1,62 @@
+use Rattle.std.proofs.Common.{◌≡◌, ◌<◌, true, All, [], ◌∷◌, get_or, lit<, refl, sym}
+use Rattle.std.proofs.lemmas.List.{append-nil}
+use Rattle.std.proofs.lemmas.List.Elements.{All-cons, All-nil}
+use Rattle.rb_base.specs.Nodes.{set_below, set_of, size}
+use Rattle.rb_rules.specs.Book.{Record, with_frame, with_stage}
+use Rattle.rb_rules.specs.Book.Record.{Breach, Ended, Frame, Slot}
+use Rattle.rb_rules.specs.Conviction.{convicted_by, turn}
+use Rattle.rb_rules.specs.ExactStage.{close_exact, outcome_of}
+use Rattle.rb_rules.specs.Hearing.{heard_from, row_of, sending}
+use Rattle.rb_rules.specs.Judging.{classes_of, verdict_of}
+use Rattle.rb_rules.specs.Links.{delay_of}
+use Rattle.rb_rules.specs.Rounds.{after_window, begin_frame, close_on, go_through, results_of, sent_in, step}
+use Rattle.rb_rules.specs.Spelling.{message_in}
+use Rattle.rb_rules.specs.SyncStage.{close_sync, sync_outcome_of}
+use Rattle.rb_laws_letters.specs.Offers.{is_good_in}
+use Rattle.rb_laws_letters.specs.Sent.{IsLetter}
+use Rattle.rb_test_rules.specs.Letters.{letter, letter_records, one_sender}
+use Rattle.rb_test_rules.proofs.LawfulTests.{lawful_by_tests}
+use Rattle.rb_test_rules.proofs.premises.a_letter_over_the_bus.Goals as goal
+
+pub returns-clause-lawful : goal.returns-clause-lawful
+returns-clause-lawful c = lawful_by_tests one_sender refl
+
+pub returns-clause-first : goal.returns-clause-first
+returns-clause-first c = ([], sym (append-nil letter_records))
+
+good-0 : (r : Record) → is_good_in one_sender 0 r ≡ true
+good-0 (Frame frame nodes ports) = refl
+good-0 (Slot frame slot lines) = refl
+good-0 Ended = refl
+good-0 (Breach place cause) = refl
+
+good-1 : (r : Record) → is_good_in one_sender 1 r ≡ true
+good-1 (Frame frame nodes ports) = refl
+good-1 (Slot frame slot lines) = refl
+good-1 Ended = refl
+good-1 (Breach place cause) = refl
+
+pub returns-clause-receiver : goal.returns-clause-receiver
+returns-clause-receiver c = λ k d less. good-1 (get_or letter_records k d)
+
+pub returns-clause-sender : goal.returns-clause-sender
+returns-clause-sender c = λ k d less. good-0 (get_or letter_records k d)
+
+pub returns-clause-offered : goal.returns-clause-offered
+unfolding set_of set_below size message_in close_exact outcome_of close_sync sync_outcome_of turn convicted_by classes_of verdict_of delay_of with_stage with_frame sending heard_from row_of sent_in close_on go_through results_of after_window begin_frame step
+returns-clause-offered c = refl
+
+one : {X : Type 0} (P : X → Type 0) (x : X) → P x → All P (x ∷ [])
+one P x h = All-cons P x [] h (All-nil P)
+
+bytes : All (λ byte. byte < 256) letter
+bytes = one (λ byte. byte < 256) 65 (lit< tt)
+
+pub returns-clause-letters : goal.returns-clause-letters
+returns-clause-letters c = one IsLetter letter (record { length = refl; bytes = bytes })
+
+pub returns-clause-bytes : goal.returns-clause-bytes
+returns-clause-bytes c = one (λ letter. All (λ byte. byte < 256) letter) letter bytes
+
+pub returns-clause-words : goal.returns-clause-words
+returns-clause-words c = ([], refl)
