@@ -68,7 +68,9 @@ sent-from : (sc : Scenario) (from : NodeName) (frame tick running : ℕ) (m : Me
     → AreRunning (other (kind_of from)) running sites → HoldsSites sc.sizes lanes sites
     → HoldsSites sc.sizes
     (lanes_with (other (kind_of from))
-    (coming_to sc.delays from (time_of (clock_of sc (kind_of from) (number_of from)) tick) (record { frame = frame; slot = m.slot; stage = m.stage }) (spelling_of sc.plan.version m))
+    (coming_to sc.delays
+    (record { from = from; time = time_of (clock_of sc (kind_of from) (number_of from)) tick; place = record { frame = frame; slot = m.slot; stage = m.stage } })
+    (spelling_of sc.plan.version m))
     (has running) lanes)
     (with_message sc (kind_of from) (number_of from) frame tick (Some m) sites)
 sent-from sc (node.Biu j) frame tick running m lanes sites small runs holds = record {

@@ -4,13 +4,13 @@ use Rattle.rb_base.specs.Nodes.{Side, has, other}
 use Rattle.rb_base.specs.Nodes.Side.{Biu, Rmu}
 use Rattle.rb_base.specs.declared.node.NodeName.{NodeName}
 use Rattle.rb_base.specs.declared.node.NodeName.TheVariants as node
-use Rattle.rb_base.specs.declared.values.Place.{Place}
 use Rattle.rb_rules.specs.Book.{Each, map_from, of_kind}
 use Rattle.rb_rules.specs.Hearing.{Coming}
 use Rattle.rb_rules.specs.Lawful.{kind_of}
 use Rattle.rb_rules.specs.Links.{DelayRules, delay_of, name_of}
 use Rattle.rb_rules.specs.WorldStep.{Site}
 use Rattle.rb_queue.specs.Waiting.{HasLane, Held, lane_of, spare_of, with_arrival}
+use Rattle.rb_world_traffic.specs.declared.sending.Transmission.{Transmission}
 
 -- the number of a node among those of its kind
 abbrev pub number_of : NodeName → ℕ
@@ -19,10 +19,10 @@ number_of (node.Rmu i) = i
 
 -- Messages of good nodes.
 
--- what a node sends at a time, as it comes to node i of the other kind
-abbrev pub coming_to : DelayRules → NodeName → ℕ → Place → List ℕ → ℕ → Coming
-coming_to delays from time place bytes i =
-    record { time = time + delay_of delays from (name_of (other (kind_of from)) i) place; from = number_of from; bytes = bytes }
+-- what a node sends, as it comes to node i of the other kind
+abbrev pub coming_to : DelayRules → Transmission → List ℕ → ℕ → Coming
+coming_to delays t bytes i =
+    record { time = t.time + delay_of delays t.from (name_of (other (kind_of t.from)) i) t.place; from = number_of t.from; bytes = bytes }
 
 -- the lane of node i of a kind gets what comes to it, if the node is one of these
 abbrev pub lane_with : Side → (ℕ → Coming) → (ℕ → Bool) → ℕ → Held → Held

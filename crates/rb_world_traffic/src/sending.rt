@@ -13,7 +13,7 @@ ghost use Rattle.rb_rules.specs.Spelling.{IsZeroUnlessWord};
 ghost use Rattle.rb_rules.specs.WorldStep.{Site};
 ghost use Rattle.rb_world_agenda.specs.Holding.{HoldsSites};
 ghost use Rattle.rb_world_traffic.specs.Arriving.{AreRunning, HaveRoom, coming_to, lanes_with, number_of};
-ghost use Rattle.rb_world_traffic.specs.Departing.{IsOfScenario, with_departure, with_sent};
+ghost use Rattle.rb_world_traffic.specs.Departing.{CanDepart, Sends, place_of};
 
 use crate::arriving::{number_of, receiver};
 use rb_base::{NodeName, NodeSet, Place, Rmu};
@@ -31,6 +31,14 @@ pub struct Departure {
     pub frame: u32,
     pub tick: u64,
     pub message: Message,
+}
+
+// What a node sends: at a time, in reference units, and with the header of a place.
+#[derive(Clone, Copy)]
+struct Transmission {
+    from: NodeName,
+    time: u64,
+    place: Place,
 }
 
 // The delay that stands in the row for the node with this number, if one does.
@@ -53,33 +61,48 @@ fn delay_in(row: &[u32], delays: &Delays, from: NodeName, i: u8, place: Place) -
     }
 }
 
-// What a node sends at a time comes to each of these nodes of the other kind, later by its delay.
+// The place that the message's header names.
+#[inline(always)]
+fn place_in(departure: &Departure) -> Place
+    ensures { result ≡ place_of departure.now }
+{
+    Place {
+        frame: departure.frame,
+        slot: departure.message.slot,
+        stage: departure.message.stage,
+    }
+}
+
+// A message that leaves at a time comes to each of these nodes of the other kind, later by its
+// delay.
 #[inline(never)]
 fn spread(
     agenda: &mut Agenda,
     delays: &Delays,
-    from: NodeName,
+    departure: &Departure,
     time: u64,
-    place: Place,
     bytes: &Spelling,
     running: u16,
 )
-    requires room { HaveRoom (other (kind_of from)) running agenda.old }
+    requires room { HaveRoom (other (kind_of departure.now.from)) running agenda.old }
     requires time { time < 2 ^ 53 }
-    ensures { agenda.new
-        ≡ lanes_with (other (kind_of from)) (coming_to delays.now from time place bytes.now)
+    ensures { agenda.new ≡ lanes_with (other (kind_of departure.now.from))
+        (coming_to delays.now (record { from = departure.now.from; time = time; place = place_of departure.now }) bytes.now)
         (has running) agenda.old }
 {
-    let row = delays.row(from, place);
-    let message = Arrival::of(0, number_of(from), *bytes);
-    match from {
+    let place = place_in(departure);
+    let row = delays.row(departure.from, place);
+    let message = Arrival::of(0, number_of(departure.from), *bytes);
+    match departure.from {
         NodeName::Biu(i) => {
-            let biu = NodeName::Biu(i);
-            spread_from(agenda, delays, biu, time, place, row, &message, running);
+            let from = NodeName::Biu(i);
+            let sent = Transmission { from, time, place };
+            spread_from(agenda, delays, sent, row, &message, running);
         }
         NodeName::Rmu(i) => {
-            let rmu = NodeName::Rmu(i);
-            spread_from(agenda, delays, rmu, time, place, row, &message, running);
+            let from = NodeName::Rmu(i);
+            let sent = Transmission { from, time, place };
+            spread_from(agenda, delays, sent, row, &message, running);
         }
     }
 }
@@ -90,27 +113,24 @@ fn spread(
 fn spread_from(
     agenda: &mut Agenda,
     delays: &Delays,
-    from: NodeName,
-    time: u64,
-    place: Place,
+    sent: Transmission,
     row: &[u32],
     message: &Arrival,
     running: u16,
 )
-    requires row { IsRow delays.now from place row.now }
-    requires sender { message.now.from ≡ number_of from }
-    requires room { HaveRoom (other (kind_of from)) running agenda.old }
-    requires time { time < 2 ^ 53 }
-    ensures { agenda.new
-        ≡ lanes_with (other (kind_of from)) (coming_to delays.now from time place message.now.bytes)
-        (has running) agenda.old }
+    requires row { IsRow delays.now sent.from sent.place row.now }
+    requires sender { message.now.from ≡ number_of sent.from }
+    requires room { HaveRoom (other (kind_of sent.from)) running agenda.old }
+    requires time { sent.time < 2 ^ 53 }
+    ensures { agenda.new ≡ lanes_with (other (kind_of sent.from))
+        (coming_to delays.now sent message.now.bytes) (has running) agenda.old }
 {
     let mut left = NodeSet::<Rmu>::from_bits(running);
     while let Some(id) = left.pop_first() {
         let i = id.index();
-        let node = receiver(from, i);
-        let delay = delay_in(row, delays, from, i, place);
-        agenda.push_like(node, time + u64::from(delay), message);
+        let node = receiver(sent.from, i);
+        let delay = delay_in(row, delays, sent.from, i, sent.place);
+        agenda.push_like(node, sent.time + u64::from(delay), message);
     }
 }
 
@@ -125,30 +145,11 @@ pub fn send(
     departure: &Departure,
     running: u16,
 )
-    requires tick { departure.now.tick ≤ 2 ^ 31 }
-    requires some_stage { 1 ≤ departure.now.message.stage }
-    requires most_stages { departure.now.message.stage ≤ 3 }
-    requires value { IsZeroUnlessWord departure.now.message.tag departure.now.message.value }
+    requires departure { CanDepart departure.now }
     requires room { HaveRoom (other (kind_of departure.now.from)) running agenda.old }
-    ensures lanes { agenda.new ≡ with_departure clock.now delays.now version departure.now running
-        agenda.old }
-    ensures world { (sc : Scenario) → (sites : Each Site)
-        → IsOfScenario sc clock.now delays.now version departure.now
-        → AreRunning (other (kind_of departure.now.from)) running sites
-        → HoldsSites sc.sizes agenda.old sites
-        → HoldsSites sc.sizes agenda.new (with_sent sc departure.now sites) }
+    ensures { Sends clock.now delays.now version departure.now running agenda.old agenda.new }
 {
-    let Departure {
-        from,
-        frame,
-        tick,
-        message,
-    } = *departure;
-    let bytes = Spelling::of_message(version, &message);
-    let place = Place {
-        frame,
-        slot: message.slot,
-        stage: message.stage,
-    };
-    spread(agenda, delays, from, clock.at(tick), place, &bytes, running);
+    let bytes = Spelling::of_message(version, &departure.message);
+    let time = clock.at(departure.tick);
+    spread(agenda, delays, departure, time, &bytes, running);
 }

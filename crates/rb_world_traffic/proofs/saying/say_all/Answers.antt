@@ -1,6 +1,6 @@
-use Rattle.std.proofs.Common.{◌≡◌, ◌∙◌, [], ap, sym}
+use Rattle.std.proofs.Common.{◌∙◌, ap, sym}
 use Rattle.rb_queue.specs.Waiting.{lane_of, with_lane}
-use Rattle.rb_world_traffic.specs.Saying.{all_brought, entries_at, with_arrivals}
+use Rattle.rb_world_traffic.specs.Saying.{entries_at, with_arrivals}
 use Rattle.rb_world_traffic.specs.Spans.{span_of}
 use Rattle.rb_world_traffic.proofs.Arrivals.{with-nothing}
 use Rattle.rb_world_traffic.proofs.Says.{none-for}

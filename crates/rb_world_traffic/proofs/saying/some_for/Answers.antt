@@ -1,7 +1,6 @@
-use Rattle.std.proofs.Common.{◌≡◌, ◌+◌, ◌∙◌, [], ◌∷◌, false, true, take, sym, ap, rules}
-use Rattle.std.specs.List.{list_any}
+use Rattle.std.proofs.Common.{◌∙◌, sym}
 use Rattle.std.proofs.lemmas.Bool.{or_from}
-use Rattle.rb_world_traffic.specs.Saying.{entries_at, is_for}
+use Rattle.rb_world_traffic.specs.Saying.{is_for}
 use Rattle.rb_world_traffic.proofs.Says.{some-more, some-there}
 use Rattle.rb_world_traffic.proofs.saying.some_for.Goals as goal
 

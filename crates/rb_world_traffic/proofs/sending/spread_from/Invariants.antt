@@ -7,7 +7,7 @@ use Rattle.rb_world_traffic.proofs.sending.spread_from.Given as goal
 
 abbrev pub invariant-loop-id : goal.invariant-loop-id
 invariant-loop-id l = record {
-  so_far : l.agenda ≡ lanes_with (other (kind_of l.from)) (coming_to l.delays l.from l.time l.place l.message.bytes) (those_gone l.running l.left) l.fn.agenda;
+  so_far : l.agenda ≡ lanes_with (other (kind_of l.sent.from)) (coming_to l.delays l.sent l.message.bytes) (those_gone l.running l.left) l.fn.agenda;
   fits : l.left < 2 ^ 16;
   within : (i : ℕ) → has l.left i ≡ true → has l.running i ≡ true;
 }
