@@ -1,7 +1,7 @@
 -- A lane with more arrivals.
 use Rattle.std.proofs.Common.{◌≡◌, ℕ, zero, suc, ◌+◌, ◌<◌, ◌≤◌, Bool, true, false, cond, Some, List, [], ◌∷◌, ◌++◌, All, filter, get_or, length, map, slice_get, take, refl, sym, ap, ◌∙◌, subst, arith, append_assoc, length-append}
 use Rattle.std.specs.Prelude.{unwrap_or, slice_set}
-use Rattle.std.specs.List.{cons_option, flat_map, range_with_len}
+use Rattle.std.specs.List.{cons_option, flat_map, list_any, range_with_len}
 use Rattle.std.proofs.lemmas.List.{append-nil, take_more}
 use Rattle.std.proofs.lemmas.List.Elements.{All-append, All-cons, All-nil, filter_map-append}
 use Rattle.std.proofs.lemmas.Option.{slice_get_past}
@@ -23,8 +23,8 @@ use Rattle.rb_world_agenda.specs.Holding.{HoldsSite, HoldsSites}
 use Rattle.rb_world_agenda.proofs.Changes.{holds-at}
 use Rattle.rb_world_agenda.proofs.Keeping.{has-with, lane-with}
 use Rattle.rb_world_traffic.specs.Arriving.{number_of}
-use Rattle.rb_world_traffic.proofs.Says.{brought-append}
-use Rattle.rb_world_traffic.specs.Saying.{all_brought, brought, entries_at, hears, is_said_in, with_arrivals}
+use Rattle.rb_world_traffic.proofs.Says.{brought-append, none-for, says-are}
+use Rattle.rb_world_traffic.specs.Saying.{AreFor, Brings, KeptSayings, SaysTo, all_brought, brought, entries_at, entries_to, hears, is_for, is_said_in, kept_of, senders_to, with_arrivals}
 
 -- Lanes.
 set-same : (xs : List Held) (i : ℕ) (x : Held) → i < length xs → x ≡ unwrap_or (slice_get xs i) (empty_lane 0) → slice_set xs i x ≡ xs
@@ -141,24 +141,44 @@ entries-more says places i n h is =
     ∙ ap (λ m. entries_at says (take i places) ++ cons_option (slice_get says m) []) (sym is)
 
 -- one entry more is gone through
-pub so-far-said : (sc : Scenario) (clock : Timeline) (span : Span) (lanes now new : Each Held) (to : NodeName) (says : List Say) (places : List ℕ) (i n : ℕ) (s : Say) → HasLane lanes to
-    → i < length places → n ≡ get_or places i 0 → slice_get says n ≡ Some s
-    → now ≡ with_lane to (with_arrivals (all_brought sc clock span (entries_at says (take i places))) (lane_of lanes to)) lanes
-    → new ≡ with_lane to (with_arrivals (all_brought sc clock span (s ∷ [])) (lane_of now to)) now
-    → new ≡ with_lane to (with_arrivals (all_brought sc clock span (entries_at says (take (i + 1) places))) (lane_of lanes to)) lanes
-so-far-said sc clock span lanes now new to says places i n s h within is at so_far more =
-    let before : List Say = entries_at says (take i places) in
-    let next : entries_at says (take (i + 1) places) ≡ before ++ s ∷ [] = entries-more says places i n within is ∙ ap (λ o. before ++ cons_option o []) at in
-    more ∙ with-both lanes now to (all_brought sc clock span before) (all_brought sc clock span (s ∷ [])) h so_far
+pub so-far-said : (kept : KeptSayings) (clock : Timeline) (span : Span) (lanes now new : Each Held) (to : NodeName) (places : List ℕ) (i n : ℕ) (s : Say) → HasLane lanes to
+    → i < length places → n ≡ get_or places i 0 → slice_get kept.says n ≡ Some s → Brings kept (entries_at kept.says (take i places)) clock to span lanes now
+    → Brings kept (s ∷ []) clock to span now new → Brings kept (entries_at kept.says (take (i + 1) places)) clock to span lanes new
+so-far-said kept clock span lanes now new to places i n s h within is at so_far more = λ sc kept_is.
+    let before : List Say = entries_at kept.says (take i places) in
+    let next : entries_at kept.says (take (i + 1) places) ≡ before ++ s ∷ [] = entries-more kept.says places i n within is ∙ ap (λ o. before ++ cons_option o []) at in
+    more sc kept_is ∙ with-both lanes now to (all_brought sc clock span before) (all_brought sc clock span (s ∷ [])) h (so_far sc kept_is)
     ∙ ap (λ cs. with_lane to (with_arrivals cs (lane_of lanes to)) lanes) (sym (brought-append sc clock span before (s ∷ [])) ∙ ap (all_brought sc clock span) (sym next))
 
 -- a number without an entry
-pub so-far-none : (sc : Scenario) (clock : Timeline) (span : Span) (lanes now : Each Held) (to : NodeName) (says : List Say) (places : List ℕ) (i n : ℕ)
-    → i < length places → n ≡ get_or places i 0 → length says ≤ n
-    → now ≡ with_lane to (with_arrivals (all_brought sc clock span (entries_at says (take i places))) (lane_of lanes to)) lanes
-    → now ≡ with_lane to (with_arrivals (all_brought sc clock span (entries_at says (take (i + 1) places))) (lane_of lanes to)) lanes
-so-far-none sc clock span lanes now to says places i n within is past so_far =
-    let before : List Say = entries_at says (take i places) in
-    let next : entries_at says (take (i + 1) places) ≡ before =
-    entries-more says places i n within is ∙ ap (λ o. before ++ cons_option o []) (slice_get_past says n past) ∙ append-nil before in
-    so_far ∙ ap (λ es. with_lane to (with_arrivals (all_brought sc clock span es) (lane_of lanes to)) lanes) (sym next)
+pub so-far-none : (kept : KeptSayings) (clock : Timeline) (span : Span) (lanes now : Each Held) (to : NodeName) (places : List ℕ) (i n : ℕ)
+    → i < length places → n ≡ get_or places i 0 → length kept.says ≤ n → Brings kept (entries_at kept.says (take i places)) clock to span lanes now
+    → Brings kept (entries_at kept.says (take (i + 1) places)) clock to span lanes now
+so-far-none kept clock span lanes now to places i n within is past so_far = λ sc kept_is.
+    let before : List Say = entries_at kept.says (take i places) in
+    let next : entries_at kept.says (take (i + 1) places) ≡ before =
+    entries-more kept.says places i n within is ∙ ap (λ o. before ++ cons_option o []) (slice_get_past kept.says n past) ∙ append-nil before in
+    so_far sc kept_is ∙ ap (λ es. with_lane to (with_arrivals (all_brought sc clock span es) (lane_of lanes to)) lanes) (sym next)
+
+-- entries that are for other windows
+pub brings-none : (kept : KeptSayings) (says : List Say) (clock : Timeline) (to : NodeName) (span : Span) (lanes : Each Held) → HasLane lanes to
+    → list_any (is_for span.place) says ≡ false → Brings kept says clock to span lanes lanes
+brings-none kept says clock to span lanes h none = λ sc kept_is.
+    sym (ap (λ cs. with_lane to (with_arrivals cs (lane_of lanes to)) lanes) (none-for sc clock span says none) ∙ with-nothing lanes to h)
+
+-- what the entries for the node bring is what is said to it
+pub says-to : (inside kept : KeptSayings) (clock : Timeline) (to : NodeName) (span : Span) (places : List ℕ) (before after : Each Held) → inside ≡ kept → HasLane before to
+    → AreFor kept.says to (senders_to kept.faults.sizes to) places → Brings inside (entries_at inside.says places) clock to span before after → SaysTo kept clock to span before after
+says-to inside kept clock to span places before after same h are brings = record {
+  lanes = lanes;
+  world = λ sc sites is clock_is holds. said-holds sc before after sites to span holds h (lanes sc is clock_is);
+}
+  where
+    lanes : (sc : Scenario) → kept ≡ kept_of sc → clock ≡ clock_of sc (kind_of to) (number_of to)
+        → after ≡ with_lane to (with_arrivals (says_in sc (kind_of to) (number_of to) span) (lane_of before to)) before
+    lanes sc is clock_is =
+        let entries : entries_at inside.says places ≡ entries_to to (senders_to sc.sizes to) sc.says =
+        ap (λ (k : KeptSayings). entries_at k.says places) same ∙ are.entries ∙ ap (λ (k : KeptSayings). entries_to to (senders_to k.faults.sizes to) k.says) is in
+        let all : all_brought sc clock span (entries_at inside.says places) ≡ says_in sc (kind_of to) (number_of to) span =
+        ap (all_brought sc clock span) entries ∙ ap (λ t. all_brought sc t span (entries_to to (senders_to sc.sizes to) sc.says)) clock_is ∙ sym (says-are sc to span) in
+        brings sc (same ∙ is) ∙ ap (λ cs. with_lane to (with_arrivals cs (lane_of before to)) before) all

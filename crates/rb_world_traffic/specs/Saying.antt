@@ -9,21 +9,22 @@ use Rattle.rb_base.specs.declared.values.Place.{Place}
 use Rattle.rb_rules.specs.declared.message.Version.{Version}
 use Rattle.rb_rules.specs.declared.say.Say.{Say}
 use Rattle.rb_rules.specs.Clock.{Timeline, time_of}
-use Rattle.rb_rules.specs.Goodness.{Scenario}
+use Rattle.rb_rules.specs.Book.{Each}
+use Rattle.rb_rules.specs.Goodness.{Scenario, clock_of}
 use Rattle.rb_rules.specs.Hearing.{Coming, Span, bytes_of}
 use Rattle.rb_rules.specs.Lawful.{is_node_good, kind_of}
 use Rattle.rb_rules.specs.Links.{covers, name_of, same_node, stands_for}
 use Rattle.rb_rules.specs.Slots.{count_of}
-use Rattle.rb_rules.specs.WorldStep.{Site, says_in}
-use Rattle.rb_queue.specs.Waiting.{Held}
-use Rattle.rb_world_onset.specs.Faults.{Faults, faults_of}
+use Rattle.rb_rules.specs.WorldStep.{Site, at_node, says_in}
+use Rattle.rb_queue.specs.Waiting.{Held, lane_of, with_lane}
+use Rattle.rb_world_agenda.specs.Holding.{HoldsSites}
+use Rattle.rb_world_onset.specs.Faults.{faults_of}
+use Rattle.rb_world_traffic.specs.declared.saying.Said.{Said}
 use Rattle.rb_world_traffic.specs.Arriving.{number_of}
 
 -- what is kept of a scenario: who is good where, how messages are spelled, and what is said
-pub record KeptSayings : Type 0 where
-  pub faults : Faults
-  pub version : Version
-  pub says : List Say
+abbrev pub KeptSayings : Type 0
+KeptSayings = Said
 
 abbrev pub kept_of : Scenario → KeptSayings
 kept_of sc = record { faults = faults_of sc; version = sc.plan.version; says = sc.says }
@@ -110,3 +111,16 @@ with_arrivals more lane = record lane { arrivals = lane.arrivals ++ more }
 -- what is said to a node in a window comes to it
 abbrev pub hears : Scenario → NodeName → Span → Site → Site
 hears sc name span s = record s { coming = s.coming ++ says_in sc (kind_of name) (number_of name) span }
+
+-- what is kept of a scenario and these entries have brought in a window to the node, which has this clock
+abbrev pub Brings : KeptSayings → List Say → Timeline → NodeName → Span → Each Held → Each Held → Type 0
+Brings kept says clock to span before after =
+    (sc : Scenario) → kept ≡ kept_of sc → after ≡ with_lane to (with_arrivals (all_brought sc clock span says) (lane_of before to)) before
+
+-- what is said to a node in a window has come to it, in its lane and in the world of each scenario of which this is kept and whose clock
+-- this is
+pub record SaysTo (kept : KeptSayings) (clock : Timeline) (to : NodeName) (span : Span) (before after : Each Held) : Type 0 where
+  pub lanes : (sc : Scenario) → kept ≡ kept_of sc → clock ≡ clock_of sc (kind_of to) (number_of to)
+      → after ≡ with_lane to (with_arrivals (says_in sc (kind_of to) (number_of to) span) (lane_of before to)) before
+  pub world : (sc : Scenario) (sites : Each Site) → kept ≡ kept_of sc → clock ≡ clock_of sc (kind_of to) (number_of to)
+      → HoldsSites sc.sizes before sites → HoldsSites sc.sizes after (at_node (kind_of to) (number_of to) (hears sc to span) sites)

@@ -1,21 +1,18 @@
 //! What nodes that are not good say.
-ghost use Rattle.std.specs.Prelude.{◌≡◌, ℕ, ◌+◌, ◌-◌, ◌<◌, ◌≤◌, ◌^◌, ◌∷◌, [], IfOk, IsTrue, length, min, take};
+ghost use Rattle.std.specs.Prelude.{◌≡◌, ◌+◌, ◌-◌, ◌<◌, ◌≤◌, ◌^◌, ◌∷◌, [], IfOk, length};
 ghost use Rattle.std.specs.List.{fold, list_any};
-ghost use Rattle.rb_rules.specs.Book.{Each};
 ghost use Rattle.rb_rules.specs.Clock.{time_of};
-ghost use Rattle.rb_rules.specs.Goodness.{Scenario, clock_of};
+ghost use Rattle.rb_rules.specs.Goodness.{Scenario};
 ghost use Rattle.rb_rules.specs.Hearing.{bytes_of, message_at};
-ghost use Rattle.rb_rules.specs.Lawful.{IsNodeOf, kind_of};
+ghost use Rattle.rb_rules.specs.Lawful.{IsNodeOf};
 ghost use Rattle.rb_rules.specs.Spelling.{IsZeroUnlessWord, spelling_of};
-ghost use Rattle.rb_rules.specs.WorldStep.{Site, at_node, says_in};
-ghost use Rattle.rb_queue.specs.Waiting.{HasLane, lane_of, spare_of, with_arrival, with_lane};
+ghost use Rattle.rb_queue.specs.Waiting.{HasLane, lane_of, spare_of};
 ghost use Rattle.rb_world_onset.specs.Faults.{faults_of};
-ghost use Rattle.rb_world_agenda.specs.Holding.{HoldsSites};
 ghost use Rattle.rb_world_traffic.specs.Arriving.{number_of};
-ghost use Rattle.rb_world_traffic.specs.Saying.{AreFor, all_brought, entries_at, entries_for, first_frame, hears, is_for, is_said_in, kept_of, last_frame, later_frame, most_to, senders_to, sooner_frame, with_arrivals};
+ghost use Rattle.rb_world_traffic.specs.Saying.{AreFor, Brings, SaysTo, entries_at, entries_for, first_frame, is_for, is_said_in, last_frame, later_frame, most_to, senders_to, sooner_frame};
 ghost use Rattle.rb_world_traffic.specs.Spans.{span_of};
 
-use crate::arriving::{arrive, number_of};
+use crate::arriving::number_of;
 use crate::entries::{Numbers, covers, lists_for};
 use arrayvec::ArrayVec;
 use rb_base::{NodeName, OutOfMemory, Place, Shape};
@@ -36,12 +33,18 @@ pub struct Span {
     pub last: u64,
 }
 
+// Who is good where, how messages are spelled, and what is said.
+#[derive(Drop)]
+struct Said {
+    faults: Onsets,
+    version: Version,
+    says: SayList,
+}
+
 /// What nodes that are not good say, by receiver.
 #[derive(Drop)]
 pub struct Sayings {
-    onsets: Onsets,
-    version: Version,
-    says: SayList,
+    said: Said,
     to_bius: Vec<Numbers>,
     to_rmus: Vec<Numbers>,
 }
@@ -51,13 +54,24 @@ impl Model for Sayings {
 
     ghost Value = { KeptSayings };
 
-    ghost view = { λ s. record { faults = s.onsets; version = s.version; says = s.says } };
+    ghost view = { λ s. s.said };
 
-    ghost invariant = { λ s. AreIndexed s.onsets.sizes s.says s.to_bius.items s.to_rmus.items };
+    ghost invariant = { λ s. AreIndexed s.said.faults.sizes s.said.says s.to_bius.items
+        s.to_rmus.items };
+}
+
+// The bytes with room for as many as an arrival may have.
+fn copied(bytes: &[u8]) -> ArrayVec<u8, 32>
+    requires { length bytes.now ≤ 32 }
+    ensures { result.items ≡ bytes.now }
+{
+    let mut copy = ArrayVec::new();
+    let _ = copy.try_extend_from_slice(bytes);
+    copy
 }
 
 // A message with the header of a place, as bytes. The tail has no stage of its own in messages.
-fn spelled(version: Version, place: Place, tag: Tag, value: u32) -> ArrayVec<u8, 12>
+fn spelled(version: Version, place: Place, tag: Tag, value: u32) -> ArrayVec<u8, 32>
     requires stage { 1 ≤ place.stage }
     requires value { IsZeroUnlessWord tag value }
     ensures { result.items ≡ spelling_of version (message_at place tag value) }
@@ -69,39 +83,19 @@ fn spelled(version: Version, place: Place, tag: Tag, value: u32) -> ArrayVec<u8,
         stage: place.stage.min(3),
         value,
     };
-    encode(version, &message)
+    copied(&encode(version, &message))
 }
 
-// What an entry says in a window of this place comes to a node at a time.
-fn bring(
-    agenda: &mut Agenda,
-    to: NodeName,
-    time: u64,
-    from: u8,
-    version: Version,
-    place: Place,
-    content: &Content,
-)
-    requires lane { HasLane agenda.old to }
-    requires spare { 1 ≤ spare_of (lane_of agenda.old to) }
-    requires stage { 1 ≤ place.stage }
-    ensures { agenda.new
-        ≡ with_lane to (with_arrival (record { time = time; from = from; bytes = bytes_of version place content.now }) (lane_of agenda.old to)) agenda.old }
+// What an entry says in a window of this place, as bytes.
+fn bytes_said(version: Version, place: Place, content: &Content) -> ArrayVec<u8, 32>
+    requires { 1 ≤ place.stage }
+    ensures { result.items ≡ bytes_of version place content.now }
 {
     match content {
-        Content::Word(word) => {
-            let bytes = spelled(version, place, Tag::Word, *word);
-            arrive(agenda, to, time, from, &bytes)
-        }
-        Content::Fault => {
-            let bytes = spelled(version, place, Tag::Fault, 0);
-            arrive(agenda, to, time, from, &bytes)
-        }
-        Content::Sync => {
-            let bytes = spelled(version, place, Tag::Sync, 0);
-            arrive(agenda, to, time, from, &bytes)
-        }
-        Content::Raw(bytes) => arrive(agenda, to, time, from, bytes),
+        Content::Word(word) => spelled(version, place, Tag::Word, *word),
+        Content::Fault => spelled(version, place, Tag::Fault, 0),
+        Content::Sync => spelled(version, place, Tag::Sync, 0),
+        Content::Raw(bytes) => copied(bytes),
     }
 }
 
@@ -126,28 +120,21 @@ fn time_said(clock: &Clock, span: &Span, say: &Say) -> u64
 }
 
 // What an entry brings to a node in a window comes to it.
-fn say_one(
-    agenda: &mut Agenda,
-    say: &Say,
-    onsets: &Onsets,
-    version: Version,
-    clock: &Clock,
-    to: NodeName,
-    span: &Span,
-)
+fn say_one(agenda: &mut Agenda, said: &Said, say: &Say, clock: &Clock, to: NodeName, span: &Span)
     requires lane { HasLane agenda.old to }
     requires spare { 1 ≤ spare_of (lane_of agenda.old to) }
     requires stage { 1 ≤ span.now.place.stage }
     requires first { span.now.first ≤ 2 ^ 31 }
-    ensures lanes { (sc : Scenario) → onsets.now ≡ faults_of sc → version ≡ sc.plan.version
-        → agenda.new ≡ with_lane to (with_arrivals (all_brought sc clock.now (span_of span.now) (say.now ∷ [])) (lane_of agenda.old to)) agenda.old }
+    ensures lanes { Brings said.now (say.now ∷ []) clock.now to (span_of span.now) agenda.old
+        agenda.new }
     ensures lane { HasLane agenda.new to }
     ensures spare { spare_of (lane_of agenda.old to) ≤ spare_of (lane_of agenda.new to) + 1 }
 {
-    if is_said_in(onsets, span, say) {
+    if is_said_in(&said.faults, span, say) {
         let time = time_said(clock, span, say);
         let from = number_of(say.from);
-        bring(agenda, to, time, from, version, span.place, &say.content);
+        let bytes = bytes_said(said.version, span.place, &say.content);
+        agenda.push_arrival(to, time, from, bytes);
     }
 }
 
@@ -155,10 +142,8 @@ fn say_one(
 #[inline(never)]
 fn say_each(
     agenda: &mut Agenda,
-    says: &SayList,
+    said: &Said,
     places: &[u16],
-    onsets: &Onsets,
-    version: Version,
     clock: &Clock,
     to: NodeName,
     span: &Span,
@@ -167,13 +152,13 @@ fn say_each(
     requires spare { length places.now ≤ spare_of (lane_of agenda.old to) }
     requires stage { 1 ≤ span.now.place.stage }
     requires first { span.now.first ≤ 2 ^ 31 }
-    ensures { (sc : Scenario) → onsets.now ≡ faults_of sc → version ≡ sc.plan.version
-        → agenda.new ≡ with_lane to (with_arrivals (all_brought sc clock.now (span_of span.now) (entries_at says.now places.now)) (lane_of agenda.old to)) agenda.old }
+    ensures { Brings said.now (entries_at said.now.says places.now) clock.now to (span_of span.now)
+        agenda.old agenda.new }
 {
     for number in places {
         let number = usize::from(*number);
-        if number < says.len() {
-            say_one(agenda, says.get(number), onsets, version, clock, to, span);
+        if number < said.says.len() {
+            say_one(agenda, said, said.says.get(number), clock, to, span);
         }
     }
 }
@@ -229,31 +214,6 @@ fn some_for(says: &SayList, places: &[u16], place: Place) -> bool
     false
 }
 
-// The same. As a rule none of them is for the window.
-#[inline(always)]
-fn say_all(
-    agenda: &mut Agenda,
-    says: &SayList,
-    places: &[u16],
-    onsets: &Onsets,
-    version: Version,
-    clock: &Clock,
-    to: NodeName,
-    span: &Span,
-)
-    requires lane { HasLane agenda.old to }
-    requires spare { length places.now ≤ spare_of (lane_of agenda.old to) }
-    requires stage { 1 ≤ span.now.place.stage }
-    requires first { span.now.first ≤ 2 ^ 31 }
-    ensures { (sc : Scenario) → onsets.now ≡ faults_of sc → version ≡ sc.plan.version
-        → agenda.new ≡ with_lane to (with_arrivals (all_brought sc clock.now (span_of span.now) (entries_at says.now places.now)) (lane_of agenda.old to)) agenda.old }
-{
-    if !some_for(says, places, span.place) {
-        return;
-    }
-    say_each(agenda, says, places, onsets, version, clock, to, span);
-}
-
 impl Sayings {
     /// What the entries say on a bus of this shape, whose nodes have these onsets. `says` are at
     /// most 65536 entries. All memory is taken here.
@@ -271,10 +231,13 @@ impl Sayings {
     {
         let to_bius = lists_for(alloc, &says, NodeName::Rmu(0), shape.biu(), shape.rmu())?;
         let to_rmus = lists_for(alloc, &says, NodeName::Biu(0), shape.rmu(), shape.biu())?;
-        Ok(Sayings {
-            onsets,
+        let said = Said {
+            faults: onsets,
             version,
             says,
+        };
+        Ok(Sayings {
+            said,
             to_bius,
             to_rmus,
         })
@@ -306,7 +269,7 @@ impl Sayings {
         ensures first { result.0 ≡ first_frame (entries_for self.now to) }
         ensures last { result.1 ≡ last_frame (entries_for self.now to) }
     {
-        frames_of(&self.says, self.places(to))
+        frames_of(&self.said.says, self.places(to))
     }
 
     /// What nodes that are not good say to the node in a window comes to it: by sender, and then in
@@ -319,23 +282,12 @@ impl Sayings {
         requires room { most_to self.now to ≤ spare_of (lane_of agenda.old to) }
         requires stage { 1 ≤ span.now.place.stage }
         requires first { span.now.first ≤ 2 ^ 31 }
-        ensures lanes { (sc : Scenario) → self.now ≡ kept_of sc
-            → clock.now ≡ clock_of sc (kind_of to) (number_of to)
-            → agenda.new ≡ with_lane to (with_arrivals (says_in sc (kind_of to) (number_of to) (span_of span.now)) (lane_of agenda.old to)) agenda.old }
-        ensures world { (sc : Scenario) → (sites : Each Site) → self.now ≡ kept_of sc
-            → clock.now ≡ clock_of sc (kind_of to) (number_of to)
-            → HoldsSites sc.sizes agenda.old sites
-            → HoldsSites sc.sizes agenda.new (at_node (kind_of to) (number_of to) (hears sc to (span_of span.now)) sites) }
+        ensures { SaysTo self.now clock.now to (span_of span.now) agenda.old agenda.new }
     {
-        say_all(
-            agenda,
-            &self.says,
-            self.places(to),
-            &self.onsets,
-            self.version,
-            clock,
-            to,
-            span,
-        );
+        // As a rule no entry is for the window.
+        let places = self.places(to);
+        if some_for(&self.said.says, places, span.place) {
+            say_each(agenda, &self.said, places, clock, to, span);
+        }
     }
 }

@@ -1,18 +1,10 @@
 //! Messages on their way.
-ghost use Rattle.std.specs.Prelude.{◌≡◌, ℕ, ◌+◌, ◌<◌, ◌≤◌, ◌^◌, ◌&&◌, true, nat_lt, length, slice_get};
+ghost use Rattle.std.specs.Prelude.{◌≡◌, ◌<◌, ◌^◌, slice_get};
 ghost use Rattle.rb_base.specs.Nodes.{has, other};
-ghost use Rattle.rb_rules.specs.Book.{of_kind};
-ghost use Rattle.rb_rules.specs.Clock.{time_of};
 ghost use Rattle.rb_rules.specs.Lawful.{kind_of};
 ghost use Rattle.rb_rules.specs.Links.{delay_of, name_of};
 ghost use Rattle.rb_link.specs.Rows.{IsRow};
-ghost use Rattle.rb_queue.specs.Waiting.{HasLane, lane_of, spare_of, with_arrival, with_lane};
-ghost use Rattle.rb_rules.specs.Book.{Each};
-ghost use Rattle.rb_rules.specs.Goodness.{Scenario};
-ghost use Rattle.rb_rules.specs.Spelling.{IsZeroUnlessWord};
-ghost use Rattle.rb_rules.specs.WorldStep.{Site};
-ghost use Rattle.rb_world_agenda.specs.Holding.{HoldsSites};
-ghost use Rattle.rb_world_traffic.specs.Arriving.{AreRunning, HaveRoom, coming_to, lanes_with, number_of};
+ghost use Rattle.rb_world_traffic.specs.Arriving.{HaveRoom, coming_to, lanes_with, number_of};
 ghost use Rattle.rb_world_traffic.specs.Departing.{CanDepart, Sends, place_of};
 
 use crate::arriving::{number_of, receiver};

@@ -1,14 +1,14 @@
-use Rattle.std.proofs.Common.{◌<◌, ◌≤◌, ◌+◌, arith, length, subst, sym, ap, ◌∙◌}
+use Rattle.std.proofs.Common.{◌<◌, ◌≤◌, ◌+◌, arith, length, subst, sym, ◌∙◌}
 use Rattle.rb_base.proofs.Plain.{take-all}
-use Rattle.rb_queue.specs.Waiting.{HasLane, lane_of, spare_of, with_lane}
-use Rattle.rb_world_traffic.specs.Saying.{all_brought, entries_at, with_arrivals}
+use Rattle.rb_queue.specs.Waiting.{HasLane, lane_of, spare_of}
+use Rattle.rb_world_traffic.specs.Saying.{Brings, entries_at}
 use Rattle.rb_world_traffic.specs.Spans.{span_of}
 use Rattle.rb_world_traffic.proofs.Arrivals.{so-far-none, so-far-said, with-nothing}
 use Rattle.rb_world_traffic.proofs.saying.say_each.Goals as goal
 use Rattle.rb_world_traffic.proofs.saying.say_each.Goals.{then-number-len, else-number-len}
 
 pub loop-number-init : goal.loop-number-init
-loop-number-init c = record { lane = c.requires.lane; spare = omega arith; so_far = λ sc faults version. sym (with-nothing c.args.agenda.now c.args.to c.requires.lane) }
+loop-number-init c = record { lane = c.requires.lane; spare = omega arith; so_far = λ sc is. sym (with-nothing c.args.agenda.now c.args.to c.requires.lane) }
 
 pub say_one-requires-clause-spare : goal.say_one-requires-clause-spare
 say_one-requires-clause-spare c =
@@ -29,27 +29,25 @@ loop-number-preserved c =
           record {
             lane = subst (λ x. HasLane x c.args.to) (sym w.agenda-is) w.say_one.ensures.lane;
             spare = subst (λ x. spare_of (lane_of c.args.agenda.now c.args.to) ≤ spare_of (lane_of x c.args.to) + (i + 1)) (sym w.agenda-is) all;
-            so_far = λ sc faults version.
-                so-far-said sc c.args.clock.now (span_of c.args.span.now) c.args.agenda.now c.loop-number.agenda c.if-number-len.agenda c.args.to c.args.says.now c.args.places.now i n
-                w.get.result.now c.requires.lane c.loop-number-test.true c.from-number.ensures w.get.ensures (c.loop-number.invariant.so_far sc faults version)
-                (w.agenda-is ∙ w.say_one.ensures.lanes sc faults version);
+            so_far = so-far-said c.args.said.now c.args.clock.now (span_of c.args.span.now) c.args.agenda.now c.loop-number.agenda c.if-number-len.agenda c.args.to c.args.places.now i n
+                w.get.result.now c.requires.lane c.loop-number-test.true c.from-number.ensures w.get.ensures c.loop-number.invariant.so_far
+                (λ sc is. w.agenda-is ∙ w.say_one.ensures.lanes sc is);
           }
       | else-number-len w ↦
           let all : spare_of (lane_of c.args.agenda.now c.args.to) ≤ spare_of (lane_of c.loop-number.agenda c.args.to) + (i + 1) = omega arith in
-          let past : length c.args.says.now ≤ n = omega (arith, w.if-number-len.false, c.len.ensures) in
+          let past : length c.args.said.now.says ≤ n = omega (arith, w.if-number-len.false, c.len.ensures) in
           record {
             lane = subst (λ x. HasLane x c.args.to) (sym w.agenda-is) c.loop-number.invariant.lane;
             spare = subst (λ x. spare_of (lane_of c.args.agenda.now c.args.to) ≤ spare_of (lane_of x c.args.to) + (i + 1)) (sym w.agenda-is) all;
-            so_far = λ sc faults version.
+            so_far = λ sc is.
                 w.agenda-is
-                ∙ so-far-none sc c.args.clock.now (span_of c.args.span.now) c.args.agenda.now c.loop-number.agenda c.args.to c.args.says.now c.args.places.now i n c.loop-number-test.true
-                c.from-number.ensures past (c.loop-number.invariant.so_far sc faults version);
+                ∙ so-far-none c.args.said.now c.args.clock.now (span_of c.args.span.now) c.args.agenda.now c.loop-number.agenda c.args.to c.args.places.now i n c.loop-number-test.true
+                c.from-number.ensures past c.loop-number.invariant.so_far sc is;
           }
     ]
 
 pub returns : goal.returns
 returns c =
     let all = take-all c.args.places.now c.loop-number.number-index (omega arith) in
-    λ sc faults version.
-    c.loop-number.invariant.so_far sc faults version
-    ∙ ap (λ ps. with_lane c.args.to (with_arrivals (all_brought sc c.args.clock.now (span_of c.args.span.now) (entries_at c.args.says.now ps)) (lane_of c.args.agenda.now c.args.to)) c.args.agenda.now) all
+    subst (λ ps. Brings c.args.said.now (entries_at c.args.said.now.says ps) c.args.clock.now c.args.to (span_of c.args.span.now) c.args.agenda.now c.loop-number.agenda) all
+    c.loop-number.invariant.so_far
