@@ -3,7 +3,6 @@ use Rattle.std.proofs.Common.{◌≡◌, ℕ, zero, suc, ◌+◌, ◌<◌, ◌�
 use Rattle.std.specs.Prelude.{is_some, option_to_list}
 use Rattle.std.proofs.lemmas.List.{append_assoc, take_more, length-append, length-take, take-append-drop}
 use Rattle.std.proofs.lemmas.List.Elements.{filter_map-append}
-use Rattle.rb_base.specs.Nodes.{has}
 use Rattle.rb_rules.specs.Book.{Row, map_from}
 use Rattle.rb_rules.specs.ExactStage.{present}
 use Rattle.rb_world_book.specs.declared.told.Told.{Told}

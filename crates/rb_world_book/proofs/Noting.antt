@@ -202,6 +202,21 @@ noted sc kind m g h node t sites after saw is inside most holds rows sights begi
     unseen i j past true = nobody j past
     unseen i j past false = holds.within i j past
 
+-- a node has told this, and it is noted whether it is awaited still
+pub told-noted : {K : Type 0} (before told after : Group K) (node : ℕ) (m : Milestone) (t : Told) → node < length before.told → told ≡ record before { told = set before.told node t }
+    → after ≡ record told { waiting = set_of (λ i. if i == node then has told.good node && not (has_told m (told_at told.told node)) else has told.waiting i) }
+    → IsNoted before after node m t
+told-noted before told after node m t there told_is after_is =
+    subst (λ g. IsNoted before g node m t) (sym after_is)
+    (subst (λ g. IsNoted before (record g { waiting = set_of (λ i. if i == node then has g.good node && not (has_told m (told_at g.told node)) else has g.waiting i) }) node m t) (sym told_is)
+    (record {
+      told = refl;
+      good = refl;
+      lasting = refl;
+      counted = refl;
+      waiting = ap (λ x. set_of (λ i. if i == node then has before.good node && not (has_told m x) else has before.waiting i)) (get_or-set_same before.told node t no_told there);
+    }))
+
 -- a node closes a stage
 pub row-noted : {K : Type 0} (sc : Scenario) (kind : Side) (m : Milestone) (g h : Group K) (node : ℕ) (t : Told) (row : Row) (saw : ℕ → See) (change : Site → Site) (sites : Each Site)
     → IsNoted g h node m t → node < count_of kind sc.sizes → count_of kind sc.sizes ≤ 16 → HoldsKind sc kind m g sites

@@ -20,7 +20,7 @@ ghost use Rattle.rb_world_book.specs.Waiting.{found_of, line_of, node_line_of, p
 
 use crate::group::{Group, all_but};
 use crate::milestone::{Milestone, Way};
-use crate::told::{Begin, same_place};
+use crate::told::{Begin, TrustedNodes, same_place};
 use crate::turn::{FrameRecord, SlotRecord, Turn};
 use crate::walks::{add_node_lines, first_trusted, port_lines, slot_lines};
 use arrayvec::ArrayVec;
@@ -269,10 +269,11 @@ impl Book {
         if closed.place.stage == 4 {
             return;
         }
+        let trusted = TrustedNodes { biu, rmu };
         if is_at(self.upcoming, closed.place) {
-            self.close_upcoming(node, closed, times, biu, rmu);
+            self.close_upcoming(node, closed, times, trusted);
         } else {
-            self.close_other(node, closed, times, biu, rmu);
+            self.close_other(node, closed, times, trusted);
         }
     }
 
@@ -340,8 +341,7 @@ impl Book {
         node: NodeName,
         closed: &Closed,
         times: &[u64; 16],
-        biu: NodeSet<Biu>,
-        rmu: NodeSet<Rmu>,
+        trusted: TrustedNodes,
     )
         requires node { number_in node < count_for node self.old.shape }
         requires sources { (j : ℕ) → count_of (other (side_in node)) self.old.shape ≤ j
@@ -349,21 +349,19 @@ impl Book {
         requires stage { closed.now.place.stage ≢ 4 }
         requires upcoming { is_at self.old.upcoming closed.now.place ≡ true }
         ensures noted { (sc : Scenario) (w : World) → Holds sc self.old w
-            → Holds sc self.new (changed_at node (with_row closed.now.place.stage (row_shown (number_in node) closed.now times.now biu rmu)) w) }
+            → Holds sc self.new (changed_at node (with_row closed.now.place.stage (row_shown (number_in node) closed.now times.now trusted.biu trusted.rmu)) w) }
         ensures shape { self.new.shape ≡ self.old.shape }
     {
         match node {
             NodeName::Biu(i) => {
                 let _bius = self.shape.biu();
                 let counted = self.rmus.counted;
-                self.bius
-                    .close_upcoming(i, closed, times, counted, biu, rmu);
+                self.bius.close_upcoming(i, closed, times, counted, trusted);
             }
             NodeName::Rmu(i) => {
                 let _rmus = self.shape.rmu();
                 let counted = self.bius.counted;
-                self.rmus
-                    .close_upcoming(i, closed, times, counted, biu, rmu);
+                self.rmus.close_upcoming(i, closed, times, counted, trusted);
             }
         }
     }
@@ -375,15 +373,14 @@ impl Book {
         node: NodeName,
         closed: &Closed,
         times: &[u64; 16],
-        biu: NodeSet<Biu>,
-        rmu: NodeSet<Rmu>,
+        trusted: TrustedNodes,
     )
         requires node { number_in node < count_for node self.old.shape }
         requires sources { (j : ℕ) → count_of (other (side_in node)) self.old.shape ≤ j
             → get_or closed.now.sees j Nothing ≡ Nothing }
         requires stage { closed.now.place.stage ≢ 4 }
         ensures noted { (sc : Scenario) (w : World) → Holds sc self.old w
-            → Holds sc self.new (changed_at node (with_row closed.now.place.stage (row_shown (number_in node) closed.now times.now biu rmu)) w) }
+            → Holds sc self.new (changed_at node (with_row closed.now.place.stage (row_shown (number_in node) closed.now times.now trusted.biu trusted.rmu)) w) }
         ensures shape { self.new.shape ≡ self.old.shape }
     {
         let upcoming = self.upcoming;
@@ -391,13 +388,13 @@ impl Book {
         match node {
             NodeName::Biu(i) => {
                 let counted: NodeSet<Rmu> = NodeSet::first(rmus);
-                self.bius
-                    .close(i, upcoming, closed, times, counted, biu, rmu);
+                self.bius.close(i, closed, times, counted, trusted);
+                self.bius.note(i, upcoming);
             }
             NodeName::Rmu(i) => {
                 let counted: NodeSet<Biu> = NodeSet::first(bius);
-                self.rmus
-                    .close(i, upcoming, closed, times, counted, biu, rmu);
+                self.rmus.close(i, closed, times, counted, trusted);
+                self.rmus.note(i, upcoming);
             }
         }
     }

@@ -1,5 +1,5 @@
 //! What the nodes of one kind have told.
-ghost use Rattle.std.specs.Prelude.{◌≡◌, ◌<◌, ◌≤◌, ℕ, true, false, nat_lt, not, ◌&&◌, ◌==◌, replicate, if◌then◌else◌};
+ghost use Rattle.std.specs.Prelude.{◌≡◌, ◌<◌, ◌≤◌, ℕ, true, false, nat_lt, not, ◌&&◌, ◌==◌, replicate, slice_set, if◌then◌else◌};
 ghost use Rattle.rb_base.specs.Nodes.{has, set_of};
 ghost use Rattle.rb_world_book.specs.Changing.{line_from};
 ghost use Rattle.rb_world_book.specs.declared.milestone.Milestone.{Milestone};
@@ -8,9 +8,9 @@ ghost use Rattle.rb_world_book.specs.Telling.{fresh_told, has_told, is_at, told_
 ghost use Rattle.rb_world_book.specs.Waiting.{all_but, waiting_for, was_taken, was_unlike};
 
 use crate::milestone::Milestone;
-use crate::told::{Begin, Told};
+use crate::told::{Begin, Told, TrustedNodes};
 use crate::walks::{sights_of, waiting_for, with_or_without};
-use rb_base::{Biu, NodeSet, Rmu};
+use rb_base::NodeSet;
 use rb_judge::StageSets;
 use rb_rules::Closed;
 
@@ -78,17 +78,15 @@ impl<K: Copy> Group<K> {
         self.waiting = self.good;
     }
 
-    // The node has told something more.
+    /// The node has told something more.
     #[inline(never)]
-    fn note(&mut self, node: u8, upcoming: Milestone)
+    pub(crate) fn note(&mut self, node: u8, upcoming: Milestone)
         requires { node < 16 }
-        ensures told { self.new.told ≡ self.old.told }
-        ensures good { self.new.good ≡ self.old.good }
-        ensures lasting { self.new.lasting ≡ self.old.lasting }
-        ensures counted { self.new.counted ≡ self.old.counted }
-        ensures waiting { self.new.waiting ≡ set_of (λ i. if i == node
-            then (has self.old.good node && not (has_told upcoming (told_at self.old.told node)))
-            else has self.old.waiting i) }
+        ensures { self.new ≡ record self.old {
+          waiting = set_of (λ i. if i == node
+              then (has self.old.good node && not (has_told upcoming (told_at self.old.told node)))
+              else has self.old.waiting i);
+        } }
     {
         let has_told = self.told[usize::from(node)].has_told(upcoming);
         let is_awaited = self.good.has(node) && !has_told;
@@ -104,26 +102,27 @@ impl<K: Copy> Group<K> {
         self.waiting = with_or_without(self.waiting, node, false);
     }
 
-    /// A node closes a stage. What it saw is kept of the sources of which that counts.
+    /// A node closes a stage. What it saw is kept of the sources of which that counts, and it is
+    /// still to be noted that it has told something more.
     pub(crate) fn close<S: Copy>(
         &mut self,
         node: u8,
-        upcoming: Milestone,
         closed: &Closed,
         times: &[u64; 16],
         counted: NodeSet<S>,
-        biu: NodeSet<Biu>,
-        rmu: NodeSet<Rmu>,
+        trusted: TrustedNodes,
     )
         requires { node < 16 }
-        ensures { IsNoted self.old self.new node upcoming
-            (told_closed counted closed.now times.now biu rmu (line_from node closed.now.delivered) (told_at self.old.told node)) }
+        ensures { self.new ≡ record self.old {
+          told = slice_set self.old.told node
+              (told_closed counted closed.now times.now trusted.biu trusted.rmu
+              (line_from node closed.now.delivered) (told_at self.old.told node));
+        } }
     {
-        self.told[usize::from(node)].close(node, closed, times, counted, biu, rmu);
-        self.note(node, upcoming);
+        self.told[usize::from(node)].close(node, closed, times, counted, trusted);
     }
 
-    /// The same, where the stage is the upcoming milestone.
+    /// A node closes the stage that is the upcoming milestone.
     #[inline(always)]
     pub(crate) fn close_upcoming<S: Copy>(
         &mut self,
@@ -131,15 +130,15 @@ impl<K: Copy> Group<K> {
         closed: &Closed,
         times: &[u64; 16],
         counted: NodeSet<S>,
-        biu: NodeSet<Biu>,
-        rmu: NodeSet<Rmu>,
+        trusted: TrustedNodes,
     )
         requires { node < 16 }
         ensures { (upcoming : Milestone) → is_at upcoming closed.now.place ≡ true
             → IsNoted self.old self.new node upcoming
-            (told_closed counted closed.now times.now biu rmu (line_from node closed.now.delivered) (told_at self.old.told node)) }
+            (told_closed counted closed.now times.now trusted.biu trusted.rmu
+            (line_from node closed.now.delivered) (told_at self.old.told node)) }
     {
-        self.told[usize::from(node)].close(node, closed, times, counted, biu, rmu);
+        self.told[usize::from(node)].close(node, closed, times, counted, trusted);
         self.strike(node);
     }
 

@@ -20,6 +20,13 @@ pub struct Begin {
     pub port: PortLine,
 }
 
+/// The nodes that a node trusts.
+#[derive(Clone, Copy)]
+pub struct TrustedNodes {
+    pub biu: NodeSet<Biu>,
+    pub rmu: NodeSet<Rmu>,
+}
+
 /// What a node told last, of the stages and of the frames.
 #[derive(Clone, Copy)]
 pub struct Told {
@@ -128,17 +135,16 @@ impl Told {
         closed: &Closed,
         times: &[u64; 16],
         counted: NodeSet<S>,
-        biu: NodeSet<Biu>,
-        rmu: NodeSet<Rmu>,
+        trusted: TrustedNodes,
     )
-        ensures { self.new ≡ told_closed counted closed.now times.now biu rmu
+        ensures { self.new ≡ told_closed counted closed.now times.now trusted.biu trusted.rmu
             (line_from i closed.now.delivered) self.old }
     {
         self.has_closed = true;
         self.place = closed.place;
         keep_seen(counted, &closed.sees, times, &mut self.sees);
-        self.biu = biu.bits();
-        self.rmu = rmu.bits();
+        self.biu = trusted.biu.bits();
+        self.rmu = trusted.rmu.bits();
         keep_line(i, closed.delivered, &mut self.line);
     }
 

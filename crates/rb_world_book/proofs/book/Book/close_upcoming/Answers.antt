@@ -19,8 +19,8 @@ returns-in-Biu-clause-noted c = λ sc w h.
     subst (λ n. (j : ℕ) → count_of (other (side_in n)) c.args.self.now.shape ≤ j → get_or closed.sees j Nothing ≡ Nothing) c.in-Biu.is c.requires.sources in
     let last = others-last sc Rmu c.args.self.now.upcoming closed.place c.args.self.now.rmus w.sites c.requires.upcoming h.fits.is_shape.most_rmus h.rmus in
     subst (λ n. Holds sc (record c.args.self.now { bius = c.close_upcoming.new.self })
-    (changed_at n (with_row closed.place.stage (row_shown (number_in n) closed c.args.times.now c.args.biu c.args.rmu)) w)) (sym c.in-Biu.is)
-    (biu-closed sc c.args.self.now w c.close_upcoming.new.self i c.args.self.now.rmus.counted closed c.args.times.now c.args.biu c.args.rmu (c.close_upcoming.ensures c.args.self.now.upcoming c.requires.upcoming) here unseen stage last h)
+    (changed_at n (with_row closed.place.stage (row_shown (number_in n) closed c.args.times.now c.args.trusted.biu c.args.trusted.rmu)) w)) (sym c.in-Biu.is)
+    (biu-closed sc c.args.self.now w c.close_upcoming.new.self i c.args.self.now.rmus.counted closed c.args.times.now c.args.trusted.biu c.args.trusted.rmu (c.close_upcoming.ensures c.args.self.now.upcoming c.requires.upcoming) here unseen stage last h)
 
 pub returns-in-Rmu-clause-noted : goal.returns-in-Rmu-clause-noted
 returns-in-Rmu-clause-noted c = λ sc w h.
@@ -32,5 +32,5 @@ returns-in-Rmu-clause-noted c = λ sc w h.
     subst (λ n. (j : ℕ) → count_of (other (side_in n)) c.args.self.now.shape ≤ j → get_or closed.sees j Nothing ≡ Nothing) c.in-Rmu.is c.requires.sources in
     let last = others-last sc Biu c.args.self.now.upcoming closed.place c.args.self.now.bius w.sites c.requires.upcoming h.fits.is_shape.most_bius h.bius in
     subst (λ n. Holds sc (record c.args.self.now { rmus = c.close_upcoming-in-Rmu.new.self })
-    (changed_at n (with_row closed.place.stage (row_shown (number_in n) closed c.args.times.now c.args.biu c.args.rmu)) w)) (sym c.in-Rmu.is)
-    (rmu-closed sc c.args.self.now w c.close_upcoming-in-Rmu.new.self i c.args.self.now.bius.counted closed c.args.times.now c.args.biu c.args.rmu (c.close_upcoming-in-Rmu.ensures c.args.self.now.upcoming c.requires.upcoming) here unseen stage last h)
+    (changed_at n (with_row closed.place.stage (row_shown (number_in n) closed c.args.times.now c.args.trusted.biu c.args.trusted.rmu)) w)) (sym c.in-Rmu.is)
+    (rmu-closed sc c.args.self.now w c.close_upcoming-in-Rmu.new.self i c.args.self.now.bius.counted closed c.args.times.now c.args.trusted.biu c.args.trusted.rmu (c.close_upcoming-in-Rmu.ensures c.args.self.now.upcoming c.requires.upcoming) here unseen stage last h)
