@@ -96,6 +96,23 @@ pub record IsWindowOf (me : Side) (v : Seated) (k : ℕ) (w : Window) : Type 0 w
   pub first : w.first ≤ 400000
   pub fits : v.state.epoch + w.last < 2 ^ 64
 
+-- the node in the state in which it has tick k: where its next frame begins then, in that frame
+abbrev pub seated_at : Side → Seated → ℕ → Seated
+seated_at me v k = record v { state = state_at v.sizes v.plan me v.state k }
+
+-- what is kept has the window of tick k, and which message is said then
+pub record ShowsTick (me : Side) (v : Seated) (k : ℕ) (a : Ahead) : Type 0 where
+  pub window : IsWindowOf me v k a.window
+  pub stage : SaysIn me v a.window.slot k a.busy.stage
+
+-- the window is one of a slot before the sync slot, and this tick is its last, which a node can have. When the next frame begins is not
+-- known yet
+pub record IsExactUntil (me : Side) (v : Seated) (w : Window) (k : ℕ) : Type 0 where
+  pub last : k ≡ v.state.epoch + w.last
+  pub soon : k < 2 ^ 31
+  pub slot : w.slot < sync_slot_of v.sizes
+  pub stays : is_some (new_epoch_of v.plan me v.state) ≡ false
+
 -- all that happens at the busy tick is that the window ends, which is one of a slot before the sync slot. A node can have that tick
 abbrev pub is_alone : Side → Seated → Window → Busy → Bool
 is_alone me v w b =

@@ -5,3 +5,5 @@ pub mod Saids
 pub mod Aheads
 pub mod Events
 pub mod Ends
+pub mod Closes
+pub mod Alone

@@ -1,12 +1,12 @@
 //! When something happens at a node next.
-ghost use Rattle.std.specs.Prelude.{◌≡◌, ◌+◌, ◌<◌, ◌≤◌, ◌==◌, ◌^◌, ℕ, Some, false, is_some, true};
+ghost use Rattle.std.specs.Prelude.{◌≡◌, ◌+◌, ◌<◌, ◌≤◌, ◌==◌, ◌^◌, Some, false, true};
 ghost use Rattle.rb_base.specs.Nodes.{side_of};
 ghost use Rattle.rb_base.specs.Sizes.{IsShape, sync_slot_of};
 ghost use Rattle.rb_rules.specs.Core.{is_tick};
 ghost use Rattle.rb_rules.specs.Hearing.{tail_at};
 ghost use Rattle.rb_rules.specs.Plan.{IsFeasible, IsPlan, tail_start_of};
-ghost use Rattle.rb_rules.specs.SyncStage.{new_epoch_of, send_tick_of};
-ghost use Rattle.rb_node.specs.Aheads.{IsChosen, IsEnded, IsNextBusy, IsSaidNext, IsSooner, IsWindowOf, LooksAhead, SaysIn, ahead_of_end, following, is_alone, is_within, tick_said, want_ahead, want_at, window_of_tick};
+ghost use Rattle.rb_rules.specs.SyncStage.{send_tick_of};
+ghost use Rattle.rb_node.specs.Aheads.{IsChosen, IsEnded, IsExactUntil, IsNextBusy, IsSaidNext, IsSooner, IsWindowOf, LooksAhead, SaysIn, ahead_of_end, following, is_alone, is_within, tick_said, want_ahead, want_at, window_of_tick};
 ghost use Rattle.rb_node.specs.Wants.{slot_of_words, want_for};
 
 use crate::act::Want;
@@ -393,11 +393,7 @@ fn word_or_end<K: Kind>(engine: &Engine<K>, window: &Window, had: u64, last: u64
     requires epoch { engine.now.state.epoch < had }
     requires had { had ≤ 2 ^ 31 }
     requires window { IsWindowOf (side_of K.CODE) engine.now had window.now }
-    requires last { last ≡ engine.now.state.epoch + window.now.last }
-    requires soon { last < 2 ^ 31 }
-    requires slot { window.now.slot < sync_slot_of engine.now.sizes }
-    requires stays { is_some (new_epoch_of engine.now.plan (side_of K.CODE) engine.now.state)
-        ≡ false }
+    requires last { IsExactUntil (side_of K.CODE) engine.now window.now last }
     ensures next { IsNextBusy (side_of K.CODE) engine.now had result.tick }
     ensures stage { SaysIn (side_of K.CODE) engine.now window.now.slot result.tick result.stage }
     ensures alone { (result.stage == 0) ≡ is_alone (side_of K.CODE) engine.now window.now result }

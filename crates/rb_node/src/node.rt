@@ -1,5 +1,5 @@
 //! One node core.
-ghost use Rattle.std.specs.Prelude.{◌≡◌, ℕ, ◌+◌, ◌<◌, ◌≤◌, ◌^◌, false, true, IfSome, IsTrue, None, Some, is_some, option_map, unwrap_or};
+ghost use Rattle.std.specs.Prelude.{◌≡◌, ◌+◌, ◌<◌, ◌≤◌, ◌^◌, false, IfSome, option_map, unwrap_or};
 ghost use Rattle.rb_base.specs.Nodes.{side_of};
 ghost use Rattle.rb_rules.specs.Core.{Core, first_core, is_tick, pass_to};
 ghost use Rattle.rb_rules.specs.NodeState.{first_state};
@@ -8,8 +8,8 @@ ghost use Rattle.rb_rules.specs.SyncStage.{new_epoch_of};
 ghost use Rattle.rb_rules.specs.WorldStep.{span_from};
 ghost use Rattle.rb_slot.specs.Engines.{nothing_shown};
 ghost use Rattle.rb_node.specs.Acts.{IsAct, IsSendable, IsWholeAct, span_in};
+ghost use Rattle.rb_node.specs.Alone.{EndsWindow, SaysAlone, TellsExactEnd};
 ghost use Rattle.rb_node.specs.Cores.{IsCore, IsSameNode, Running, arrive_of, next_of, passing_end, tick_of, ticks_of};
-ghost use Rattle.rb_node.specs.Ends.{EndsExactWindow, IsWithinExactWindow};
 ghost use Rattle.rb_node.specs.Events.{EventsComeInParts};
 ghost use Rattle.rb_node.specs.Wants.{want_of, want_then};
 
@@ -137,19 +137,7 @@ impl<K: Kind> Node<K> {
     /// slot, and no frame begins with it.
     #[inline(always)]
     pub fn ends_exact_window(&self) -> bool
-        ensures ends { (c : Core) (k : ℕ) → IsCore self.now c
-            → next_of (side_of K.CODE) self.now c ≡ Some k
-            → IsTrue result → EndsExactWindow self.now.seat.sizes self.now.seat.plan
-            (side_of K.CODE) c.state k }
-        ensures stays { (c : Core) (k : ℕ) → IsCore self.now c
-            → next_of (side_of K.CODE) self.now c ≡ Some k
-            → IsTrue result → is_tick (new_epoch_of self.now.seat.plan (side_of K.CODE) c.state) k
-            ≡ false }
-        ensures otherwise { (c : Core) (k : ℕ) → IsCore self.now c
-            → next_of (side_of K.CODE) self.now c ≡ Some k
-            → is_tick (new_epoch_of self.now.seat.plan (side_of K.CODE) c.state) k ≡ false
-            → EndsExactWindow self.now.seat.sizes self.now.seat.plan (side_of K.CODE) c.state k
-            → IsTrue result }
+        ensures { TellsExactEnd (side_of K.CODE) self.now result }
     {
         if self.ahead.alone {
             return true;
@@ -324,23 +312,7 @@ impl<K: Kind> Node<K> {
     /// says nothing, no frame begins, and what it saw is then `shown`. Else nothing changes.
     #[inline(always)]
     pub fn end_window(&mut self) -> bool
-        ensures core { IsTrue result → (c : Core) (k word : ℕ) → IsCore self.old c
-            → next_of (side_of K.CODE) self.old c ≡ Some k
-            → IsCore self.new (tick_of (side_of K.CODE) self.old (pass_to k c) word).core }
-        ensures act { IsTrue result → (c : Core) (k word : ℕ) → IsCore self.old c
-            → next_of (side_of K.CODE) self.old c ≡ Some k
-            → IsAct self.new.shown (record { epoch = None; message = None; closed = true })
-            (tick_of (side_of K.CODE) self.old (pass_to k c) word) }
-        ensures only { IsTrue result → (c : Core) → IsCore self.old c
-            → (k : ℕ) × ((next_of (side_of K.CODE) self.old c ≡ Some k)
-            × EndsExactWindow self.old.seat.sizes self.old.seat.plan (side_of K.CODE) c.state k) }
-        ensures otherwise { (c : Core) (k : ℕ) → IsCore self.old c
-            → next_of (side_of K.CODE) self.old c ≡ Some k
-            → is_tick (new_epoch_of self.old.seat.plan (side_of K.CODE) c.state) k ≡ false
-            → EndsExactWindow self.old.seat.sizes self.old.seat.plan (side_of K.CODE) c.state k
-            → (tick_of (side_of K.CODE) self.old (pass_to k c) 0).message ≡ None → IsTrue result }
-        ensures stays { result ≡ false → self.new ≡ self.old }
-        ensures same { IsSameNode self.old self.new }
+        ensures { EndsWindow (side_of K.CODE) self.old self.new result }
     {
         if !self.ahead.alone {
             return false;
@@ -362,28 +334,7 @@ impl<K: Kind> Node<K> {
     /// None.
     #[inline(always)]
     pub fn say_alone(&mut self, word: u32) -> Option<Message>
-        ensures core { is_some result ≡ true → (c : Core) (k : ℕ) → IsCore self.old c
-            → next_of (side_of K.CODE) self.old c ≡ Some k
-            → IsCore self.new (tick_of (side_of K.CODE) self.old (pass_to k c) word).core }
-        ensures act { is_some result ≡ true → (c : Core) (k : ℕ) → IsCore self.old c
-            → next_of (side_of K.CODE) self.old c ≡ Some k
-            → IsAct self.new.shown (record { epoch = None; message = result; closed = false })
-            (tick_of (side_of K.CODE) self.old (pass_to k c) word) }
-        ensures only { is_some result ≡ true → (c : Core) → IsCore self.old c → (k : ℕ)
-            × ((next_of (side_of K.CODE) self.old c ≡ Some k)
-            × IsWithinExactWindow self.old.seat.sizes self.old.seat.plan (side_of K.CODE) c.state
-            k) }
-        ensures otherwise { (c : Core) (k : ℕ) → IsCore self.old c
-            → next_of (side_of K.CODE) self.old c ≡ Some k
-            → IsWithinExactWindow self.old.seat.sizes self.old.seat.plan (side_of K.CODE) c.state k
-            → is_some result ≡ true }
-        ensures inside { is_some result ≡ true
-            → span_from self.new.seat.sizes self.new.seat.plan (side_of K.CODE) self.new.seat.state
-            self.new.had ≡ None }
-        ensures stays { is_some result ≡ false → self.new ≡ self.old }
-        ensures shown { self.new.shown ≡ self.old.shown }
-        ensures message { IfSome result IsSendable }
-        ensures same { IsSameNode self.old self.new }
+        ensures { SaysAlone (side_of K.CODE) word self.old self.new result }
     {
         if !is_within(&self.engine, &self.ahead.window, self.ahead.busy.tick) {
             return None;

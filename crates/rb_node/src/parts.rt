@@ -1,17 +1,17 @@
 //! The parts of a tick, in their order.
-ghost use Rattle.std.specs.Prelude.{◌≡◌, ◌+◌, ◌==◌, ◌<◌, ◌≤◌, ◌^◌, false, List, [], Some, None, if◌then◌else◌, option_and_then, option_map, IfSome};
+ghost use Rattle.std.specs.Prelude.{◌≡◌, ◌+◌, ◌<◌, ◌≤◌, ◌^◌, false, Some, None, option_and_then, option_map, IfSome, if◌then◌else◌};
 ghost use Rattle.rb_base.specs.Nodes.{other, side_of};
 ghost use Rattle.rb_base.specs.Sizes.{sync_slot_of};
-ghost use Rattle.rb_eligible.specs.Inboxes.{Received, HoldsArrivals, StampsUpTo};
-ghost use Rattle.rb_rules.specs.Core.{epoch_at, state_at, state_kept};
+ghost use Rattle.rb_eligible.specs.Inboxes.{StampsUpTo};
+ghost use Rattle.rb_rules.specs.Core.{epoch_at, state_kept};
 ghost use Rattle.rb_rules.specs.declared.closing.Closed.{Closed};
 ghost use Rattle.rb_rules.specs.Slots.{count_of};
 ghost use Rattle.rb_rules.specs.Spelling.{spelling_of};
 ghost use Rattle.rb_slot.specs.Closable.{IsOfFrame};
-ghost use Rattle.rb_slot.specs.Engines.{IsSameFrame, outcome_on};
 ghost use Rattle.rb_rules.specs.Windows.{window_at};
 ghost use Rattle.rb_node.specs.Acts.{IsSendable, span_in};
-ghost use Rattle.rb_node.specs.Aheads.{IsWindowOf, SaysIn};
+ghost use Rattle.rb_node.specs.Aheads.{SaysIn, ShowsTick, seated_at};
+ghost use Rattle.rb_node.specs.Closes.{ClosesAtLast};
 ghost use Rattle.rb_node.specs.Saids.{said_in, span_if};
 
 use crate::act::{Span, Step};
@@ -31,15 +31,9 @@ pub(crate) fn turn_at<K: Kind>(engine: &mut Engine<K>, ahead: &mut Ahead, now: u
     requires now { now < 2 ^ 31 }
     requires frame { engine.old.state.frame < 2 ^ 31 }
     requires epoch { engine.old.state.epoch ≤ now }
-    requires window { IsWindowOf (side_of K.CODE) engine.old now ahead.old.window }
-    requires stage { SaysIn (side_of K.CODE) engine.old ahead.old.window.slot now
-        ahead.old.busy.stage }
-    ensures state { engine.new ≡ record engine.old {
-      state = state_at engine.old.sizes engine.old.plan (side_of K.CODE) engine.old.state now;
-    } }
-    ensures window { IsWindowOf (side_of K.CODE) engine.new now ahead.new.window }
-    ensures stage { SaysIn (side_of K.CODE) engine.new ahead.new.window.slot now
-        ahead.new.busy.stage }
+    requires ahead { ShowsTick (side_of K.CODE) engine.old now ahead.old }
+    ensures state { engine.new ≡ seated_at (side_of K.CODE) engine.old now }
+    ensures ahead { ShowsTick (side_of K.CODE) engine.new now ahead.new }
 {
     if is_tick(engine.new_epoch(), now) {
         engine.turn();
@@ -108,21 +102,9 @@ pub(crate) fn close_at<K: Kind>(
     requires window { IsOfFrame engine.old.sizes engine.old.plan window.now }
     requires fits { engine.old.state.epoch + window.now.last < 2 ^ 64 }
     requires stamps { StampsUpTo (2 ^ 32) inbox.old }
-    ensures closes { result ≡ (now == engine.old.state.epoch + window.now.last) }
-    ensures state { (received : List Received) → HoldsArrivals inbox.old received
-        → engine.new ≡ record engine.old {
-          state = if result then (outcome_on (side_of K.CODE) engine.old window.now received).state
-              else engine.old.state;
-        } }
-    ensures shown { (received : List Received) → HoldsArrivals inbox.old received
-        → shown.new ≡ (if result
-        then (outcome_on (side_of K.CODE) engine.old window.now received).closed else shown.old) }
-    ensures stays { result ≡ false → shown.new ≡ shown.old }
-    ensures keeps { result ≡ false → engine.new ≡ engine.old }
-    ensures inbox { (received : List Received) → HoldsArrivals inbox.old received
-        → HoldsArrivals inbox.new (if result then [] else received) }
-    ensures stamps { StampsUpTo (2 ^ 32) inbox.new }
-    ensures same { IsSameFrame engine.old engine.new }
+    ensures { ClosesAtLast (side_of K.CODE) window.now
+        (record { seat = engine.old; had = now; inbox = inbox.old; shown = shown.old }) result
+        (record { seat = engine.new; had = now; inbox = inbox.new; shown = shown.new }) }
 {
     let _came = inbox.came();
     if now != engine.epoch() + window.last {

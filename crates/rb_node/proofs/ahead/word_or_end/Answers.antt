@@ -10,9 +10,9 @@ sooner_word-requires-clause-had g c =
     let v = c.args.engine.now in
     let w = c.args.window.now in
     let begun : v.state.epoch < c.args.had = c.requires.epoch in
-    subst (λ k. c.args.had ≤ k) (sym c.requires.last)
+    subst (λ k. c.args.had ≤ k) (sym c.requires.last.last)
     (ends-later v c.args.had w (omega arith)
-    (numbered-here (side_of g.K.Kind.CODE) v c.args.had w (has-ticks v.plan c.bounds.ensures.plan) c.requires.window c.requires.slot))
+    (numbered-here (side_of g.K.Kind.CODE) v c.args.had w (has-ticks v.plan c.bounds.ensures.plan) c.requires.window c.requires.last.slot))
 
 pub returns-clause-next : goal.returns-clause-next
 returns-clause-next g c =
@@ -20,10 +20,10 @@ returns-clause-next g c =
     let w = c.args.window.now in
     let begun : v.state.epoch < c.args.had = c.requires.epoch in
     let from : c.args.had ≤ c.args.last =
-    subst (λ k. c.args.had ≤ k) (sym c.requires.last)
+    subst (λ k. c.args.had ≤ k) (sym c.requires.last.last)
     (ends-later v c.args.had w (omega arith)
-    (numbered-here (side_of g.K.Kind.CODE) v c.args.had w (has-ticks v.plan c.bounds.ensures.plan) c.requires.window c.requires.slot)) in
-    soonest-on _ v w _ _ _ _ _ (has-ticks v.plan c.bounds.ensures.plan) begun from c.requires.soon c.requires.last c.requires.window.is c.requires.stays
+    (numbered-here (side_of g.K.Kind.CODE) v c.args.had w (has-ticks v.plan c.bounds.ensures.plan) c.requires.window c.requires.last.slot)) in
+    soonest-on _ v w _ _ _ _ _ (has-ticks v.plan c.bounds.ensures.plan) begun from c.requires.last.soon c.requires.last.last c.requires.window.is c.requires.last.stays
     (chosen-sooner _ _ _ _ _ c.sooner_word.ensures.from_third)
     (chosen-sooner _ _ _ _ _ c.sooner_word.ensures.from_second)
     (chosen-sooner _ _ _ _ _ c.sooner_word.ensures.from_first)

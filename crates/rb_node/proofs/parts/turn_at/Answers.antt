@@ -33,11 +33,14 @@ returns-else-is_tick-clause-state g c =
     let later : is_tick (new_epoch_of v.plan me v.state) c.args.now ≡ false = rw c.new_epoch.ensures at (sym c.is_tick.ensures ∙ c.if-is_tick.false) in
     ap (λ (st : NodeState). record v { state = st }) (sym (no-turn v me c.args.now later))
 
-pub returns-then-is_tick-clause-stage : goal.returns-then-is_tick-clause-stage
-returns-then-is_tick-clause-stage g c =
+pub returns-then-is_tick-clause-ahead : goal.returns-then-is_tick-clause-ahead
+returns-then-is_tick-clause-ahead g c =
     let v = c.args.engine.now in
     let me = side_of g.K.Kind.CODE in
     let now : is_tick (new_epoch_of v.plan me v.state) c.args.now ≡ true = rw c.new_epoch.ensures at (sym c.is_tick.ensures ∙ c.if-is_tick.true) in
     let epoch : c.turn.new.self.state.epoch ≡ c.args.now =
     ap (λ (x : Seated). x.state.epoch) c.turn.ensures.state ∙ ap (λ (st : NodeState). st.epoch) (sym (turns-is v me c.args.now now)) ∙ turned-epoch v me c.args.now now in
-    silent-says me c.turn.new.self _ c.args.now c.bounds.ensures.shape c.bounds.ensures.plan epoch (ap (λ (w : Window). w.slot) c.window_of-ahead.ensures.is)
+    record {
+      window = c.window_of-ahead.ensures;
+      stage = silent-says me c.turn.new.self _ c.args.now c.bounds.ensures.shape c.bounds.ensures.plan epoch (ap (λ (w : Window). w.slot) c.window_of-ahead.ensures.is);
+    }

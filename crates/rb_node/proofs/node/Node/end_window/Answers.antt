@@ -1,4 +1,4 @@
-use Rattle.std.proofs.Common.{◌≡◌, ◌<◌, ◌≤◌, ◌^◌, true, false, sym, ◌∙◌, ap, subst, arith}
+use Rattle.std.proofs.Common.{rules, ◌≡◌, ◌<◌, ◌≤◌, ◌^◌, true, false, sym, ◌∙◌, ap, subst, arith}
 use Rattle.rb_base.specs.Nodes.{Side, side_of}
 use Rattle.rb_slot.specs.Engines.{IsSameFrame, Seated}
 use Rattle.rb_node.specs.Aheads.{following}
@@ -10,12 +10,19 @@ use Rattle.rb_node.proofs.node.Node.end_window.Goals as goal
 true-false : true ≡ false → ⊥
 true-false e = cc
 
-pub returns-then-not-self-clause-otherwise : goal.returns-then-not-self-clause-otherwise
-returns-then-not-self-clause-otherwise g c =
+pub returns-then-not-self : goal.returns-then-not-self
+returns-then-not-self g c =
     let me : Side = side_of g.K.Kind.CODE in
-    rw (← c.self.view_is) (λ d k is next stays ends none.
-    absurd (true-false (sym (kept-otherwise me c.self.inside.engine c.self.inside.had c.self.inside.ahead d k c.self.invariant.ahead is.state is.had next stays ends none)
-    ∙ c.if-not-self.true)))
+    record {
+      core = search rules;
+      act = search rules;
+      only = search rules;
+      otherwise = rw (← c.self.view_is) (λ d k is next stays ends none.
+          absurd (true-false (sym (kept-otherwise me c.self.inside.engine c.self.inside.had c.self.inside.ahead d k c.self.invariant.ahead is.state is.had next stays ends none)
+          ∙ c.if-not-self.true)));
+      stays = search rules;
+      same = search rules;
+    }
 
 pub following-self-inside-requires-clause-stage : goal.following-self-inside-requires-clause-stage
 following-self-inside-requires-clause-stage g c =
@@ -80,39 +87,30 @@ invariant_of-self g c =
       ahead = c.look_on.ensures;
     }
 
-pub returns-clause-core : goal.returns-clause-core
-returns-clause-core g c =
+pub returns : goal.returns
+returns g c =
     let me : Side = side_of g.K.Kind.CODE in
-    rw (← c.self.view_is) (λ one d k word is next.
-    (alone-gives me c.self.inside.engine c.close_into.new.self c.self.inside.had word c.self.inside.ahead c.self.inside.shown c.close_into.new.shown
-    c.self.inside.inbox c.clear.new.self c.bounds.ensures.plan c.bounds.ensures.feasible c.self.invariant.ahead c.if-not-self.false
-    c.close_into.ensures.state c.close_into.ensures.closed c.clear.ensures.shows d k is.state is.had is.inbox next).core)
-
-pub returns-clause-act : goal.returns-clause-act
-returns-clause-act g c =
-    let me : Side = side_of g.K.Kind.CODE in
-    rw (← c.self.view_is) (λ one d k word is next.
-    (alone-gives me c.self.inside.engine c.close_into.new.self c.self.inside.had word c.self.inside.ahead c.self.inside.shown c.close_into.new.shown
-    c.self.inside.inbox c.clear.new.self c.bounds.ensures.plan c.bounds.ensures.feasible c.self.invariant.ahead c.if-not-self.false
-    c.close_into.ensures.state c.close_into.ensures.closed c.clear.ensures.shows d k is.state is.had is.inbox next).act)
-
-pub returns-clause-same : goal.returns-clause-same
-returns-clause-same g c =
     let v = c.self.inside.engine in
     let v3 = c.close_into.new.self in
-    let received = c.came-came.ensures.stands in
-    let same : IsSameFrame v v3 =
-    closes-same (side_of g.K.Kind.CODE) v v3 c.self.inside.ahead.window received.0 (c.close_into.ensures.state received.0 received.1) in
-    rw (← c.self.view_is) (record { sizes = same.sizes; plan = same.plan; index = same.index })
-
-pub returns-clause-only : goal.returns-clause-only
-returns-clause-only g c =
-    let me : Side = side_of g.K.Kind.CODE in
-    let v = c.self.inside.engine in
     let had = c.self.inside.had in
     let a = c.self.inside.ahead in
     let l = c.self.invariant.ahead in
+    let received = c.came-came.ensures.stands in
+    let same : IsSameFrame v v3 = closes-same me v v3 a.window received.0 (c.close_into.ensures.state received.0 received.1) in
     let alone = kept-alone me v had a l c.if-not-self.false in
-    rw (← c.self.view_is) (λ one d is.
-    let next = next-is me v d had a.busy.tick is.state is.had l.next alone.below in
-    (a.busy.tick, (next, alone-ends me v had a d a.busy.tick l c.if-not-self.false is.state is.had next)))
+    record {
+      core = rw (← c.self.view_is) (λ one d k word is next.
+          (alone-gives me v v3 had word a c.self.inside.shown c.close_into.new.shown c.self.inside.inbox c.clear.new.self c.bounds.ensures.plan
+          c.bounds.ensures.feasible l c.if-not-self.false c.close_into.ensures.state c.close_into.ensures.closed c.clear.ensures.shows
+          d k is.state is.had is.inbox next).core);
+      act = rw (← c.self.view_is) (λ one d k word is next.
+          (alone-gives me v v3 had word a c.self.inside.shown c.close_into.new.shown c.self.inside.inbox c.clear.new.self c.bounds.ensures.plan
+          c.bounds.ensures.feasible l c.if-not-self.false c.close_into.ensures.state c.close_into.ensures.closed c.clear.ensures.shows
+          d k is.state is.had is.inbox next).act);
+      only = rw (← c.self.view_is) (λ one d is.
+          let next = next-is me v d had a.busy.tick is.state is.had l.next alone.below in
+          (a.busy.tick, (next, alone-ends me v had a d a.busy.tick l c.if-not-self.false is.state is.had next)));
+      otherwise = search rules;
+      stays = search rules;
+      same = rw (← c.self.view_is) (record { sizes = same.sizes; plan = same.plan; index = same.index });
+    }

@@ -1,4 +1,4 @@
-use Rattle.std.proofs.Common.{◌≡◌, ◌+◌, ◌<◌, ◌≤◌, ◌^◌, true, false, is_some, sym, ◌∙◌, ap, subst, arith}
+use Rattle.std.proofs.Common.{rules, ◌≡◌, ◌+◌, ◌<◌, ◌≤◌, ◌^◌, true, false, is_some, sym, ◌∙◌, ap, subst, arith}
 use Rattle.rb_base.specs.Nodes.{Side, side_of}
 use Rattle.rb_node.specs.Aheads.{LooksAhead}
 use Rattle.rb_node.proofs.Within.{IsWithin, SameSeat, exact-within, kept-seat, within-ahead, within-exact, within-gives, within-inside, within-is, within-next, within-says}
@@ -7,12 +7,22 @@ use Rattle.rb_node.proofs.node.Node.say_alone.Goals as goal
 true-false : true ≡ false → ⊥
 true-false e = cc
 
-pub returns-then-not-is_within-clause-otherwise : goal.returns-then-not-is_within-clause-otherwise
-returns-then-not-is_within-clause-otherwise g c =
+pub returns-then-not-is_within : goal.returns-then-not-is_within
+returns-then-not-is_within g c =
     let me : Side = side_of g.K.Kind.CODE in
-    rw (← c.self.view_is) (λ d k is next exact.
-    absurd (true-false (sym (exact-within me c.self.inside.engine c.self.inside.had c.self.inside.ahead d k c.self.invariant.ahead is.state is.had next exact)
-    ∙ sym c.is_within.ensures ∙ c.if-not-is_within.true)))
+    record {
+      core = search rules;
+      act = search rules;
+      only = search rules;
+      otherwise = rw (← c.self.view_is) (λ d k is next exact.
+          absurd (true-false (sym (exact-within me c.self.inside.engine c.self.inside.had c.self.inside.ahead d k c.self.invariant.ahead is.state is.had next exact)
+          ∙ sym c.is_within.ensures ∙ c.if-not-is_within.true)));
+      inside = search rules;
+      stays = search rules;
+      shown = search rules;
+      message = search rules;
+      same = search rules;
+    }
 
 within : (g : _) (c : goal.After-look_to_end g)
     → IsWithin (side_of g.K.Kind.CODE) c.self.inside.engine c.self.inside.ahead.window c.self.inside.ahead.busy.tick
@@ -56,38 +66,32 @@ invariant_of-self g c =
           epoch c.self.invariant.ahead is c.say_at-message.ensures.keeps);
     }
 
-pub returns-clause-core : goal.returns-clause-core
-returns-clause-core g c =
-    rw (← c.self.view_is) (λ said d k is next.
-    (within-gives (side_of g.K.Kind.CODE) c.self.inside.engine c.say_at-message.new.engine c.self.inside.had c.args.word c.self.inside.ahead
-    c.say_at-message.result c.self.inside.shown c.self.inside.inbox c.self.invariant.ahead (within g c) c.say_at-message.ensures.message
-    c.say_at-message.ensures.keeps d k is.state is.had is.inbox next).core)
-
-pub returns-clause-act : goal.returns-clause-act
-returns-clause-act g c =
-    rw (← c.self.view_is) (λ said d k is next.
-    (within-gives (side_of g.K.Kind.CODE) c.self.inside.engine c.say_at-message.new.engine c.self.inside.had c.args.word c.self.inside.ahead
-    c.say_at-message.result c.self.inside.shown c.self.inside.inbox c.self.invariant.ahead (within g c) c.say_at-message.ensures.message
-    c.say_at-message.ensures.keeps d k is.state is.had is.inbox next).act)
-
-pub returns-clause-only : goal.returns-clause-only
-returns-clause-only g c =
+pub returns : goal.returns
+returns g c =
     let me : Side = side_of g.K.Kind.CODE in
     let v = c.self.inside.engine in
+    let v2 = c.say_at-message.new.engine in
     let had = c.self.inside.had in
     let a = c.self.inside.ahead in
-    rw (← c.self.view_is) (λ said d is.
-    let next = within-next me v had a d c.self.invariant.ahead (within g c) is.state is.had in
-    (a.busy.tick, (next, within-exact me v had a d a.busy.tick c.self.invariant.ahead (within g c) is.state is.had next)))
-
-pub returns-clause-otherwise : goal.returns-clause-otherwise
-returns-clause-otherwise g c = λ d k is next exact. says g c
-
-pub returns-clause-stays : goal.returns-clause-stays
-returns-clause-stays g c = λ none. absurd (true-false (sym (says g c) ∙ none))
-
-pub returns-clause-inside : goal.returns-clause-inside
-returns-clause-inside g c = λ said.
-    within-inside (side_of g.K.Kind.CODE) c.self.inside.engine c.say_at-message.new.engine c.self.inside.had c.args.word c.self.inside.ahead
-    c.say_at-message.result c.bounds.ensures.shape c.bounds.ensures.plan c.bounds.ensures.feasible c.self.invariant.epoch c.self.invariant.ahead
-    (within g c) c.say_at-message.ensures.keeps
+    let l = c.self.invariant.ahead in
+    let is_within = within g c in
+    let kept = c.say_at-message.ensures.keeps in
+    record {
+      core = rw (← c.self.view_is) (λ said d k is next.
+          (within-gives me v v2 had c.args.word a c.say_at-message.result c.self.inside.shown c.self.inside.inbox l is_within
+          c.say_at-message.ensures.message kept d k is.state is.had is.inbox next).core);
+      act = rw (← c.self.view_is) (λ said d k is next.
+          (within-gives me v v2 had c.args.word a c.say_at-message.result c.self.inside.shown c.self.inside.inbox l is_within
+          c.say_at-message.ensures.message kept d k is.state is.had is.inbox next).act);
+      only = rw (← c.self.view_is) (λ said d is.
+          let next = within-next me v had a d l is_within is.state is.had in
+          (a.busy.tick, (next, within-exact me v had a d a.busy.tick l is_within is.state is.had next)));
+      otherwise = λ d k is next exact. says g c;
+      inside = λ said.
+          within-inside me v v2 had c.args.word a c.say_at-message.result c.bounds.ensures.shape c.bounds.ensures.plan c.bounds.ensures.feasible
+          c.self.invariant.epoch l is_within kept;
+      stays = λ none. absurd (true-false (sym (says g c) ∙ none));
+      shown = search rules;
+      message = search rules;
+      same = search rules;
+    }

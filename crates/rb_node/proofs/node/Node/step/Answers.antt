@@ -30,11 +30,15 @@ returns-then-now-self-clause-act g c =
     (quiet-gives (side_of g.K.Kind.CODE) n c.nothing-then-now-self.result c.args.word d c.nothing-then-now-self.ensures is
     (c.self.invariant.ahead.next.quiet n.had (omega arith) c.if-now-self.true) c.if-now-ge-MOST_TICKS.false).act)
 
-pub turn_at-requires-clause-stage : goal.turn_at-requires-clause-stage
-turn_at-requires-clause-stage g c =
+pub turn_at-requires-clause-ahead : goal.turn_at-requires-clause-ahead
+turn_at-requires-clause-ahead g c =
     let later : c.self.inside.had ≤ c.self.inside.ahead.busy.tick = c.self.invariant.ahead.next.later in
     let at : c.self.inside.ahead.busy.tick ≡ c.self.inside.had = omega arith in
-    subst (λ k. SaysIn (side_of g.K.Kind.CODE) c.self.inside.engine c.self.inside.ahead.window.slot k c.self.inside.ahead.busy.stage) at c.self.invariant.ahead.stage
+    record {
+      window = c.self.invariant.ahead.window;
+      stage = subst (λ k. SaysIn (side_of g.K.Kind.CODE) c.self.inside.engine c.self.inside.ahead.window.slot k c.self.inside.ahead.busy.stage) at
+          c.self.invariant.ahead.stage;
+    }
 
 pub go_on-requires-clause-epoch : goal.go_on-requires-clause-epoch
 go_on-requires-clause-epoch g c =
@@ -52,7 +56,7 @@ go_on-requires-clause-goes_on g c =
     going (side_of g.K.Kind.CODE) c.turn_at.new.engine c.say_at-message.new.engine c.close_at-closed.new.engine c.self.inside.had c.args.word
     c.turn_at.new.ahead.window c.say_at-message.result c.close_at-closed.result
     (record {
-      here = c.turn_at.ensures.window;
+      here = c.turn_at.ensures.ahead.window;
       kept = c.say_at-message.ensures.keeps;
       closes = c.close_at-closed.ensures.closes;
       same = c.close_at-closed.ensures.same;
@@ -64,7 +68,7 @@ go_on-requires-clause-ended g c =
     ending (side_of g.K.Kind.CODE) c.turn_at.new.engine c.say_at-message.new.engine c.close_at-closed.new.engine c.self.inside.had c.args.word
     c.turn_at.new.ahead.window c.say_at-message.result c.close_at-closed.result
     (record {
-      here = c.turn_at.ensures.window;
+      here = c.turn_at.ensures.ahead.window;
       kept = c.say_at-message.ensures.keeps;
       closes = c.close_at-closed.ensures.closes;
       same = c.close_at-closed.ensures.same;
@@ -103,7 +107,7 @@ parts : (g : _) (c : goal.After-look_on g)
 parts g c = record {
   turned = c.turn_at.ensures.state;
   begun = c.epoch_at-epoch.ensures;
-  window = c.turn_at.ensures.window.is;
+  window = c.turn_at.ensures.ahead.window.is;
   said = c.say_at-message.ensures.message;
   kept = c.say_at-message.ensures.keeps;
   closes = c.close_at-closed.ensures.closes;
