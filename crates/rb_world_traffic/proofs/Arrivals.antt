@@ -1,7 +1,7 @@
 -- A lane with more arrivals.
 use Rattle.std.proofs.Common.{◌≡◌, ℕ, zero, suc, ◌+◌, ◌<◌, ◌≤◌, Bool, true, false, cond, Some, List, [], ◌∷◌, ◌++◌, All, filter, get_or, length, map, slice_get, take, refl, sym, ap, ◌∙◌, subst, arith, append_assoc, length-append}
 use Rattle.std.specs.Prelude.{unwrap_or, slice_set}
-use Rattle.std.specs.List.{cons_option, flat_map, list_any, range_with_len}
+use Rattle.std.specs.List.{cons_option, flat_map, range_with_len}
 use Rattle.std.proofs.lemmas.List.{append-nil, take_more}
 use Rattle.std.proofs.lemmas.List.Elements.{All-append, All-cons, All-nil, filter_map-append}
 use Rattle.std.proofs.lemmas.Option.{slice_get_past}
@@ -23,8 +23,8 @@ use Rattle.rb_world_agenda.specs.Holding.{HoldsSite, HoldsSites}
 use Rattle.rb_world_agenda.proofs.Changes.{holds-at}
 use Rattle.rb_world_agenda.proofs.Keeping.{has-with, lane-with}
 use Rattle.rb_world_traffic.specs.Arriving.{number_of}
-use Rattle.rb_world_traffic.proofs.Says.{brought-append, none-for, says-are}
-use Rattle.rb_world_traffic.specs.Saying.{AreFor, Brings, KeptSayings, SaysTo, all_brought, brought, entries_at, entries_to, hears, is_for, is_said_in, kept_of, senders_to, with_arrivals}
+use Rattle.rb_world_traffic.proofs.Says.{brought-append, says-are}
+use Rattle.rb_world_traffic.specs.Saying.{AreFor, Brings, KeptSayings, SaysTo, all_brought, brought, entries_at, entries_to, hears, is_said_in, kept_of, senders_to, with_arrivals}
 
 -- Lanes.
 set-same : (xs : List Held) (i : ℕ) (x : Held) → i < length xs → x ≡ unwrap_or (slice_get xs i) (empty_lane 0) → slice_set xs i x ≡ xs
@@ -159,12 +159,6 @@ so-far-none kept clock span lanes now to places i n within is past so_far = λ s
     let next : entries_at kept.says (take (i + 1) places) ≡ before =
     entries-more kept.says places i n within is ∙ ap (λ o. before ++ cons_option o []) (slice_get_past kept.says n past) ∙ append-nil before in
     so_far sc kept_is ∙ ap (λ es. with_lane to (with_arrivals (all_brought sc clock span es) (lane_of lanes to)) lanes) (sym next)
-
--- entries that are for other windows
-pub brings-none : (kept : KeptSayings) (says : List Say) (clock : Timeline) (to : NodeName) (span : Span) (lanes : Each Held) → HasLane lanes to
-    → list_any (is_for span.place) says ≡ false → Brings kept says clock to span lanes lanes
-brings-none kept says clock to span lanes h none = λ sc kept_is.
-    sym (ap (λ cs. with_lane to (with_arrivals cs (lane_of lanes to)) lanes) (none-for sc clock span says none) ∙ with-nothing lanes to h)
 
 -- what the entries for the node bring is what is said to it
 pub says-to : (inside kept : KeptSayings) (clock : Timeline) (to : NodeName) (span : Span) (places : List ℕ) (before after : Each Held) → inside ≡ kept → HasLane before to

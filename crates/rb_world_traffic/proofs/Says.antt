@@ -2,11 +2,10 @@
 use Rattle.std.proofs.Common.{◌≡◌, ℕ, zero, suc, ◌+◌, ◌-◌, ◌<◌, ◌&&◌, ◌||◌, not, nat_le, Bool, true, false, cond, List, [], ◌∷◌, ◌++◌, drop, filter, get_or, length, map, slice_get, take, refl, sym, ap, ◌∙◌, arith}
 use Rattle.std.specs.Prelude.{max, min}
 use Rattle.std.specs.List.{flat_map, fold, list_any, range_with_len}
-use Rattle.std.proofs.lemmas.Bool.{or_from, or_left, or_parts, or_right}
+use Rattle.std.proofs.lemmas.Bool.{or_from, or_parts}
 use Rattle.std.proofs.lemmas.Bool.Decides.{nat_tests}
-use Rattle.std.proofs.lemmas.List.{map-append, take-append-drop, take_more}
+use Rattle.std.proofs.lemmas.List.{map-append, take_more}
 use Rattle.std.proofs.lemmas.List.Elements.{filter-append, filter_map-append}
-use Rattle.std.proofs.lemmas.List.Folds.{list_any-append}
 use Rattle.std.proofs.lemmas.List.Sums.{fold-append}
 use Rattle.rb_base.specs.Nodes.{Side, other}
 use Rattle.rb_base.specs.Nodes.Side.{Biu, Rmu}
@@ -144,21 +143,6 @@ pub fold-more : (f : ℕ → Say → ℕ) (a : ℕ) (says : List Say) (places : 
     → fold f a (entries_at says (take (i + 1) places)) ≡ fold f (fold f a (entries_at says (take i places))) (entries_at says (get_or places i 0 ∷ []))
 fold-more f a says places i within =
     ap (fold f a) (entries-one-more says places i within) ∙ fold-append f a (entries_at says (take i places)) (entries_at says (get_or places i 0 ∷ []))
-
-pub some-more : (p : Say → Bool) (says : List Say) (places : List ℕ) (i : ℕ) → i < length places
-    → list_any p (entries_at says (take (i + 1) places)) ≡ (list_any p (entries_at says (take i places)) || list_any p (entries_at says (get_or places i 0 ∷ [])))
-some-more p says places i within =
-    ap (list_any p) (entries-one-more says places i within) ∙ list_any-append p (entries_at says (take i places)) (entries_at says (get_or places i 0 ∷ []))
-
--- An entry that passes is one of them.
-pub some-there : (p : Say → Bool) (says : List Say) (places : List ℕ) (i : ℕ) → i < length places → list_any p (entries_at says (get_or places i 0 ∷ [])) ≡ true
-    → list_any p (entries_at says places) ≡ true
-some-there p says places i within passes =
-    let so_far = some-more p says places i within ∙ or_right (list_any p (entries_at says (take i places))) (list_any p (entries_at says (get_or places i 0 ∷ []))) passes in
-    ap (λ l. list_any p (entries_at says l)) (sym (take-append-drop (i + 1) places))
-    ∙ ap (list_any p) (filter_map-append (slice_get says) (take (i + 1) places) (drop (i + 1) places))
-    ∙ list_any-append p (entries_at says (take (i + 1) places)) (entries_at says (drop (i + 1) places))
-    ∙ or_left (list_any p (entries_at says (take (i + 1) places))) (list_any p (entries_at says (drop (i + 1) places))) so_far
 
 -- No entry speaks of a frame before the first, or after the last.
 not-for : (s : Say) (place : Place) → is_in_range s.frames place.frame ≡ false → is_for place s ≡ false

@@ -1,6 +1,6 @@
 //! What nodes that are not good say.
 ghost use Rattle.std.specs.Prelude.{◌≡◌, ◌+◌, ◌-◌, ◌<◌, ◌≤◌, ◌^◌, ◌∷◌, [], IfOk, length};
-ghost use Rattle.std.specs.List.{fold, list_any};
+ghost use Rattle.std.specs.List.{fold};
 ghost use Rattle.rb_rules.specs.Clock.{time_of};
 ghost use Rattle.rb_rules.specs.Goodness.{Scenario};
 ghost use Rattle.rb_rules.specs.Hearing.{bytes_of, message_at};
@@ -9,7 +9,7 @@ ghost use Rattle.rb_rules.specs.Spelling.{IsZeroUnlessWord, spelling_of};
 ghost use Rattle.rb_queue.specs.Waiting.{HasLane, lane_of, spare_of};
 ghost use Rattle.rb_world_onset.specs.Faults.{faults_of};
 ghost use Rattle.rb_world_traffic.specs.Arriving.{number_of};
-ghost use Rattle.rb_world_traffic.specs.Saying.{AreFor, Brings, SaysTo, entries_at, entries_for, first_frame, is_for, is_said_in, last_frame, later_frame, most_to, senders_to, sooner_frame};
+ghost use Rattle.rb_world_traffic.specs.Saying.{AreFor, Brings, SaysTo, entries_at, entries_for, first_frame, is_said_in, last_frame, later_frame, most_to, senders_to, sooner_frame};
 ghost use Rattle.rb_world_traffic.specs.Spans.{span_of};
 
 use crate::arriving::number_of;
@@ -193,27 +193,6 @@ fn frames_of(says: &SayList, places: &[u16]) -> (u64, u64)
     (first, last)
 }
 
-// Whether there is an entry with this number, and it is for this place.
-fn is_for(says: &SayList, number: u16, place: Place) -> bool
-    ensures { result ≡ list_any (is_for place) (entries_at says.now (number ∷ [])) }
-{
-    let number = usize::from(number);
-    number < says.len() && covers(says.get(number), place)
-}
-
-// Whether one of the entries with these numbers is for this place.
-#[inline(always)]
-fn some_for(says: &SayList, places: &[u16], place: Place) -> bool
-    ensures { result ≡ list_any (is_for place) (entries_at says.now places.now) }
-{
-    for number in places {
-        if is_for(says, *number, place) {
-            return true;
-        }
-    }
-    false
-}
-
 impl Sayings {
     /// What the entries say on a bus of this shape, whose nodes have these onsets. `says` are at
     /// most 65536 entries. All memory is taken here.
@@ -284,10 +263,7 @@ impl Sayings {
         requires first { span.now.first ≤ 2 ^ 31 }
         ensures { SaysTo self.now clock.now to (span_of span.now) agenda.old agenda.new }
     {
-        // As a rule no entry is for the window.
         let places = self.places(to);
-        if some_for(&self.said.says, places, span.place) {
-            say_each(agenda, &self.said, places, clock, to, span);
-        }
+        say_each(agenda, &self.said, places, clock, to, span);
     }
 }
