@@ -2,7 +2,6 @@
 ghost use Rattle.std.specs.Prelude.{◌≡◌, ◌<◌, slice_set, if◌then◌else◌};
 ghost use Rattle.rb_base.specs.declared.values.See.TheVariants.{Nothing};
 ghost use Rattle.rb_rules.specs.Hearing.{judged_see};
-ghost use Rattle.rb_rules.specs.Judging.{is_something};
 ghost use Rattle.rb_rules.specs.WorldStep.{same_place};
 ghost use Rattle.rb_world_book.specs.Changing.{line_from};
 ghost use Rattle.rb_world_book.specs.Telling.{fresh_told, has_told, kept_of, see_of, timed_in, told_begun_frame, told_closed};
@@ -59,16 +58,13 @@ fn timed(see: See, time: u64) -> See
     }
 }
 
-// What was seen of one source is kept. Mostly that is nothing, and nothing was kept of it before:
-// then no place is written.
+// What was seen of one source is kept.
 #[inline(always)]
 fn keep_one(at: usize, seen: &[See; 16], times: &[u64; 16], sees: &mut [See; 16])
     requires { at < 16 }
     ensures { sees.new ≡ slice_set sees.old at (timed_in seen.now times.now at) }
 {
-    if is_something(seen[at]) || is_something(sees[at]) {
-        sees[at] = timed(seen[at], times[at]);
-    }
+    sees[at] = timed(seen[at], times[at]);
 }
 
 // What was seen of each of these sources is kept, with its reference time. Of the others what was
@@ -176,10 +172,4 @@ impl Told {
     {
         self.sees[usize::from(source)]
     }
-}
-
-fn is_something(see: See) -> bool
-    ensures { result ≡ is_something see }
-{
-    !matches!(see, See::Nothing)
 }
