@@ -3,7 +3,7 @@ use Rattle.std.proofs.Common.{◌≡◌, ℕ, zero, suc, ◌+◌, ◌-◌, ◌<�
 use Rattle.std.proofs.lemmas.Bool.Decides.{nat_tests}
 use Rattle.std.proofs.lemmas.List.{length-drop}
 use Rattle.rb_rules.specs.Hearing.{Coming}
-use Rattle.rb_queue.specs.Scanning.{AreBy, AreSorted}
+use Rattle.rb_queue.specs.Scanning.{AreBy}
 use Rattle.rb_queue.specs.Keeping.{IsLane}
 use Rattle.rb_queue.specs.Queued.{IsQueue}
 use Rattle.rb_queue.specs.Waiting.{Held, without_before}
@@ -22,30 +22,6 @@ among p (x ∷ xs) k c e = go (λ k e. among p xs k c e) (p x) k e
     go rest true zero e = (0, e)
     go rest true (suc k) e = let w = rest k e in (suc w.0, w.1)
 
-abbrev NoSooner : Coming → Coming → Type 0
-NoSooner c d = (c.time ≤ d.time) × (c.time ≡ d.time → c.from ≤ d.from)
-
-sorted_front : (x : Coming) (xs : List Coming) → ((k : ℕ) (c : Coming) → slice_get xs k ≡ Some c → NoSooner x c) → AreSorted xs → AreSorted (x ∷ xs)
-sorted_front x xs above s = go
-  where
-    go : (j k : ℕ) (c d : Coming) → j ≤ k → slice_get (x ∷ xs) j ≡ Some c → slice_get (x ∷ xs) k ≡ Some d → NoSooner c d
-    go zero zero c d le aj ak =
-        let same : c ≡ d = (let e : ◌≡◌ {A = Option Coming} (Some c) (Some d) = sym aj ∙ ak in cc) in
-        subst (NoSooner c) same (omega arith, λ e. omega arith)
-    go zero (suc k) c d le aj ak =
-        let same : x ≡ c = (let e : ◌≡◌ {A = Option Coming} (Some x) (Some c) = aj in cc) in
-        subst (λ r. NoSooner r d) same (above k d ak)
-    go (suc j) zero c d le aj ak = absurd (omega (arith, le))
-    go (suc j) (suc k) c d le aj ak = s j k c d (omega (arith, le)) aj ak
-
-sorted_left : (p : Coming → Bool) (xs : List Coming) → AreSorted xs → AreSorted (filter p xs)
-sorted_left p [] s = s
-sorted_left p (x ∷ xs) s = go (sorted_left p xs (λ j k c d le aj ak. s (suc j) (suc k) c d (omega (arith, le)) aj ak)) (p x)
-  where
-    go : AreSorted (filter p xs) → (b : Bool) → AreSorted (cond b (x ∷ filter p xs) (filter p xs))
-    go rest false = rest
-    go rest true = sorted_front x (filter p xs) (λ k c e. let w = among p xs k c e in s 0 (suc w.0) x c (omega arith) refl w.1) rest
-
 pub fewer : (p : Coming → Bool) (xs : List Coming) → length (filter p xs) ≤ length xs
 fewer p [] = omega arith
 fewer p (x ∷ xs) = go (fewer p xs) (p x)
@@ -55,9 +31,9 @@ fewer p (x ∷ xs) = go (fewer p xs) (p x)
     go rest true = omega (arith, rest)
 
 -- the lane is kept
-pub lane_left : (p : Coming → Bool) (kept new : List Coming) (start room capacity reserved : ℕ) (sorted : Bool) (latest : ℕ)
-    → IsLane kept start room capacity sorted latest → new ≡ filter p (drop start kept) → reserved ≡ capacity → IsLane new 0 room reserved sorted latest
-lane_left p kept new start room capacity reserved sorted latest is left same =
+pub lane_left : (p : Coming → Bool) (kept new : List Coming) (start room capacity reserved latest : ℕ)
+    → IsLane kept start room capacity latest → new ≡ filter p (drop start kept) → reserved ≡ capacity → IsLane new 0 room reserved latest
+lane_left p kept new start room capacity reserved latest is left same =
     let fits : length kept - start ≤ room = is.fits in
     let few : length new ≤ length (drop start kept) = subst (λ l. length l ≤ length (drop start kept)) (sym left) (fewer p (drop start kept)) in
     let behind : length (drop start kept) ≡ length kept - start = length-drop start kept in
@@ -66,7 +42,6 @@ lane_left p kept new start room capacity reserved sorted latest is left same =
       begins = omega arith;
       fits = omega (arith, fits, few, behind);
       reserved = omega (arith, full, same);
-      in_order = λ e. subst AreSorted (sym left) (sorted_left p (drop start kept) (is.in_order e));
       by = subst (AreBy latest) (sym left) (λ k c e. let w = among p (drop start kept) k c e in is.by w.0 c w.1);
     }
 

@@ -1,6 +1,6 @@
 pub mod Sources
 pub mod First
-pub mod Sorted
+pub mod Arrivals
 pub mod Later
 pub mod Readiness
 pub mod EmptyQueues

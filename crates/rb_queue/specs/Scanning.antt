@@ -32,11 +32,6 @@ abbrev pub HasFirst : List Coming → ℕ → Type 0
 HasFirst [] place = ⊤
 HasFirst (c ∷ arrivals) place = IsFirst (c ∷ arrivals) place
 
--- each comes no sooner than those before it
-abbrev pub AreSorted : List Coming → Type 0
-AreSorted arrivals = (j k : ℕ) (c d : Coming) → j ≤ k → slice_get arrivals j ≡ Some c → slice_get arrivals k ≡ Some d
-    → (c.time ≤ d.time) × (c.time ≡ d.time → c.from ≤ d.from)
-
 -- each is due by this time
 abbrev pub AreBy : ℕ → List Coming → Type 0
 AreBy latest arrivals = (k : ℕ) (c : Coming) → slice_get arrivals k ≡ Some c → c.time ≤ latest

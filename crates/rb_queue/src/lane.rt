@@ -5,10 +5,7 @@ ghost use Rattle.rb_queue.specs.Waiting.Ready.{Comes, Ticks};
 ghost use Rattle.rb_queue.specs.Scanning.{HasFirst, IsReadyAt};
 
 use crate::arrival::Arrival;
-use crate::scan::{
-    count, count_ready, first_of, first_sorted, is_sooner, is_sorted_with, latest_with, least_time,
-    place_of,
-};
+use crate::scan::{count, count_ready, first_of, is_sooner, latest_with, least_time, place_of};
 use rb_base::{Event, EventKind, NodeName, OutOfMemory};
 use std::alloc::Global;
 use std::marker::Model;
@@ -20,8 +17,6 @@ pub struct Lane {
     // Those before the start are gone.
     kept: Vec<Arrival>,
     start: usize,
-    // If so, each arrival comes no sooner than those before it.
-    sorted: bool,
     // All arrivals are due by this time.
     latest: u64,
     tick: Option<u64>,
@@ -41,8 +36,7 @@ impl Model for Lane {
       room = l.room;
     } };
 
-    ghost invariant = { λ l. IsLane l.kept.items l.start l.room (vec_capacity l.kept) l.sorted
-        l.latest };
+    ghost invariant = { λ l. IsLane l.kept.items l.start l.room (vec_capacity l.kept) l.latest };
 }
 
 // Where those before the start are gone, and there is no room behind, the others move to the front.
@@ -108,7 +102,6 @@ impl Lane {
         Ok(Lane {
             kept,
             start: 0,
-            sorted: true,
             latest: 0,
             tick: None,
             room,
@@ -139,7 +132,6 @@ impl Lane {
     {
         self.start = make_room(&mut self.kept, self.start, self.room);
         let waiting = &self.kept[self.start..];
-        self.sorted = is_sorted_with(waiting, self.sorted, self.latest, &arrival);
         self.latest = latest_with(waiting, self.latest, &arrival);
         self.kept.push_reserved(arrival);
     }
@@ -157,9 +149,6 @@ impl Lane {
     fn first(&self) -> usize
         ensures { HasFirst self.now.arrivals result }
     {
-        if self.sorted {
-            return first_sorted(self.waiting());
-        }
         first_of(self.waiting())
     }
 
@@ -290,7 +279,6 @@ impl Lane {
     {
         self.kept.clear();
         self.start = 0;
-        self.sorted = true;
         self.latest = 0;
     }
 
@@ -318,7 +306,6 @@ impl Lane {
             return;
         }
         let _ = self.kept.remove(self.start + place);
-        self.sorted = false;
     }
 
     /// Drops the arrivals that are due before this time, and nothing else. The others stay in the order

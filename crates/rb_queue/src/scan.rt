@@ -1,9 +1,9 @@
 //! What is looked up among the arrivals of one lane.
-ghost use Rattle.std.specs.Prelude.{◌≡◌, ℕ, ◌+◌, ◌<◌, ◌≤◌, ◌++◌, ◌∷◌, [], length, map, nat_lt, true, MatchResult, Option, option_to_list};
+ghost use Rattle.std.specs.Prelude.{◌≡◌, ℕ, ◌+◌, ◌<◌, ◌≤◌, ◌++◌, ◌∷◌, [], length, map, nat_lt, MatchResult, Option, option_to_list};
 ghost use Rattle.rb_base.specs.Counting.{count_if};
 ghost use Rattle.rb_rules.specs.WorldStep.{least};
 ghost use Rattle.rb_queue.specs.Waiting.{arrivals_at, coming_at, comes, tick_at, unless_any};
-ghost use Rattle.rb_queue.specs.Scanning.{AreBy, AreSorted, HasFirst, StandsAt, is_between, is_sooner};
+ghost use Rattle.rb_queue.specs.Scanning.{AreBy, HasFirst, StandsAt, is_between, is_sooner};
 
 use crate::arrival::Arrival;
 
@@ -34,34 +34,6 @@ pub(crate) fn first_of(arrivals: &[Arrival]) -> usize
         first = first_with(&arrivals[..place], first, arrival);
     }
     first
-}
-
-// The same, where they are sorted.
-#[inline(always)]
-pub(crate) fn first_sorted(arrivals: &[Arrival]) -> usize
-    requires { AreSorted arrivals.now }
-    ensures { HasFirst arrivals.now result }
-{
-    if arrivals.len() == 0 {
-        return 0;
-    }
-    let _source = arrivals[0].source();
-    0
-}
-
-// Whether they are known to be sorted with one more behind them.
-#[inline(always)]
-pub(crate) fn is_sorted_with(
-    arrivals: &[Arrival],
-    sorted: bool,
-    latest: u64,
-    arrival: &Arrival,
-) -> bool
-    requires sorted { sorted ≡ true → AreSorted arrivals.now }
-    requires by { AreBy latest arrivals.now }
-    ensures { result ≡ true → AreSorted (arrivals.now ++ arrival.now ∷ []) }
-{
-    sorted & (latest < arrival.time())
 }
 
 // A time by which they all are due, with one more behind them.

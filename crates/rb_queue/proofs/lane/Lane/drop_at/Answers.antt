@@ -1,7 +1,7 @@
 use Rattle.std.proofs.Common.{◌≡◌, ◌+◌, ◌-◌, ◌<◌, ◌≤◌, arith, drop, length, subst, sym}
 use Rattle.std.proofs.lemmas.List.{length-drop}
 use Rattle.rb_queue.specs.Waiting.{Held}
-use Rattle.rb_queue.proofs.Sorted.{by_without, lane_without}
+use Rattle.rb_queue.proofs.Arrivals.{by_without, lane_without}
 use Rattle.rb_queue.proofs.lane.Lane.drop_at.Goals as goal
 
 pub returns : goal.returns
@@ -20,6 +20,5 @@ invariant_of-self c =
       begins = omega (arith, there, behind, one);
       fits = omega (arith, there, behind, one, fits);
       reserved = omega (arith, c.self.invariant.reserved, c.remove.ensures.capacity);
-      in_order = λ e. absurd (cc);
       by = by_without c.self.inside.kept.items c.remove.new.self.items c.self.inside.start c.args.place c.self.inside.latest there c.remove.ensures.items c.self.invariant.by;
     }

@@ -6,7 +6,7 @@ use Rattle.rb_queue.proofs.lane.Lane.drop_before.Goals as goal
 
 pub invariant_of-self : goal.invariant_of-self
 invariant_of-self c =
-    lane_left (λ (r : Coming). nat_le c.args.until r.time) c.self.inside.kept.items c.keep_later.new.kept.items c.self.inside.start c.self.inside.room _ _ c.self.inside.sorted c.self.inside.latest
+    lane_left (λ (r : Coming). nat_le c.args.until r.time) c.self.inside.kept.items c.keep_later.new.kept.items c.self.inside.start c.self.inside.room _ _ c.self.inside.latest
     c.self.invariant c.keep_later.ensures.left c.keep_later.ensures.capacity
 
 pub returns-then-self-until : goal.returns-then-self-until
