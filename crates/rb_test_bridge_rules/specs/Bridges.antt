@@ -1,9 +1,12 @@
 -- The bridges of the worked cases, and what is said of them.
-use Rattle.std.specs.Prelude.{ℕ, ◌+◌, ◌==◌, if◌then◌else◌, Option, Some, None, List, [], ◌∷◌, codes, replicate}
+use Rattle.std.specs.Prelude.{ℕ, ◌+◌, ◌==◌, if◌then◌else◌, Option, Some, None, List, [], ◌∷◌, codes, get_or, replicate, take}
 use Rattle.rb_base.specs.Sizes.{Sizes}
 use Rattle.rb_rules.specs.declared.message.Version.TheVariants.{One}
 use Rattle.rb_rules.specs.declared.plan.Plan.{Plan}
+use Rattle.rb_rules.specs.Book.{Record}
+use Rattle.rb_rules.specs.Book.Record.{Ended}
 use Rattle.rb_rules.specs.Goodness.{Scenario}
+use Rattle.rb_rules.specs.Rounds.{records_of}
 use Rattle.rb_rules_bridge.specs.declared.bank.Pair.{Pair}
 use Rattle.rb_rules_bridge.specs.Bridges.{Bridge}
 
@@ -127,3 +130,13 @@ slot_each slot = if slot == 3 then Some 0 else (if slot == 4 then Some 1 else (i
 -- two BIUs with one word, and a third that is not good when its slot comes
 abbrev pub faulty_replica : Scenario
 faulty_replica = triple 10 10 30 (Some (0, 3))
+
+-- the records of the bus without a fault, alone: those of frame 0, and the one with which frame 1 begins
+abbrev pub all_told : List Record
+all_told = records_of outvoted.right []
+
+abbrev pub first_told : List Record
+first_told = take 11 all_told
+
+abbrev pub next_told : Record
+next_told = get_or all_told 11 Ended

@@ -2,15 +2,15 @@
 //! does nothing, and its contract is a case.
 #![tactic(auto, unfolding(rb_base::specs::Nodes::set_of, rb_base::specs::Nodes::set_below, rb_base::specs::Nodes::size, rb_rules::specs::Spelling::message_in, rb_rules::specs::ExactStage::close_exact, rb_rules::specs::ExactStage::outcome_of, rb_rules::specs::SyncStage::close_sync, rb_rules::specs::SyncStage::sync_outcome_of, rb_rules::specs::Conviction::convicted_by, rb_rules::specs::Conviction::turn, rb_rules::specs::Links::delay_of, rb_rules::specs::Judging::classes_of, rb_rules::specs::Judging::verdict_of, rb_rules::specs::Hearing::sending, rb_rules::specs::Hearing::heard_from, rb_rules::specs::Hearing::row_of, rb_rules::specs::Book::with_stage, rb_rules::specs::Book::with_frame, rb_rules::specs::Rounds::sent_in, rb_rules::specs::Rounds::close_on, rb_rules::specs::Rounds::go_through, rb_rules::specs::Rounds::results_of, rb_rules::specs::Rounds::after_window, rb_rules::specs::Rounds::begin_frame, rb_rules::specs::Rounds::step, rb_group::specs::Groups::values_of))]
 
-ghost use Rattle.std.specs.Prelude.{◌≡◌, []};
-ghost use Rattle.rb_laws_bridge.specs.Laws.{AreUnbroken, SoundPairsOutnumber};
+ghost use Rattle.std.specs.Prelude.{◌≡◌, ◌∷◌, ◌++◌, [], drop};
+ghost use Rattle.rb_laws_bridge.specs.Laws.{AreUnbroken, AreUpTo, SoundPairsOutnumber, frame_told};
 ghost use Rattle.rb_laws_groups.specs.Laws.{AreServed, IsGoodPort, IsSchedule, OffersAreWithin, Outnumber, has_slot, is_good_owner, offers};
 ghost use Rattle.rb_rules.specs.Lawful.{IsLawful};
 ghost use Rattle.rb_rules_bridge.specs.declared.bank.Bank.TheVariants.{Right};
 ghost use Rattle.rb_rules_bridge.specs.Bridges.{IsBridge};
 ghost use Rattle.rb_rules_bridge.specs.Crossings.{hands_of};
 ghost use Rattle.rb_rules_bridge.specs.Texts.{bridge_text};
-ghost use Rattle.rb_test_bridge_rules.specs.Bridges.{both_break, both_break_text, faulty_replica, idle_slot, idle_slot_text, last_data_slot, last_data_slot_text, left_breaks, left_breaks_text, no_majority, no_majority_text, other_slots, other_slots_text, outvoted, outvoted_text, right_breaks, right_breaks_text, slot_each, three_frames, three_frames_text};
+ghost use Rattle.rb_test_bridge_rules.specs.Bridges.{all_told, both_break, both_break_text, faulty_replica, first_told, idle_slot, idle_slot_text, last_data_slot, last_data_slot_text, left_breaks, left_breaks_text, next_told, no_majority, no_majority_text, other_slots, other_slots_text, outvoted, outvoted_text, right_breaks, right_breaks_text, slot_each, three_frames, three_frames_text};
 
 /// Each finds the other's word in the second frame, and in the third its own, which the other has
 /// handed back.
@@ -73,6 +73,15 @@ pub fn a_faulty_replica()
     ensures within { OffersAreWithin faulty_replica [] 0 slot_each 7 10 10 }
     ensures port { IsGoodPort faulty_replica 0 0 }
     ensures other_port { IsGoodPort faulty_replica 0 1 }
+{}
+
+/// The premises of the laws on the order of records: up to one record those of a run are of frame
+/// 0, and frame 1 begins with that.
+pub fn records_of_two_frames()
+    ensures lawful { IsLawful outvoted.right }
+    ensures order { all_told ≡ first_told ++ next_told ∷ drop 12 all_told }
+    ensures up_to { AreUpTo outvoted.right.frames 0 first_told }
+    ensures later { frame_told outvoted.right.frames next_told ≡ 1 }
 {}
 
 /// The premises of the law that words cross, of the bridge whose left BIU is outvoted: two pairs
