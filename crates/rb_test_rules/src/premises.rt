@@ -13,6 +13,7 @@ ghost use Rattle.rb_laws_agreement.specs.OneSlot.{IsExchange, KeepsPremise, stat
 ghost use Rattle.rb_laws_agreement.specs.Values.{IsGoodSender};
 ghost use Rattle.rb_laws_synchrony.specs.OneStage.{HearNear, middle_kept};
 ghost use Rattle.rb_laws_events.specs.OwnMoments.{IsBeforeTheBreak};
+ghost use Rattle.rb_laws_sweeps.specs.Laws.{NeedsEvent};
 ghost use Rattle.rb_laws_letters.specs.Laws.{AreFirst};
 ghost use Rattle.rb_laws_letters.specs.Offers.{IsGoodThrough, offered_by};
 ghost use Rattle.rb_laws_letters.specs.Sent.{IsFirstPart, IsLetter, without_zeros, words_of};
@@ -82,9 +83,10 @@ pub fn alike_ports()
 {}
 
 /// In the third stage of the first data slot two BIUs and an RMU run: each stands in the slot, and
-/// the BIUs, which are alike, after its delivery.
+/// the BIUs, which are alike, after its delivery. The next record needs an event.
 pub fn running_nodes()
     ensures before_the_break { IsBeforeTheBreak one_state third_stage }
+    ensures needs { NeedsEvent one_state third_stage }
     ensures biu { RunsInSlot Biu 0 }
     ensures rmu { RunsInSlot Rmu 0 }
     ensures first { RunsAfterSlot 0 }

@@ -136,6 +136,10 @@ after-slot i f = record {
 pub returns-clause-before_the_break : goal.returns-clause-before_the_break
 returns-clause-before_the_break c = before-the-break
 
+pub returns-clause-needs : goal.returns-clause-needs
+unfolding set_of set_below size message_in close_exact outcome_of close_sync sync_outcome_of turn convicted_by classes_of verdict_of delay_of with_stage with_frame sending row_of state_at said_at act_on act_at tick arrive wants is_busy ready_at due_of says_in proceed after_act after_arrival with_act pass_and_tick happens take go_on first_world third_stage
+returns-clause-needs c = record { going = refl; needs = refl }
+
 pub returns-clause-biu : goal.returns-clause-biu
 returns-clause-biu c = in-slot Biu 0 (found_by third_stage Biu 0 first-found)
 
