@@ -1,5 +1,5 @@
-//! Premises of the laws of one slot and of one stage, and of laws on whole runs, on receivers beside
-//! the bus and on letters, met by an instance each.
+//! Premises of the laws of one slot and of one stage, and of laws on whole runs, on receivers
+//! beside the bus and on letters, met by an instance each.
 #![tactic(auto, unfolding(rb_base::specs::Nodes::set_of, rb_base::specs::Nodes::set_below, rb_rules::specs::ExactStage::close_exact, rb_rules::specs::ExactStage::outcome_of, rb_rules::specs::SyncStage::close_sync, rb_rules::specs::SyncStage::sync_outcome_of, rb_laws_agreement::specs::OneSlot::state_after))]
 
 ghost use Rattle.std.specs.Prelude.{◌≡◌, ◌∷◌, ◌+◌, ◌<◌, [], All, get_or, map, None, Some, true};
