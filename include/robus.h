@@ -71,9 +71,15 @@ robus_answer robus_bridge_call(const uint8_t *words, size_t words_length, const 
 
 /* `robus_picture WORDS < input > output`, as docs/robus_picture.md says it. The input is a report of `run`, the output one SVG document.
  *
- * robus_c::robus_picture_call, IsPictureAnswer (specs/Picture.antt): at 0 the output is the picture of the frames that the words ask for, in
- * the one style of all pictures, or the page of a flag (done); at 3 it is the line that says where and why the input is no report (refused);
- * 2 comes exactly where the words ask for no form, unless 7 comes first (unknown, usage). */
+ * robus_c::robus_picture_call, IsPictureAnswer (specs/Picture.antt):
+ *   done             at 0 the output is the picture of the frames that the words ask for, in the one style of all pictures, or the page of a flag
+ *   refused          at 3 the output is the line that says where and why the input is no report
+ *   too_long         at 4 the input is longer than a report may be
+ *   complete         within that length a report whose numbers a bus can have is drawn, and an input that is no list of a report's lines is
+ *                    refused; or 7 comes, or 9 with the output cut off
+ *   shown            at a flag 0 comes and its page is the output, or 7 comes, or 9 with the page cut off
+ *   unknown, usage, reads, writes, nothing: as of robus_call
+ */
 robus_answer robus_picture_call(const uint8_t *words, size_t words_length, const uint8_t *input, size_t input_length, uint8_t *output,
                                 size_t output_length);
 

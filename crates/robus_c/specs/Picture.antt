@@ -1,11 +1,15 @@
 -- What `robus_picture_call` promises of the very bytes.
-use Rattle.std.specs.Prelude.{ℕ, ◌≡◌, ◌<◌, List, [], length}
+use Rattle.std.specs.Prelude.{ℕ, ◌≡◌, ◌<◌, ◌≤◌, ◌⊎◌, List, [], length}
+use Rattle.rb_flags.specs.declared.Flag.{Flag}
 use Rattle.rb_picture.specs.declared.form.Form.{Form}
 use Rattle.rb_picture.specs.declared.form.Form.TheVariants.{Draw, Show}
+use Rattle.rb_picture.specs.declared.form.Frames.{Frames}
+use Rattle.rb_picture.specs.declared.line.Line.{Line}
 use Rattle.rb_picture.specs.declared.status.Status.{Status}
 use Rattle.rb_picture.specs.declared.status.Status.TheVariants as code
 use Rattle.rb_picture.specs.Answers.{IsPicture, IsRefusal, WritesNothing, report_limit}
 use Rattle.rb_picture.specs.Forms.{Ask}
+use Rattle.rb_picture.specs.Lines.{AllFit, IsReport}
 use Rattle.rb_picture.specs.Pages.{page_text}
 use Rattle.robus_c.specs.declared.answer.Answer.{Answer}
 use Rattle.robus_c.specs.Put.{IsAnswer}
@@ -31,6 +35,11 @@ pub record IsDone (words : List (List ℕ)) (input output : List ℕ) : Type 0 w
   pub asked : Ask words form
   pub gives : Gives form input output
 
+-- the answer that is due to the input comes, or memory runs out
+pub record Completes (input : List ℕ) (status : Status) : Type 0 where
+  pub drawn : (lines : List Line) → AllFit lines → IsReport input lines → (status ≡ code.Done) ⊎ (status ≡ code.OutOfMemory)
+  pub refused_at_once : ((lines : List Line) → ¬ IsReport input lines) → (status ≡ code.Refused) ⊎ (status ≡ code.OutOfMemory)
+
 -- The answer to words. Reading and writing never fail
 pub record Answers (words : List (List ℕ)) (input output : List ℕ) (status : Status) : Type 0 where
   pub unknown : status ≡ code.Usage → (form : Form) → ¬ Ask words form
@@ -41,6 +50,8 @@ pub record Answers (words : List (List ℕ)) (input output : List ℕ) (status :
   pub done : status ≡ code.Done → IsDone words input output
   pub refused : status ≡ code.Refused → IsRefusal input output  -- the input is no report, and the output is the line that says where and why
   pub too_long : status ≡ code.TooLong → report_limit < length input
+  pub complete : (frames : Frames) → Ask words (Draw frames) → length input ≤ report_limit → Completes input status
+  pub shown : (flag : Flag) → Ask words (Show flag) → (status ≡ code.Done) × (output ≡ page_text flag)
 
 -- the number of a status with which this output comes
 pub record Says (words : List (List ℕ)) (input output : List ℕ) (number : ℕ) : Type 0 where

@@ -7,5 +7,5 @@ returns c ok = record {
   is = c.number_of.ensures;
   answers = over_bytes c.args.words.now c.draw-status.result c.args.input.now c.new-source.result c.draw-status.new.input c.args.sink.now c.draw-status.new.output
       c.new-source.ensures c.requires ok c.draw-status.ensures.usage c.draw-status.ensures.untouched c.draw-status.ensures.done c.draw-status.ensures.refused
-      c.draw-status.ensures.write_fault c.draw-status.ensures.too_long c.draw-status.ensures.read_fault;
+      c.draw-status.ensures.write_fault c.draw-status.ensures.too_long c.draw-status.ensures.read_fault c.draw-status.ensures.complete;
 }
