@@ -44,7 +44,7 @@ pub record IsOfScenario (sc : Scenario) (clock : Timeline) (delays : DelayRules)
 abbrev pub with_sent : Scenario → Departure → Each Site → Each Site
 with_sent sc d sites = with_message sc (kind_of d.from) (number_of d.from) d.frame d.tick (Some d.message) sites
 
--- a message is on its way to these nodes, in the lanes and in the world of each scenario that they are of
+-- the message is on its way to these nodes, in the lanes and at the sites of the world
 pub record Sends (clock : Timeline) (delays : DelayRules) (version : Version) (d : Departure) (running : ℕ) (before after : Each Held) : Type 0 where
   pub lanes : after ≡ with_departure clock delays version d running before
   pub world : (sc : Scenario) (sites : Each Site) → IsOfScenario sc clock delays version d → AreRunning (other (kind_of d.from)) running sites

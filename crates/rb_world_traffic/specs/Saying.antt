@@ -112,13 +112,13 @@ with_arrivals more lane = record lane { arrivals = lane.arrivals ++ more }
 abbrev pub hears : Scenario → NodeName → Span → Site → Site
 hears sc name span s = record s { coming = s.coming ++ says_in sc (kind_of name) (number_of name) span }
 
--- what is kept of a scenario and these entries have brought in a window to the node, which has this clock
+-- what these entries bring in a window has come to the node, by this clock of it, in each scenario of which this is kept
 abbrev pub Brings : KeptSayings → List Say → Timeline → NodeName → Span → Each Held → Each Held → Type 0
 Brings kept says clock to span before after =
     (sc : Scenario) → kept ≡ kept_of sc → after ≡ with_lane to (with_arrivals (all_brought sc clock span says) (lane_of before to)) before
 
--- what is said to a node in a window has come to it, in its lane and in the world of each scenario of which this is kept and whose clock
--- this is
+-- what is said to a node in a window has come to it, in its lane and at its site, in each scenario of which this is kept and where this
+-- is the node's clock
 pub record SaysTo (kept : KeptSayings) (clock : Timeline) (to : NodeName) (span : Span) (before after : Each Held) : Type 0 where
   pub lanes : (sc : Scenario) → kept ≡ kept_of sc → clock ≡ clock_of sc (kind_of to) (number_of to)
       → after ≡ with_lane to (with_arrivals (says_in sc (kind_of to) (number_of to) span) (lane_of before to)) before
