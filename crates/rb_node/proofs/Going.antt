@@ -125,16 +125,3 @@ going me v1 v2 v3 now word w message closed e plan epoch not_closed =
     subst (λ x. IsWindowOf me x (now + 1) w) (sym is)
     (lasts me v2 now w plan2 epoch2 (said-window me v1 v2 v3 now word w message closed e)
     (differs now (v2.state.epoch + w.last) (sym not_closed ∙ e.closes)))
-
-same-number : (a b : ℕ) → true ≡ (a == b) → a ≡ b
-same-number a b h = grind (arith, nat_tests)
-
-pub ending : (me : Side) (v1 v2 v3 : Seated) (now word : ℕ) (w : Window) (message : Option Message) (closed : Bool)
-    → Ends me v1 v2 v3 now word w message closed → closed ≡ true → IsEnded v3 w (now + 1)
-ending me v1 v2 v3 now word w message closed e is_closed =
-    let here : IsWindowOf me v2 now w = said-window me v1 v2 v3 now word w message closed e in
-    let at : now ≡ v2.state.epoch + w.last = same-number now (v2.state.epoch + w.last) (sym is_closed ∙ e.closes) in
-    record {
-      of_frame = subst (λ s. IsOfFrame s v3.plan w) (sym e.same.sizes) (subst (λ p. IsOfFrame v2.sizes p w) (sym e.same.plan) here.of_frame);
-      after = ap (λ k. k + 1) at ∙ ap (λ k. k + w.last + 1) (sym e.same.epoch);
-    }

@@ -6,7 +6,7 @@ ghost use Rattle.rb_rules.specs.Core.{is_tick};
 ghost use Rattle.rb_rules.specs.Hearing.{tail_at};
 ghost use Rattle.rb_rules.specs.Plan.{IsFeasible, IsPlan, tail_start_of};
 ghost use Rattle.rb_rules.specs.SyncStage.{send_tick_of};
-ghost use Rattle.rb_node.specs.Aheads.{IsChosen, IsEnded, IsExactUntil, IsNextBusy, IsSaidNext, IsSooner, IsWindowOf, LooksAhead, SaysIn, ahead_of_end, following, is_alone, is_within, tick_said, want_ahead, want_at, window_of_tick};
+ghost use Rattle.rb_node.specs.Aheads.{IsChosen, IsExactUntil, IsNextBusy, IsSaidNext, IsSooner, IsWindowOf, LooksAhead, SaysIn, ahead_of_end, following, is_alone, is_within, tick_said, want_ahead, want_at, window_of_tick};
 ghost use Rattle.rb_node.specs.Wants.{slot_of_words, want_for};
 
 use crate::act::Want;
@@ -123,16 +123,10 @@ pub(crate) fn go_on<K: Kind>(engine: &Engine<K>, window: &mut Window, closed: bo
     requires epoch { engine.now.state.epoch ≤ next }
     requires next { next ≤ 2 ^ 31 }
     requires goes_on { closed ≡ false → IsWindowOf (side_of K.CODE) engine.now next window.old }
-    requires ended { closed ≡ true → IsEnded engine.now window.old next }
     ensures { IsWindowOf (side_of K.CODE) engine.now next window.new }
 {
-    bounds(engine);
     if closed {
-        if window.slot < engine.plan().shape().sync_slot() {
-            *window = following(engine.plan().plan(), window);
-        } else {
-            *window = window_of(engine, next);
-        }
+        *window = window_of(engine, next);
     }
 }
 

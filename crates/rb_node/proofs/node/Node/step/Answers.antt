@@ -2,7 +2,7 @@ use Rattle.std.proofs.Common.{◌≡◌, ◌+◌, ◌<◌, ◌≤◌, sym, subst
 use Rattle.rb_base.specs.Nodes.{side_of}
 use Rattle.rb_node.specs.Aheads.{SaysIn}
 use Rattle.rb_node.specs.Cores.{Running}
-use Rattle.rb_node.proofs.Going.{ending, going}
+use Rattle.rb_node.proofs.Going.{going}
 use Rattle.rb_node.proofs.Steps.{Kept, Parts, gives, keeps, quiet-gives, spent-gives}
 use Rattle.rb_node.proofs.node.Node.step.Goals as goal
 
@@ -62,18 +62,6 @@ go_on-requires-clause-goes_on g c =
       same = c.close_at-closed.ensures.same;
       stays = c.close_at-closed.ensures.keeps;
     }) c.bounds.ensures.plan k.epoch
-
-pub go_on-requires-clause-ended : goal.go_on-requires-clause-ended
-go_on-requires-clause-ended g c =
-    ending (side_of g.K.Kind.CODE) c.turn_at.new.engine c.say_at-message.new.engine c.close_at-closed.new.engine c.self.inside.had c.args.word
-    c.turn_at.new.ahead.window c.say_at-message.result c.close_at-closed.result
-    (record {
-      here = c.turn_at.ensures.ahead.window;
-      kept = c.say_at-message.ensures.keeps;
-      closes = c.close_at-closed.ensures.closes;
-      same = c.close_at-closed.ensures.same;
-      stays = c.close_at-closed.ensures.keeps;
-    })
 
 pub look_on-requires-clause-epoch : goal.look_on-requires-clause-epoch
 look_on-requires-clause-epoch g c =
