@@ -14,9 +14,6 @@ use thiserror::Error;
 // No run has as many ticks.
 const LAST_TICK: u64 = 1 << 31;
 
-// What the inverse of a length is a part of.
-const WHOLE: u64 = 1 << 40;
-
 /// Why there is no such clock.
 #[derive(Clone, Copy, Debug, PartialEq, Eq, Error)]
 pub enum ClockRefusal {
@@ -48,9 +45,6 @@ impl From<AllocError> for ClockRefusal {
 pub struct Clock {
     start: u64,
     segments: Vec<(u64, u32)>,
-    // About 2^40 over the last length. Nothing hangs on it: each tick that is guessed by it is
-    // looked at.
-    inverse: u32,
 }
 
 impl Model for Clock {
@@ -95,22 +89,6 @@ fn are_within(shortest: u32, longest: u32, segments: &[(u64, u32)]) -> bool
     true
 }
 
-// About 2^40 over the last length, rounded up.
-fn inverse_of(segments: &[(u64, u32)]) -> u32 {
-    let [.., (_, length)] = segments else {
-        return 0;
-    };
-    let inverse = WHOLE.checked_div(u64::from(*length)).unwrap_or(0);
-    u32::try_from(inverse.saturating_add(1)).unwrap_or(u32::MAX)
-}
-
-// About so many reference units over the length with this inverse, if they are fewer than 2^32;
-// else any number.
-#[inline]
-fn over(units: u64, inverse: u32) -> u64 {
-    units.wrapping_mul(u64::from(inverse)) >> 40
-}
-
 impl Clock {
     /// A clock that starts at `start`. A segment is a first tick and the length of the ticks from
     /// there on, `unit` give or take `drift`.
@@ -143,13 +121,8 @@ impl Clock {
         if !are_within(unit - drift, unit + drift, segments) {
             return Err(ClockRefusal::TickOutOfBounds);
         }
-        let inverse = inverse_of(segments);
         let segments = Vec::from_slice(alloc, segments)?;
-        Ok(Clock {
-            start,
-            segments,
-            inverse,
-        })
+        Ok(Clock { start, segments })
     }
 
     /// The time at which tick 0 begins.
@@ -247,46 +220,6 @@ impl Clock {
             from
         } else {
             from + (time - now).div_ceil(length)
-        }
-    }
-
-    // Whether this tick is the stamp of a time: the time has come by it, and not by the tick
-    // before.
-    #[inline(always)]
-    fn is_stamp(&self, time: u64, tick: u64) -> bool
-        requires { tick ≤ 2 ^ 31 }
-        ensures stamp { result ≡ true → IsStamp self.now time tick }
-        ensures clock { IsClock 1 2000000 self.now }
-    {
-        time <= self.at(tick) && (tick == 0 || self.at(tick - 1) < time)
-    }
-
-    // The tick that is nearly always the stamp of a time where the last length stands from there to
-    // this tick. Else it may be any before this one.
-    #[inline(always)]
-    fn guess(&self, time: u64, tick: u64) -> u64
-        requires { tick ≤ 2 ^ 31 }
-        ensures { result ≤ tick }
-    {
-        let back = self.at(tick).wrapping_sub(time);
-        tick.saturating_sub(over(back, self.inverse))
-    }
-
-    /// The stamp of a time, as `first_at` gives it, for who knows a tick near to it, of ticks up to
-    /// 2^31. Where the time comes not long before that tick it takes no division.
-    #[inline(always)]
-    pub fn first_near(&self, time: u64, tick: u64) -> u64
-        requires come { ComesBy (2 ^ 31) self.now time }
-        requires tick { tick ≤ 2 ^ 31 }
-        ensures stamp { IsStamp self.now time result }
-        ensures value { result ≡ stamp_of self.now time }
-        ensures most { result ≤ 2 ^ 31 }
-    {
-        let guess = self.guess(time, tick);
-        if self.is_stamp(time, guess) {
-            guess
-        } else {
-            self.first_at(time)
         }
     }
 }

@@ -13,7 +13,7 @@ ghost use Rattle.rb_slot.specs.Engines.{nothing_shown};
 ghost use Rattle.rb_world.specs.Sites.{KeptSite, Stands, number_of};
 ghost use Rattle.rb_world.specs.Tells.{EndsNext, EntersNone, HasComeBy, HasTakenIn, IfEndsNext, IfLiesWithin, LiesWithin, TakesNext, TakesNextWith, TakesTickWith};
 
-use rb_base::{Kind, MOST_TICKS, NodeName};
+use rb_base::{Kind, NodeName};
 use rb_clock::Clock;
 use rb_frame::Spelling;
 use rb_node::{Epoch, Node, Span, Step, Want};
@@ -146,8 +146,7 @@ impl<K: Kind> Site<K> {
         } }
         ensures same { IsSameNode self.old.node self.new.node }
     {
-        let near = self.node.next_tick().unwrap_or(MOST_TICKS);
-        let stamp = clock.first_near(time, near);
+        let stamp = clock.first_at(time);
         pass_to(&mut self.node, stamp);
         self.take_in(time, from, bytes);
     }
