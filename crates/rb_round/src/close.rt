@@ -25,7 +25,8 @@ fn leave_blank<K: Copy>(sheet: &mut Sheet<K>)
 }
 
 /// Closes a stage as `close_stage` does, in place: what was taken in it and what is shown of it is
-/// written over that of an earlier stage.
+/// written over that of an earlier stage. Without a look for a quiet window a frame of the
+/// generated run with seed 7 costs 1,556,700 instructions in place of 1,321,400.
 #[inline(always)]
 pub fn close_on_sheet<K: Copy>(
     inbox: &Inbox<K>,

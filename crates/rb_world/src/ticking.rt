@@ -189,7 +189,7 @@ fn tick_with_word<K: Kind>(
 
 // Node `i` of the kind takes its next tick. Most often all that happens at it is that the node says
 // a message within a window. Without `say_alone` a frame of the generated run with seed 7 costs
-// 1,325,100 instructions in place of 1,298,700.
+// 1,349,000 instructions in place of 1,321,400.
 #[inline(never)]
 fn tick_in_full<K: Kind>(
     bus: &Bus,
@@ -215,7 +215,7 @@ fn tick_in_full<K: Kind>(
 }
 
 /// Node `i` of the kind takes its next tick, which has this number. Without `end_window` a frame of
-/// the generated run with seed 7 costs 1,446,800 instructions in place of 1,298,700.
+/// the generated run with seed 7 costs 1,457,200 instructions in place of 1,321,400.
 #[inline(always)]
 pub(crate) fn tick<K: Kind>(
     bus: &Bus,
