@@ -1,12 +1,12 @@
 //! The parts of a tick, in their order.
-ghost use Rattle.std.specs.Prelude.{◌≡◌, ◌+◌, ◌==◌, ◌<◌, ◌≤◌, ◌^◌, false, List, [], None, if◌then◌else◌};
+ghost use Rattle.std.specs.Prelude.{◌≡◌, ◌+◌, ◌==◌, ◌<◌, ◌≤◌, ◌^◌, false, None};
 ghost use Rattle.rb_base.specs.Nodes.Side.{Biu as TheBiu};
 ghost use Rattle.rb_base.specs.Sizes.{sync_slot_of};
-ghost use Rattle.rb_eligible.specs.Inboxes.{Received, HoldsArrivals, StampsUpTo};
-ghost use Rattle.rb_rules.specs.Core.{epoch_at, state_at};
+ghost use Rattle.rb_eligible.specs.Inboxes.{StampsUpTo};
+ghost use Rattle.rb_rules.specs.Core.{epoch_at};
 ghost use Rattle.rb_slot.specs.Closable.{IsOfFrame};
-ghost use Rattle.rb_slot.specs.Engines.{IsSameFrame, outcome_on};
-ghost use Rattle.rb_node.specs.Aheads.{IsWindowOf};
+ghost use Rattle.rb_node.specs.Aheads.{IsWindowOf, seated_at};
+ghost use Rattle.rb_node.specs.Closes.{ClosesAtLast};
 
 use crate::ahead::{bounds, is_tick, window_of};
 use rb_base::{Biu, NodeSet, Rmu};
@@ -22,9 +22,7 @@ pub(crate) fn turn_at(engine: &mut Engine<Biu>, window: &Window, now: u64) -> Wi
     requires frame { engine.old.state.frame < 2 ^ 31 }
     requires epoch { engine.old.state.epoch ≤ now }
     requires window { IsWindowOf TheBiu engine.old now window.now }
-    ensures state { engine.new ≡ record engine.old {
-      state = state_at engine.old.sizes engine.old.plan TheBiu engine.old.state now;
-    } }
+    ensures state { engine.new ≡ seated_at TheBiu engine.old now }
     ensures window { IsWindowOf TheBiu engine.new now result }
 {
     if is_tick(engine.new_epoch(), now) {
@@ -66,20 +64,9 @@ pub(crate) fn close_at(
     requires window { IsOfFrame engine.old.sizes engine.old.plan window.now }
     requires fits { engine.old.state.epoch + window.now.last < 2 ^ 64 }
     requires stamps { StampsUpTo (2 ^ 32) inbox.old }
-    ensures closes { result ≡ (now == engine.old.state.epoch + window.now.last) }
-    ensures state { (received : List Received) → HoldsArrivals inbox.old received
-        → engine.new ≡ record engine.old {
-          state = if result then (outcome_on TheBiu engine.old window.now received).state
-              else engine.old.state;
-        } }
-    ensures shown { (received : List Received) → HoldsArrivals inbox.old received
-        → shown.new ≡ (if result then (outcome_on TheBiu engine.old window.now received).closed
-        else shown.old) }
-    ensures stays { result ≡ false → shown.new ≡ shown.old }
-    ensures inbox { (received : List Received) → HoldsArrivals inbox.old received
-        → HoldsArrivals inbox.new (if result then [] else received) }
-    ensures stamps { StampsUpTo (2 ^ 32) inbox.new }
-    ensures same { IsSameFrame engine.old engine.new }
+    ensures closing { ClosesAtLast TheBiu window.now
+        (record { seat = engine.old; had = now; inbox = inbox.old; shown = shown.old }) result
+        (record { seat = engine.new; had = now; inbox = inbox.new; shown = shown.new }) }
     ensures middle { (window.now.slot == sync_slot_of engine.old.sizes) ≡ false
         → engine.new.state.k2 ≡ engine.old.state.k2 }
 {

@@ -32,7 +32,7 @@ look_ahead-self-inside-requires-clause-epoch c =
     let kept : Kept c.self.inside.engine c.close_at-closed.new.engine c.self.inside.had =
     keeps c.self.inside.engine c.turn_at-here.new.engine c.close_at-closed.new.engine c.self.inside.had c.turn_at-here.result c.self.invariant.epoch
     c.self.invariant.frame c.self.invariant.known c.turn_at-here.ensures.state c.turn_at-here.ensures.window.is c.bounds.ensures.shape c.bounds.ensures.plan
-    c.close_at-closed.ensures.same c.close_at-closed.ensures.middle in
+    c.close_at-closed.ensures.closing.same c.close_at-closed.ensures.middle in
     let epoch : c.close_at-closed.new.engine.state.epoch ≤ c.self.inside.had = kept.epoch in
     omega arith
 
@@ -41,7 +41,7 @@ invariant_of-self-2 c =
     let kept : Kept c.self.inside.engine c.close_at-closed.new.engine c.self.inside.had =
     keeps c.self.inside.engine c.turn_at-here.new.engine c.close_at-closed.new.engine c.self.inside.had c.turn_at-here.result c.self.invariant.epoch
     c.self.invariant.frame c.self.invariant.known c.turn_at-here.ensures.state c.turn_at-here.ensures.window.is c.bounds.ensures.shape c.bounds.ensures.plan
-    c.close_at-closed.ensures.same c.close_at-closed.ensures.middle in
+    c.close_at-closed.ensures.closing.same c.close_at-closed.ensures.middle in
     let epoch : c.close_at-closed.new.engine.state.epoch ≤ c.self.inside.had = kept.epoch in
     record {
       most = omega arith;
@@ -49,7 +49,7 @@ invariant_of-self-2 c =
       epoch = omega arith;
       frame = kept.frame;
       known = kept.known;
-      stamps = c.close_at-closed.ensures.stamps;
+      stamps = c.close_at-closed.ensures.closing.stamps;
       ahead = c.look_ahead-self-inside.ensures;
     }
 
@@ -61,10 +61,10 @@ parts c = record {
   turned = c.turn_at-here.ensures.state;
   begun = c.epoch_at-epoch.ensures;
   window = c.turn_at-here.ensures.window.is;
-  closes = c.close_at-closed.ensures.closes;
-  state = c.close_at-closed.ensures.state;
-  shown = c.close_at-closed.ensures.shown;
-  holds = c.close_at-closed.ensures.inbox;
+  closes = c.close_at-closed.ensures.closing.closes;
+  state = c.close_at-closed.ensures.closing.state;
+  shown = c.close_at-closed.ensures.closing.shown;
+  holds = c.close_at-closed.ensures.closing.inbox;
 }
 
 pub returns-clause-core : goal.returns-clause-core
