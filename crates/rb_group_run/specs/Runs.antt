@@ -1,10 +1,14 @@
 -- What comes of a run of which a group is asked, when it is taken to its end.
-use Rattle.std.specs.Prelude.{ℕ, Bool, Option, List}
+use Rattle.std.specs.Prelude.{ℕ, ◌≡◌, Bool, Option, List, Result, IfOk, OnErr, OnOk}
 use Rattle.std.specs.Io.KnownBytes.{Appends}
 use Rattle.rb_rules.specs.Goodness.{Scenario}
 use Rattle.rb_world_book.specs.declared.turn.Turn.{Turn}
 use Rattle.rb_outside.specs.Bytes.{AppendsPart}
+use Rattle.rb_outside.specs.Causes.{HasCause}
+use Rattle.rb_run.specs.declared.ending.Ending.{Ending}
+use Rattle.rb_run.specs.Runs.{EndsWith}
 use Rattle.rb_run.specs.Turns.{AreAll, AreGiven, records_in}
+use Rattle.rb_world.specs.Worlds.{KeptWorld}
 use Rattle.rb_group_run.specs.declared.asked.Asked.{Asked}
 use Rattle.rb_group_run.specs.Replies.{groups_text}
 
@@ -24,3 +28,14 @@ pub record WritesPart (sc : Scenario) (asked : Asked) (is_plain : Bool) (told si
   pub turns : List Turn
   pub given : AreGiven sc is_plain told since turns
   pub text : AppendsPart held after (text_of sc asked turns)
+
+-- the run went to its end, and what its turns say of the group was written, or a first part of it where a write failed. The bus stays,
+-- and how the drive drives
+pub record WritesGroups {D K E : Type 0} (asked : Asked) (k after : KeptWorld) (is_plain : D → Bool) (told : D → Option (List Turn)) (drive drive' : D)
+    (held : K → Option (List ℕ)) (faults : K → ℕ) (output output' : K) (result : Result Ending E) : Type 0 where
+  pub all : OnOk result (WritesAll k.bus asked (is_plain drive) (told drive) (told drive') (held output) (held output'))
+  pub part : OnErr result (WritesPart k.bus asked (is_plain drive) (told drive) (told drive') (held output) (held output'))
+  pub ending : IfOk result (EndsWith k.bus)
+  pub cause : HasCause (faults output) (faults output') result
+  pub bus : after.bus ≡ k.bus
+  pub stays : is_plain drive' ≡ is_plain drive

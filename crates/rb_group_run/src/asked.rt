@@ -3,7 +3,7 @@ ghost use Rattle.std.specs.Prelude.{◌↔◌, IsTrue};
 ghost use Rattle.rb_group_run.specs.Members.{AreMembers};
 
 use rb_base::{Biu, NodeSet, Shape};
-use rb_group::Which;
+use rb_group::{Voters, Which};
 use rb_world_onset::Onsets;
 
 /// A group of replicas, and the voter that finds one value for it.
@@ -20,6 +20,14 @@ pub struct Scope {
     pub shape: Shape,
     pub frames: u32,
     pub onsets: Onsets,
+}
+
+/// What is asked of a run: for which group, in which scope, and by which voters.
+#[derive(Clone, Copy)]
+pub struct Query<'a> {
+    pub scope: &'a Scope,
+    pub voters: &'a Voters,
+    pub asked: &'a Asked,
 }
 
 /// Whether each node of the mask, whose bit i is BIU i, is a BIU of a bus of this shape. Where one

@@ -1,7 +1,7 @@
 //! What a run says of a group of replicas, written as its frames are complete.
 #![tactic(auto)]
 
-pub use asked::{Asked, Scope, has_members};
+pub use asked::{Asked, Query, Scope, has_members};
 pub use ports::{Ports, advance, first_ports};
 pub use report::write_turn;
 pub use run::write_groups;

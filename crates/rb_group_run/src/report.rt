@@ -11,10 +11,9 @@ ghost use Rattle.rb_rules.specs.Goodness.{Scenario, is_good};
 ghost use Rattle.rb_group_run.specs.Holding.{HoldPortions, HoldsFrame, IsScopeOf};
 ghost use Rattle.rb_group_run.specs.Replies.{ending_in, frame_text, last_data_slot, port_text, turn_text, value_found};
 
-use crate::asked::{Asked, Scope};
+use crate::asked::{Query, Scope};
 use crate::ports::{Ports, find, frame_or};
 use rb_base::{NodeName, Shape};
-use rb_group::Voters;
 use rb_outside::{Failed, Sink, write_line};
 use rb_report::{breach_line, end_line, group_line};
 use rb_world_book::Turn;
@@ -39,18 +38,17 @@ fn is_good_at_last(scope: &Scope, frame: u32, port: u8) -> bool
 fn write_value<K: Sink>(
     ports: &Ports,
     port: u8,
-    voters: &Voters,
-    asked: &Asked,
+    query: &Query<'_>,
     output: &mut K,
 ) -> Result<(), Failed>
     requires { port < 16 }
     ensures writes { (told : ℕ → List Delivery)
-        → HoldPortions asked.now.members told ports.now.groups
+        → HoldPortions query.now.asked.now.members told ports.now.groups
         → Writes K.held K.faults output.old output.new result
-        (group_text ports.now.frame port (value_found asked.now told port)) }
+        (group_text ports.now.frame port (value_found query.now.asked.now told port)) }
     ensures cause { HasCause (K.faults output.old) (K.faults output.new) result }
 {
-    let value = find(&ports.groups, port, voters, asked);
+    let value = find(&ports.groups, port, query.voters, query.asked);
     write_line(output, &group_line(ports.frame, port, value))
 }
 
@@ -58,41 +56,33 @@ fn write_value<K: Sink>(
 fn write_port<K: Sink>(
     ports: &Ports,
     port: u8,
-    scope: &Scope,
-    voters: &Voters,
-    asked: &Asked,
+    query: &Query<'_>,
     output: &mut K,
 ) -> Result<(), Failed>
     requires { port < 16 }
-    ensures writes { (sc : Scenario) (told : ℕ → List Delivery) → IsScopeOf sc scope.now
-        → HoldPortions asked.now.members told ports.now.groups
+    ensures writes { (sc : Scenario) (told : ℕ → List Delivery) → IsScopeOf sc query.now.scope.now
+        → HoldPortions query.now.asked.now.members told ports.now.groups
         → Writes K.held K.faults output.old output.new result
-        (port_text sc ports.now.frame (value_found asked.now told) port) }
+        (port_text sc ports.now.frame (value_found query.now.asked.now told) port) }
     ensures cause { HasCause (K.faults output.old) (K.faults output.new) result }
 {
-    if is_good_at_last(scope, ports.frame, port) {
-        write_value(ports, port, voters, asked, output)
+    if is_good_at_last(query.scope, ports.frame, port) {
+        write_value(ports, port, query, output)
     } else {
         Ok(())
     }
 }
 
 // Writes the values of the frame that is over.
-fn write_frame<K: Sink>(
-    ports: &Ports,
-    scope: &Scope,
-    voters: &Voters,
-    asked: &Asked,
-    output: &mut K,
-) -> Result<(), Failed>
-    ensures writes { (sc : Scenario) (told : ℕ → List Delivery) → IsScopeOf sc scope.now
-        → HoldPortions asked.now.members told ports.now.groups
+fn write_frame<K: Sink>(ports: &Ports, query: &Query<'_>, output: &mut K) -> Result<(), Failed>
+    ensures writes { (sc : Scenario) (told : ℕ → List Delivery) → IsScopeOf sc query.now.scope.now
+        → HoldPortions query.now.asked.now.members told ports.now.groups
         → Writes K.held K.faults output.old output.new result
-        (frame_text sc ports.now.frame (value_found asked.now told)) }
+        (frame_text sc ports.now.frame (value_found query.now.asked.now told)) }
     ensures cause { HasCause (K.faults output.old) (K.faults output.new) result }
 {
-    for port in 0..scope.shape.biu() {
-        write_port(ports, port, scope, voters, asked, output)?;
+    for port in 0..query.scope.shape.biu() {
+        write_port(ports, port, query, output)?;
     }
     Ok(())
 }
@@ -101,19 +91,17 @@ fn write_frame<K: Sink>(
 fn write_if_over<K: Sink>(
     over: bool,
     ports: &Ports,
-    scope: &Scope,
-    voters: &Voters,
-    asked: &Asked,
+    query: &Query<'_>,
     output: &mut K,
 ) -> Result<(), Failed>
-    ensures writes { (sc : Scenario) (told : ℕ → List Delivery) → IsScopeOf sc scope.now
-        → HoldPortions asked.now.members told ports.now.groups
+    ensures writes { (sc : Scenario) (told : ℕ → List Delivery) → IsScopeOf sc query.now.scope.now
+        → HoldPortions query.now.asked.now.members told ports.now.groups
         → Writes K.held K.faults output.old output.new result
-        (if over then frame_text sc ports.now.frame (value_found asked.now told) else []) }
+        (if over then frame_text sc ports.now.frame (value_found query.now.asked.now told) else []) }
     ensures cause { HasCause (K.faults output.old) (K.faults output.new) result }
 {
     if over {
-        write_frame(ports, scope, voters, asked, output)
+        write_frame(ports, query, output)
     } else {
         Ok(())
     }
@@ -139,18 +127,17 @@ fn write_ending<K: Sink>(turn: &Turn, frames: u32, output: &mut K) -> Result<(),
 pub fn write_turn<K: Sink>(
     turn: &Turn,
     ports: &Ports,
-    scope: &Scope,
-    voters: &Voters,
-    asked: &Asked,
+    query: &Query<'_>,
     output: &mut K,
 ) -> Result<(), Failed>
-    ensures writes { (sc : Scenario) (records : List Record) → IsScopeOf sc scope.now
-        → HoldsFrame sc.frames asked.now records ports.now
+    ensures writes { (sc : Scenario) (records : List Record) → IsScopeOf sc query.now.scope.now
+        → HoldsFrame sc.frames query.now.asked.now records ports.now
         → Writes K.held K.faults output.old output.new result
-        (turn_text sc asked.now records (record_of turn.now)) }
+        (turn_text sc query.now.asked.now records (record_of turn.now)) }
     ensures cause { HasCause (K.faults output.old) (K.faults output.new) result }
 {
-    let over = ports.frame < frame_or(turn, scope.frames, ports.frame);
-    write_if_over(over, ports, scope, voters, asked, output)?;
-    write_ending(turn, scope.frames, output)
+    let frames = query.scope.frames;
+    let over = ports.frame < frame_or(turn, frames, ports.frame);
+    write_if_over(over, ports, query, output)?;
+    write_ending(turn, frames, output)
 }

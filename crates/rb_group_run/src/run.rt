@@ -1,13 +1,10 @@
 //! A run that is taken to its end, and what it says of a group.
-ghost use Rattle.std.specs.Prelude.{◌≡◌, IfOk, OnErr, OnOk};
-ghost use Rattle.rb_outside.specs.Causes.{HasCause};
-ghost use Rattle.rb_run.specs.Runs.{EndsWith, HasGivenNothing};
+ghost use Rattle.rb_run.specs.Runs.{HasGivenNothing};
 ghost use Rattle.rb_group_run.specs.Holding.{IsScopeOf};
-ghost use Rattle.rb_group_run.specs.Runs.{WritesAll, WritesPart};
+ghost use Rattle.rb_group_run.specs.Runs.{WritesGroups};
 
 use crate::ending::ending_at;
-use crate::{Asked, Scope, advance, first_ports, write_turn};
-use rb_group::Voters;
+use crate::{Query, advance, first_ports, write_turn};
 use rb_outside::{Failed, Sink};
 use rb_port::Apps;
 use rb_run::Ending;
@@ -19,31 +16,24 @@ use rb_world::{Drive, World};
 /// the first values that this BIU delivered in the frame of each member. The last line is `end` or
 /// `breach`; a breach leaves the values of its frame out. `Failed` comes only where a write failed;
 /// a first part of the text has then been written. The world must be as `World::open` gives it, and
-/// `scope` that of the same scenario.
+/// the scope that of the same scenario.
 pub fn write_groups<K: Sink, D: Drive>(
     world: &mut World,
     apps: &Apps,
     drive: &mut D,
-    scope: &Scope,
-    voters: &Voters,
-    asked: &Asked,
+    query: &Query<'_>,
     output: &mut K,
 ) -> Result<Ending, Failed>
     requires begun { HasGivenNothing world.old }
-    requires scope { IsScopeOf world.old.bus scope.now }
-    ensures all { OnOk result (WritesAll world.old.bus asked.now (D.is_plain drive.old)
-        (D.told drive.old) (D.told drive.new) (K.held output.old) (K.held output.new)) }
-    ensures part { OnErr result (WritesPart world.old.bus asked.now (D.is_plain drive.old)
-        (D.told drive.old) (D.told drive.new) (K.held output.old) (K.held output.new)) }
-    ensures ending { IfOk result (EndsWith world.old.bus) }
-    ensures cause { HasCause (K.faults output.old) (K.faults output.new) result }
-    ensures bus { world.new.bus ≡ world.old.bus }
-    ensures stays { D.is_plain drive.new ≡ D.is_plain drive.old }
+    requires scope { IsScopeOf world.old.bus query.now.scope.now }
+    ensures { WritesGroups query.now.asked.now world.old world.new D.is_plain D.told drive.old
+        drive.new K.held K.faults output.old output.new result }
 {
+    let Query { scope, asked, .. } = *query;
     let mut ports = first_ports(asked);
     for passed in 0..u32::MAX {
         let turn = drive.next(world, apps);
-        write_turn(&turn, &ports, scope, voters, asked, output)?;
+        write_turn(&turn, &ports, query, output)?;
         if let Some(ending) = ending_at(&turn) {
             return Ok(ending);
         }

@@ -13,7 +13,7 @@ use crate::running::status_of;
 use crate::status::Status;
 use rb_base::OutOfMemory;
 use rb_group::Voters;
-use rb_group_run::{Asked, has_members, scope_of, write_groups};
+use rb_group_run::{Asked, Query, has_members, scope_of, write_groups};
 use rb_long_run::write_letters;
 use rb_outside::{Failed, Sink};
 use rb_port::Apps;
@@ -85,7 +85,12 @@ pub(crate) fn tell_group<K: Sink, D: Drive>(
         Ok(world) => world,
         Err(OutOfMemory) => return Status::OutOfMemory,
     };
-    match write_groups(&mut world, apps, drive, &scope, voters, asked, output) {
+    let query = Query {
+        scope: &scope,
+        voters,
+        asked,
+    };
+    match write_groups(&mut world, apps, drive, &query, output) {
         Ok(ending) => status_of(ending),
         Err(Failed) => Status::WriteFault,
     }

@@ -11,7 +11,7 @@ use Rattle.rb_group_run.proofs.report.write_frame.Goals as goal
 pub loop-port-preserved : goal.loop-port-preserved
 loop-port-preserved g c = record {
   written = λ sc told is hold.
-      lines_more (port_text sc c.args.ports.now.frame (value_found c.args.asked.now told)) c.loop-port.port _ _ _
+      lines_more (port_text sc c.args.ports.now.frame (value_found c.args.query.now.asked.now told)) c.loop-port.port _ _ _
       (c.loop-port.invariant.written sc told is hold) (c.in_ok-write_port.ensures.writes sc told is hold).all;
   later = search rules;
 }
@@ -21,7 +21,7 @@ returns-in_err-write_port-clause-writes g c = λ sc told is hold. record {
   all = search rules;
   part =
       let bius : c.biu-port-end.result ≡ sc.sizes.bius = c.biu-port-end.ensures.value ∙ ap (λ (s : Sizes). s.bius) is.sizes_are in
-      on_err _ (lines_part (port_text sc c.args.ports.now.frame (value_found c.args.asked.now told)) c.loop-port.port sc.sizes.bius _ _ _ (omega (arith, bius))
+      on_err _ (lines_part (port_text sc c.args.ports.now.frame (value_found c.args.query.now.asked.now told)) c.loop-port.port sc.sizes.bius _ _ _ (omega (arith, bius))
       (c.loop-port.invariant.written sc told is hold) (c.in_err-write_port.ensures.writes sc told is hold).part);
   cause = search rules;
 }
@@ -31,7 +31,7 @@ returns-clause-writes g c = λ sc told is hold. record {
   all =
       let bius : c.biu-port-end.result ≡ sc.sizes.bius = c.biu-port-end.ensures.value ∙ ap (λ (s : Sizes). s.bius) is.sizes_are in
       let all : c.loop-port.port ≡ sc.sizes.bius = omega (arith, bius) in
-      subst (λ n. Appends (g.K.Sink.held c.args.output.now) (g.K.Sink.held c.loop-port.output) (flat_map (port_text sc c.args.ports.now.frame (value_found c.args.asked.now told)) (numbers n))) all
+      subst (λ n. Appends (g.K.Sink.held c.args.output.now) (g.K.Sink.held c.loop-port.output) (flat_map (port_text sc c.args.ports.now.frame (value_found c.args.query.now.asked.now told)) (numbers n))) all
       (c.loop-port.invariant.written sc told is hold);
   part = search rules;
   cause = search rules;

@@ -5,7 +5,7 @@ use Rattle.rb_group_run.proofs.run.write_groups.Given as goal
 
 abbrev pub invariant-loop-passed : goal.invariant-loop-passed
 invariant-loop-passed g l = record {
-  written : IsWritten l.fn.world.bus l.asked (g.D.Drive.is_plain l.fn.drive) (g.D.Drive.told l.fn.drive) (g.D.Drive.told l.drive) l.world (g.K.Sink.held l.fn.output) (g.K.Sink.held l.output) l.ports l.passed;
+  written : IsWritten l.fn.world.bus l.query.asked.now (g.D.Drive.is_plain l.fn.drive) (g.D.Drive.told l.fn.drive) (g.D.Drive.told l.drive) l.world (g.K.Sink.held l.fn.output) (g.K.Sink.held l.output) l.ports l.passed;
   later : g.K.Sink.faults l.fn.output ≤ g.K.Sink.faults l.output;
   bus : l.world.bus ≡ l.fn.world.bus;
   stays : g.D.Drive.is_plain l.drive ≡ g.D.Drive.is_plain l.fn.drive;
