@@ -39,7 +39,7 @@ def main() -> int:
         print(__doc__)
         return 0
     if not words or words[0] not in {*TOOLS, *FORMS}:
-        print(__doc__, file=sys.stderr)
+        print(__doc__ if not words else "robus: there is no word %s; python3 -m robus --help lists them" % words[0], file=sys.stderr)
         return 2
     try:
         status = run(words[0], words[1:])

@@ -29,7 +29,7 @@ def call(*words, path: str | None = None, data: bytes = b"", **more) -> tuple[in
 
 class Wrappers(unittest.TestCase):
     def test_bare_tools_print_their_usage(self):
-        for tool in ("robus", "run", "picture", "bridge"):
+        for tool in ("robus", "run", "picture", "bridge", "model"):
             status, out, said = call("tools/" + tool)
             self.assertEqual((status, out, len(said.splitlines())), (2, "", 1), tool)
             self.assertIn("usage: tools/" + tool, said)
@@ -54,6 +54,8 @@ class Wrappers(unittest.TestCase):
     def test_words_of_the_package(self):
         self.assertEqual(call("python3", "-m", "robus", PYTHONPATH=str(TOP / "python"))[0], 2)
         self.assertEqual(call("python3", "-m", "robus", "--help", PYTHONPATH=str(TOP / "python"))[0], 0)
+        self.assertEqual(call("python3", "-m", "robus", "nix", PYTHONPATH=str(TOP / "python")),
+                         (2, "", "robus: there is no word nix; python3 -m robus --help lists them\n"))
 
 
 class Quick(unittest.TestCase):
