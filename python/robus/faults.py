@@ -210,10 +210,11 @@ def main(words: list[str]) -> int:
             raise Wrong("%s has a [[fault]] entry already" % asked.node)
         lies = [lie_in(text, scenario, node) for text in asked.lies]
         run, onset = lying(scenario, node, lies)
-        unused = [lie.text for lie in lies if not lie.is_used]
+        unused = [lie for lie in lies if not lie.is_used]
         if unused:
-            why = "the run ends with a breach first" if run.breach else "a good %s says nothing there, or another lie comes first" % asked.node
-            raise Wrong("%s: %s; a [[say]] entry by hand can" % (unused[0], why))
+            why = "a good %s says nothing there, in %s (tools/layout says who speaks in which slot and stage), or another lie comes first" % (
+                asked.node, purpose(run.bus, unused[0].slots[0]))
+            raise Wrong("%s: %s; a [[say]] entry by hand can" % (unused[0].text, "the run ends with a breach first" if run.breach else why))
     except Wrong as fault:
         print("tools/faults: %s" % fault, file=sys.stderr)
         return 2
