@@ -1,6 +1,6 @@
 """Quick builds: a program of the repository compiled without any proof, and a run of it.
 
-`rt try` compiles a crate and runs it once, which takes half a minute, and it keeps nothing. So the first call here has it compile the crate
+`rt try` compiles a crate and runs it once, which takes up to two minutes, and it keeps nothing. So the first call here has it compile the crate
 and run it on a small input, takes a copy of the compiled program while that run lasts, and keeps it under the sum of all sources and of the
 kit's name. Later calls run the copy, without any of the limits that `rt try` has. Where no copy can be had each call goes through
 `rt try`, whose limits are 60 seconds and 1 MiB of output."""
@@ -128,7 +128,7 @@ def program_of(name: str) -> pathlib.Path | int | None:
     kit = subprocess.run(["rt", "version"], capture_output=True, text=True).stdout
     kept = KEPT / ("%s-%s" % (name, sum_of_sources(kit)))
     if not kept.exists():
-        print("building it takes about half a minute; it is kept for the next time", file=sys.stderr)
+        print("building it takes up to two minutes; it is kept for the next time", file=sys.stderr)
         said = build(name, kept, kit)
         if said is not None:
             sys.stderr.write(said)
