@@ -71,7 +71,7 @@ class Quick(unittest.TestCase):
         pathlib.Path(folder.name, "builds").touch()
         return folder.name + os.pathsep + os.environ["PATH"]
 
-    def quick(self, out: bytes, said: str, status: int, builds: bool = True):
+    def quick(self, out: bytes, said: str, status: int, builds: bool = True, words=("tools/quick", "robus", "run")):
         with tempfile.TemporaryDirectory() as folder:
             rt = pathlib.Path(folder, "rt")
             rt.write_text(RT)
@@ -81,8 +81,8 @@ class Quick(unittest.TestCase):
             pathlib.Path(folder, "status").write_text(str(status))
             if builds:
                 pathlib.Path(folder, "builds").touch()
-            found = call("tools/quick", "robus", "run", path=folder, data=b"biu = 1\n")
-            if builds:
+            found = call(*words, path=folder, data=b"biu = 1\n")
+            if builds and words[0] == "tools/quick":
                 self.assertEqual(pathlib.Path(folder, "input").read_bytes(), b"biu = 1\n")
             return found
 
@@ -90,6 +90,13 @@ class Quick(unittest.TestCase):
         status, out, said = self.quick(b"refused 2 MissingKey\n", "checked: ended status=3\nrun=ended status=3 proved=no\n", 3)
         self.assertEqual((status, out), (3, "refused 2 MissingKey\n"))
         self.assertNotIn("run=ended", said)
+
+    def test_what_tools_robus_says_of_a_status(self):
+        said = self.quick(b"", "run=ended\n", 2, words=("tools/robus", "record", "B0", "README.md"))[2]
+        self.assertTrue(said.endswith(" It reads standard input: tools/robus record B0 < README.md\n"), said)
+        with tempfile.NamedTemporaryFile(suffix=".toml") as file:
+            said = self.quick(b"refused 2 MissingKey\n", "run=ended\n", 3, words=("tools/run", file.name))[2]
+            self.assertIn("tools/lint %s says where" % file.name, said)
 
     def test_a_folder_as_standard_input(self):
         folder = os.open(EXAMPLES, os.O_RDONLY)
