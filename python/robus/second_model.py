@@ -5,6 +5,7 @@ docs/robus.md). It takes the words and the input of `robus`, and writes what `ro
     tools/model run|check|record NODE|replay < input
     tools/model gen|stress SEED FRAMES
 """
+from __future__ import annotations
 
 import heapq
 import re
@@ -12,6 +13,7 @@ import sys
 import tomllib
 from bisect import bisect_right
 from dataclasses import dataclass, field, fields
+from typing import Any, BinaryIO, Callable, Iterable, Iterator, NoReturn, Self
 
 BIU, RMU = 0, 1
 LETTERS = "BR"
@@ -22,16 +24,37 @@ MOST_SAYS, MOST_LINKS, MOST_PAIRS = 1024, 4096, 4096
 WORD_TAG, FAULT_TAG, SYNC_TAG = 1, 2, 3
 FAULT = None  # the value that stands for "no word"
 
+Node = tuple[int, int]  # its kind, BIU or RMU, and its number
+Pattern = tuple[int, int | None]  # a node, or all nodes of a kind
+Pair = tuple[int, int]  # the first and the last of a range
+Word = int | None  # a word, or FAULT
+Message = tuple[int, int, int, int, int]  # tag, frame modulo 65536, slot, stage, value
+Segments = list[list[int]]  # of a clock: from which tick on a tick has which length in reference units
+Trusted = list[set[int]]  # by kind the numbers of the nodes that a node trusts
+Taken = dict[int, Word] | dict[int, tuple[int, Word]]  # by source its value, or in the sync slot stamp and FAULT
+Ask = Callable[[str, int], int]  # what a node is handed to say, by the role and the number of the slot
+Sight = tuple[int | None, Word]  # what a receiver took of a source: (time, nothing) in the sync slot, else (nothing, value)
+Row = dict[int, Sight]  # by source what a receiver took in a stage
+Milestone = tuple[str, int] | tuple[str, int, int, int]  # "frame" and its number, or "stage", frame, slot and stage
+Document = dict[str, Any]
+Form = Callable[[Any], bool]  # whether a value has a form
+Fields = dict[str, tuple[bool, Form]]  # by key whether a table must have it, and its form
+Event = tuple[str, int, int | bytes]  # ("ticks", how many, word) or ("came", source, bytes)
+Answer = tuple[int, bytes]  # the status, and what is written
 
-def other(kind):
+
+def other(kind: int) -> int:
+    """The kind of the nodes at the far end of a kind's links."""
     return 1 - kind
 
 
-def name_of(node):
+def name_of(node: Node) -> str:
+    """A node's name, as B0."""
     return f"{LETTERS[node[0]]}{node[1]}"
 
 
-def mask_of(numbers):
+def mask_of(numbers: Iterable[int]) -> int:
+    """The mask that has the bits with these numbers, each of which is given once."""
     return sum(1 << number for number in numbers)
 
 
@@ -40,16 +63,18 @@ def mask_of(numbers):
 
 @dataclass(frozen=True)
 class Plan:
-    u: int = 10000
-    r: int = 1
-    dmin: int = 5000
+    """A timing plan: delays, and how long ticks, windows and frames are."""
+
+    u: int = 10000  # reference units of a tick
+    r: int = 1  # by how many units a tick may be longer or shorter
+    dmin: int = 5000  # the least and the greatest delay, in reference units
     dmax: int = 15000
-    l: int = 15
-    h: int = 6
-    v: int = 18
-    z: int = 20
-    c: int = 1
-    p: int = 60200
+    l: int = 15  # ticks of a window below the sync slot, and of stage 1 of the sync slot
+    h: int = 6  # the tick of a window at which its message is sent
+    v: int = 18  # ticks of stage 2 of the sync slot
+    z: int = 20  # ticks of stage 3 of the sync slot
+    c: int = 1  # by how many ticks a BIU's next frame begins later
+    p: int = 60200  # the bound on the skew of the nodes' first ticks of a frame, in reference units
 
 
 PLAN_RANGES = {
@@ -68,10 +93,12 @@ PLAN_RANGES = {
 
 @dataclass(frozen=True)
 class Window:
+    """A window of a frame: the time of one stage of one slot, or the tail, in ticks from the frame's first tick on."""
+
     slot: int
     stage: int
     first: int  # the offset of its first tick
-    length: int
+    length: int  # in ticks
 
 
 TAIL = 4
@@ -83,23 +110,27 @@ class Bus:
 
     biu: int
     rmu: int
-    slots: int
+    slots: int  # the data slots of a frame
     plan: Plan = Plan()
     version: int = 1
     number: int = 0
-    probation: int = 0
+    probation: int = 0  # after how many frames without new evidence an accusation lapses; 0 where none does
 
-    def size(self, kind):
+    def size(self, kind: int) -> int:
+        """How many nodes of a kind there are."""
         return self.rmu if kind else self.biu
 
     @property
-    def sync(self):
+    def sync(self) -> int:
+        """The number of the sync slot, which is how many slots stand before it."""
         return 2 * self.biu + self.rmu + self.slots
 
-    def nodes(self):
+    def nodes(self) -> list[Node]:
+        """All nodes, BIUs before RMUs."""
         return [(kind, number) for kind in (BIU, RMU) for number in range(self.size(kind))]
 
-    def windows(self):
+    def windows(self) -> list[Window]:
+        """The windows of a frame in their order: three for each slot, and the tail."""
         plan, rows = self.plan, []
         for slot in range(self.sync):
             for stage in (1, 2, 3):
@@ -111,14 +142,16 @@ class Bus:
         rows.append(Window(self.sync, TAIL, first, self.longest_tail()))
         return rows
 
-    def longest_tail(self):
+    def longest_tail(self) -> int:
+        """The greatest number of ticks that the tail of a frame may have."""
         return self.plan.v + self.plan.z + self.plan.c
 
-    def length_of(self, slot, stage):
+    def length_of(self, slot: int, stage: int) -> int:
+        """The length of a window in ticks; that of the tail, which is stage 4, is the longest that it may be."""
         plan = self.plan
         return plan.l if slot < self.sync else (plan.l, plan.v, plan.z, self.longest_tail())[stage - 1]
 
-    def sender_place(self, slot):
+    def sender_place(self, slot: int) -> tuple[str, int, int]:
         """The role of a slot below the sync slot: (role, kind of the sender, number); a data slot's sender is its owner."""
         if slot < self.biu:
             return "schedule", BIU, slot
@@ -131,7 +164,7 @@ class Bus:
         return "diagnosis", RMU, slot - self.biu
 
 
-def sides_of(bus):
+def sides_of(bus: Bus) -> list[tuple[int, int]]:
     """Both sides of the seven inequalities; each left side is to be at least its right one."""
     q = bus.plan
     short, long, sent = q.u - q.r, q.u + q.r, 3 * bus.sync * q.l + q.h
@@ -149,25 +182,27 @@ def sides_of(bus):
     ]
 
 
-def first_failing(bus):
+def first_failing(bus: Bus) -> int | None:
+    """The number, 1 to 7, of the first inequality that fails; nothing where the plan is feasible."""
     return next((i for i, (left, right) in enumerate(sides_of(bus), 1) if left < right), None)
 
 
 class Timeline:
     """A clock: where tick 0 is, and from which tick on which length stands."""
 
-    def __init__(self, start, segments):
+    def __init__(self, start: int, segments: Segments) -> None:
         self.firsts = [first for first, _ in segments]
         self.lengths = [length for _, length in segments]
         self.times = [start]
         for i in range(1, len(segments)):
             self.times.append(self.times[-1] + (self.firsts[i] - self.firsts[i - 1]) * self.lengths[i - 1])
 
-    def time_of(self, tick):
+    def time_of(self, tick: int) -> int:
+        """The time of a tick, in reference units."""
         i = bisect_right(self.firsts, tick) - 1
         return self.times[i] + (tick - self.firsts[i]) * self.lengths[i]
 
-    def stamp_of(self, time):
+    def stamp_of(self, time: int) -> int:
         """The least tick that is not before the time."""
         i = bisect_right(self.times, time) - 1
         if i < 0:
@@ -178,21 +213,23 @@ class Timeline:
 # --- Messages ----------------------------------------------------------------------------------------------------------
 
 
-def spell(bus, tag, frame, slot, stage, value=0):
+def spell(bus: Bus, tag: int, frame: int, slot: int, stage: int, value: int = 0) -> bytes:
+    """The bytes of a message, 11 in version 1 and 12 in version 2."""
     text = bytes([tag]) + (frame % 65536).to_bytes(2) + slot.to_bytes(2) + bytes([stage]) + value.to_bytes(4)
     if bus.version == 2:
         text += bytes([bus.number])
     return text + bytes([xor_of(text)])
 
 
-def xor_of(text):
+def xor_of(text: bytes) -> int:
+    """The exclusive or of all bytes."""
     check = 0
     for byte in text:
         check ^= byte
     return check
 
 
-def read_message(bus, text):
+def read_message(bus: Bus, text: bytes) -> Message | None:
     """(tag, frame, slot, stage, value), or nothing where the bytes spell no message of this bus."""
     if len(text) != 10 + bus.version or text[-1] != xor_of(text[:-1]):
         return None
@@ -207,15 +244,17 @@ def read_message(bus, text):
 # --- Votes -------------------------------------------------------------------------------------------------------------
 
 
-def majority_of(values):
+def majority_of(values: list[Word]) -> Word:
+    """The value that more than half of the list is; FAULT where there is none."""
     return next((value for value in values if 2 * values.count(value) > len(values)), FAULT)
 
 
-def middle_of(stamps):
+def middle_of(stamps: list[int]) -> int:
+    """Of n stamps the one at place (n - 1) / 2, rounded down, in ascending order."""
     return sorted(stamps)[(len(stamps) - 1) // 2]
 
 
-def owners_of(bus, requested, trusted):
+def owners_of(bus: Bus, requested: list[int], trusted: set[int]) -> list[int | None]:
     """The owner of each data slot; nobody is None."""
     left = [requested[number] if number in trusted else 0 for number in range(bus.biu)]
     owners = []
@@ -227,7 +266,7 @@ def owners_of(bus, requested, trusted):
     return owners + [None] * (bus.slots - len(owners))
 
 
-def convicted_by(vectors, trusted):
+def convicted_by(vectors: list[int], trusted: set[int]) -> set[int]:
     """Of the trusted nodes those that more of the vectors name than spare."""
     named = {node: sum(vector >> node & 1 for vector in vectors) for node in trusted}
     return {node for node in trusted if 2 * named[node] > len(vectors)}
@@ -241,38 +280,60 @@ class Shown:
     """What a node shows at one tick."""
 
     turned: bool = False
-    said: tuple = None  # (slot, stage, bytes)
-    closed: tuple = None  # (window, what was taken of each source)
-    delivered: tuple = None  # (slot, owner, value)
+    said: tuple[int, int, bytes] | None = None  # (slot, stage, bytes)
+    closed: tuple[Window, Taken] | None = None  # (window, what was taken of each source)
+    delivered: tuple[int, int, Word] | None = None  # (slot, owner, value)
 
 
 class Core:
-    def __init__(self, bus, node, windows=None):
+    """One node as the rules have it: it has the ticks of its own clock, whose numbers count from 0, and what comes between them."""
+
+    frame: int
+    epoch: int  # the frame's first tick
+    next_epoch: int | None  # that of the next frame, from when on it is known
+    votes: dict[int, Word]  # by slot
+    owners: list[int | None]  # of each data slot; nobody is None
+    middles: list[int | None]  # by stage of the sync slot
+    window: Window  # the open one, whose first and last tick are next
+    first: int
+    last: int
+    role: str  # of the open slot, as are its sender's kind and number
+    sender_kind: int | None
+    sender: int | None
+    send_tick: int | None
+    kept: Word  # what the node itself said in stage 1 of the open slot
+    took: dict[int, Word]  # by source what it took there
+
+    def __init__(self, bus: Bus, node: Node, windows: list[Window] | None = None) -> None:
         self.bus, (self.kind, self.number) = bus, node
         self.far = other(self.kind)
         self.windows = windows or bus.windows()
-        self.trusted = [set(range(bus.biu)), set(range(bus.rmu))]
-        self.evidence = {}  # source that is accused directly: frame of the newest evidence
-        self.mismatched = set()
-        self.ticks = 0
-        self.inbox = {}
+        self.trusted: Trusted = [set(range(bus.biu)), set(range(bus.rmu))]
+        self.evidence: dict[int, int] = {}  # source that is accused directly: frame of the newest evidence
+        self.mismatched: set[int] = set()
+        self.ticks = 0  # how many there were, which is the number of the next one
+        self.inbox: dict[int, list[tuple[int, bytes]]] = {}  # source: what came of it in the open window, with stamps
         self.begin(0, 0)
 
-    def begin(self, frame, epoch):
+    def begin(self, frame: int, epoch: int) -> None:
+        """Begins a frame at its first tick, without votes, owners and middles."""
         self.frame, self.epoch = frame, epoch
         self.votes, self.owners = {}, [None] * self.bus.slots
         self.middles, self.next_epoch = [None] * 4, None
         self.enter(0)
 
-    def convicted(self, kind):
+    def convicted(self, kind: int) -> set[int]:
+        """The numbers of the nodes of a kind that this node holds convicted."""
         return set(range(self.bus.size(kind))) - self.trusted[kind]
 
-    def vector(self):
+    def vector(self) -> int:
+        """The mask of the trusted nodes of the other kind that this node accuses."""
         return mask_of(node for node in self.trusted[self.far] if node in self.evidence or node in self.mismatched)
 
     # which tick comes next
 
-    def enter(self, index):
+    def enter(self, index: int) -> None:
+        """Opens a window of the frame: its first and its last tick, who sends in its slot, and when this node speaks."""
         self.index, self.window = index, self.windows[index]
         self.first = self.epoch + self.window.first
         if self.window.stage == TAIL:
@@ -287,13 +348,15 @@ class Core:
             self.role, self.sender_kind, self.sender = "sync", None, None
         self.send_tick = self.when_to_say()
 
-    def sender_of(self, slot):
+    def sender_of(self, slot: int) -> tuple[str, int, int | None]:
+        """The role of a slot below the sync slot, and its sender's kind and number; no number where the slot is idle."""
         role, kind, number = self.bus.sender_place(slot)
         if role == "data":
             number = self.owners[number]
         return role, kind, number if number in self.trusted[kind] else None
 
-    def when_to_say(self):
+    def when_to_say(self) -> int | None:
+        """The tick of the open window at which this node sends its message, if it sends one."""
         stage, speaks_first = self.window.stage, self.sender_kind == self.kind
         if self.role == "sync":
             return self.when_to_call(stage)
@@ -305,7 +368,8 @@ class Core:
             speaks = not speaks_first if stage == 2 else speaks_first and self.role != "data"
         return self.first + self.bus.plan.h if speaks else None
 
-    def when_to_call(self, stage):
+    def when_to_call(self, stage: int) -> int | None:
+        """The tick at which this node calls in a stage of the sync slot, if it calls there."""
         plan = self.bus.plan
         if self.kind == BIU and stage == 1:
             return self.first + plan.h
@@ -315,17 +379,19 @@ class Core:
             return self.middles[2] + plan.v
         return None
 
-    def next_busy(self):
+    def next_busy(self) -> int:
         """The next tick at which something happens."""
         ticks = [self.last, self.send_tick, self.next_epoch]
         return min(tick for tick in ticks if tick is not None and tick >= self.ticks)
 
     # what comes, and what the node does at a tick
 
-    def arrive(self, source, text):
+    def arrive(self, source: int, text: bytes) -> None:
+        """Keeps bytes that came of a node of the other kind; their stamp is the number of the next tick."""
         self.inbox.setdefault(source, []).append((self.ticks, text))
 
-    def tick(self, ask):
+    def tick(self, ask: Ask) -> Shown:
+        """Has the next tick, and gives what the node shows at it."""
         now, shown = self.ticks, Shown()
         if now == self.next_epoch:
             self.turn()
@@ -337,7 +403,8 @@ class Core:
         self.ticks += 1
         return shown
 
-    def message(self, ask):
+    def message(self, ask: Ask) -> bytes:
+        """The bytes of the message that this node sends in the open window."""
         slot, stage = self.window.slot, self.window.stage
         if self.role == "sync":
             return spell(self.bus, SYNC_TAG, self.frame, slot, stage)
@@ -351,7 +418,7 @@ class Core:
             return spell(self.bus, FAULT_TAG, self.frame, slot, stage)
         return spell(self.bus, WORD_TAG, self.frame, slot, stage, value)
 
-    def expected(self):
+    def expected(self) -> set[int]:
         """Of whom the node expects a message in this window."""
         stage, trusted = self.window.stage, self.trusted[self.far]
         if self.role == "sync":
@@ -365,7 +432,8 @@ class Core:
             return set()
         return trusted if stage == 3 else trusted & {self.sender}
 
-    def close(self, shown):
+    def close(self, shown: Shown) -> None:
+        """Closes the open window: takes, finds evidence, votes, and enters the next window if this was not the tail."""
         window, expected = self.window, self.expected()
         one = {source: self.single(source) for source in self.inbox}
         eligible = {s for s in expected if s not in self.evidence}
@@ -385,7 +453,7 @@ class Core:
         if window.stage != TAIL:
             self.enter(self.index + 1)
 
-    def single(self, source):
+    def single(self, source: int) -> tuple[int, Word] | None:
         """The stamp and the value of the one message that came of a source, if it is meant for this window."""
         came = self.inbox[source]
         message = read_message(self.bus, came[0][1]) if len(came) == 1 else None
@@ -398,7 +466,8 @@ class Core:
             return None
         return came[0][0], value if tag == WORD_TAG else FAULT
 
-    def close_exact(self, values, shown):
+    def close_exact(self, values: dict[int, Word], shown: Shown) -> None:
+        """Closes a window below the sync slot over the values that were taken: keeps them, or votes, delivers and finds owners."""
         slot, stage = self.window.slot, self.window.stage
         mine = self.sender_kind == self.kind
         if stage == 1:
@@ -416,10 +485,12 @@ class Core:
             asked = [self.votes.get(i) or 0 for i in range(self.bus.biu)]
             self.owners = owners_of(self.bus, asked, self.trusted[BIU])
 
-    def hold_against(self, values, reference):
+    def hold_against(self, values: dict[int, Word], reference: Word) -> None:
+        """Accuses for mismatch each source whose value is not the one that it is held against."""
         self.mismatched |= {source for source, value in values.items() if value != reference}
 
-    def close_sync(self, stamps):
+    def close_sync(self, stamps: dict[int, int]) -> None:
+        """Closes a window of the sync slot over the stamps that were taken: keeps their middle, and finds the next frame's first tick."""
         stage, plan = self.window.stage, self.bus.plan
         if stage == TAIL:
             return
@@ -431,7 +502,8 @@ class Core:
             else:
                 self.next_epoch = self.middles[3] + plan.z
 
-    def turn(self):
+    def turn(self) -> None:
+        """Ends the frame by its votes: convicts, lets accusations lapse, and begins the next frame."""
         bus, convicted = self.bus, [set(), set()]
         for kind in (BIU, RMU):
             first = bus.biu + bus.slots + (bus.biu if kind else 0)
@@ -449,34 +521,41 @@ class Core:
 
 @dataclass(frozen=True)
 class LinkRule:
-    source: tuple  # (kind, number), or (kind, None) for all of the kind
-    target: tuple
-    delay: int
-    frames: tuple
-    slots: tuple
-    stages: tuple
+    """A delay, in reference units, of the messages between some nodes in some frames, slots and stages."""
 
-    def is_between(self, source, target):
+    source: Pattern
+    target: Pattern
+    delay: int
+    frames: Pair
+    slots: Pair
+    stages: Pair
+
+    def is_between(self, source: Node, target: Node) -> bool:
+        """Whether the rule is for messages from one node to the other."""
         return stands_for(self.source, source) and stands_for(self.target, target)
 
-    def covers(self, frame, slot, stage):
+    def covers(self, frame: int, slot: int, stage: int) -> bool:
+        """Whether the rule is for messages with this place in their header."""
         return covers(self.frames, frame) and covers(self.slots, slot) and covers(self.stages, stage)
 
 
 @dataclass(frozen=True)
 class Say:
-    source: tuple
-    target: tuple
-    frames: tuple
-    slots: tuple
-    stages: tuple
-    offset: int
-    early: int
+    """What a node that is not good says to some nodes, in the windows of some frames, slots and stages."""
+
+    source: Node
+    target: Pattern
+    frames: Pair
+    slots: Pair
+    stages: Pair
+    offset: int  # the tick of the window at which it comes
+    early: int  # by how many reference units it comes before that tick
     tag: int  # 0 where the bytes are raw
     value: int
     raw: bytes
 
-    def is_for(self, target, frame, window):
+    def is_for(self, target: Node, frame: int, window: Window) -> bool:
+        """Whether this is said to a node in its window of the frame."""
         return (
             stands_for(self.target, target)
             and covers(self.frames, frame)
@@ -484,36 +563,43 @@ class Say:
             and covers(self.stages, window.stage)
         )
 
-    def bytes_of(self, bus, frame, window):
+    def bytes_of(self, bus: Bus, frame: int, window: Window) -> bytes:
+        """The bytes that are said, with the header of the window where they are not given as they are."""
         return spell(bus, self.tag, frame, window.slot, min(window.stage, 3), self.value) if self.tag else self.raw
 
 
-def stands_for(pattern, node):
+def stands_for(pattern: Pattern, node: Node) -> bool:
+    """Whether a pattern stands for a node."""
     return pattern[0] == node[0] and pattern[1] in (None, node[1])
 
 
-def covers(pair, number):
+def covers(pair: Pair, number: int) -> bool:
+    """Whether a number is in a range, both ends of which belong to it."""
     return pair[0] <= number <= pair[1]
 
 
 @dataclass
 class Scenario:
+    """What a document says: a bus, how long it runs, and all that its nodes are given. Times and delays are in reference units."""
+
     bus: Bus
     frames: int
-    requests: list
-    words: list
-    apps: list
+    requests: list[int]  # how many data slots each BIU asks for
+    words: list[int]  # the state with which each BIU's port begins
+    apps: list[str]
     delay: int
-    clocks: dict  # node: (start, segments)
-    links: list = field(default_factory=list)
-    onsets: dict = field(default_factory=dict)  # node: (frame, slot)
-    says: list = field(default_factory=list)
-    rules: dict = field(default_factory=dict)  # link rules by both ends, the last one first
+    clocks: dict[Node, tuple[int, Segments]]  # node: (start, segments)
+    links: list[LinkRule] = field(default_factory=list)
+    onsets: dict[Node, tuple[int, int]] = field(default_factory=dict)  # node: (frame, slot)
+    says: list[Say] = field(default_factory=list)
+    rules: dict[tuple[Node, Node], list[LinkRule]] = field(default_factory=dict)  # link rules by both ends, the last one first
 
-    def is_good(self, node, frame, slot):
+    def is_good(self, node: Node, frame: int, slot: int) -> bool:
+        """Whether a node is good in a slot, which is before its onset."""
         return node not in self.onsets or (frame, slot) < self.onsets[node]
 
-    def delay_of(self, source, target, *place):
+    def delay_of(self, source: Node, target: Node, *place: int) -> int:
+        """The delay in reference units of a message, whose place is its frame, its slot and its stage."""
         if (source, target) not in self.rules:
             self.rules[source, target] = [rule for rule in reversed(self.links) if rule.is_between(source, target)]
         return next((rule.delay for rule in self.rules[source, target] if rule.covers(*place)), self.delay)
@@ -523,7 +609,7 @@ class Scenario:
 
 
 class Refused(Exception):
-    pass
+    """The input is refused; the text is the line that says why."""
 
 
 SCENARIO_RULES = {
@@ -542,37 +628,44 @@ SCENARIO_RULES = {
 }
 
 
-def refuse(code, number=None):
+def refuse(code: int, number: int | None = None) -> NoReturn:
+    """Raises Refused for the rule with this code; the number is that of an inequality."""
     raise Refused(f"refused {code} {SCENARIO_RULES[code]}" + ("" if number is None else f" {number}"))
 
 
-def is_int(value):
+def is_int(value: Any) -> bool:
+    """Whether a value of a document is an integer; true and false are none."""
     return type(value) is int
 
 
-def is_string(value):
+def is_string(value: Any) -> bool:
+    """Whether a value of a document is a string."""
     return type(value) is str
 
 
-def is_table(value):
+def is_table(value: Any) -> bool:
+    """Whether a value of a document is a table."""
     return type(value) is dict
 
 
-def is_true(value):
+def is_true(value: Any) -> bool:
+    """Whether a value of a document is true or false; what is false is refused later, by rule 5."""
     return type(value) is bool
 
 
-def list_of(form):
+def list_of(form: Form) -> Form:
+    """The form of an array whose elements all have a form."""
     return lambda value: type(value) is list and all(map(form, value))
 
 
-def is_pair(value):
+def is_pair(value: Any) -> bool:
+    """Whether a value of a document is an array of two integers."""
     return list_of(is_int)(value) and len(value) == 2
 
 
 REQUIRED, OPTIONAL = True, False
-PLAN_FIELDS = {item.name: (OPTIONAL, is_int) for item in fields(Plan)}
-ENTRY_FIELDS = {
+PLAN_FIELDS: Fields = {item.name: (OPTIONAL, is_int) for item in fields(Plan)}
+ENTRY_FIELDS: dict[str, Fields] = {
     "clock": {"node": (REQUIRED, is_string), "start": (OPTIONAL, is_int), "ticks": (OPTIONAL, list_of(is_pair))},
     "link": {
         "from": (REQUIRED, is_string),
@@ -598,7 +691,7 @@ ENTRY_FIELDS = {
     },
 }
 SAYINGS = ("word", "fault", "sync", "raw")
-ROOT_FIELDS = {
+ROOT_FIELDS: Fields = {
     "biu": (REQUIRED, is_int),
     "rmu": (REQUIRED, is_int),
     "slots": (REQUIRED, is_int),
@@ -623,24 +716,25 @@ TOML_PART = re.compile(
 )
 
 
-def older_escape(it):
+def older_escape(it: re.Match[str]) -> str:
+    """What stands in TOML 1.0 for an escape that was found in a string."""
     escape = it[1]
     if escape == "e":
         return r"\u001b"
     return r"\u00" + escape[1:] if len(escape) == 3 else it[0]
 
 
-def older_string(part):
+def older_string(part: str) -> str:
     """A string without the escapes that TOML 1.1 added."""
     return part if part[0] == "'" else re.sub(r"\\(x[0-9A-Fa-f]{2}|.)", older_escape, part, flags=re.DOTALL)
 
 
-def may_break(before, after):
+def may_break(before: str, after: str) -> bool:
     """Whether a line may end between these parts of an inline table: not inside a key, nor around its sign of equality."""
     return not before.endswith(("=", ".")) and not after.startswith(("=", "."))
 
 
-def older_parts(text):
+def older_parts(text: str) -> list[tuple[str, str]]:
     """The parts of a document of TOML 1.1, each with what stands for it in TOML 1.0: nothing for a byte order mark at its begin."""
     mark = "\ufeff" * text.startswith("\ufeff")
     found = [(it.lastgroup, it[0]) for it in TOML_PART.finditer(text, len(mark))]
@@ -671,12 +765,13 @@ def older_parts(text):
     return [(mark, "")] + [(it, part) for (_, it), part in zip(found, parts)]
 
 
-def older_toml(text):
+def older_toml(text: str) -> str:
     """A document of TOML 1.1 in TOML 1.0, which tomllib reads: inline tables on one line, without a comma at the end; times with seconds."""
     return "".join(part for _, part in older_parts(text))
 
 
-def read_toml(text):
+def read_toml(text: bytes) -> Document:
+    """The document that the bytes are; refused by rule 1 where they are none, or an integer in it has more than 64 bits."""
     try:
         document = tomllib.loads(older_toml(text.decode("utf-8")))
     except (ValueError, RecursionError):
@@ -686,7 +781,8 @@ def read_toml(text):
     return document
 
 
-def integers_in(value):
+def integers_in(value: Any) -> Iterator[int]:
+    """Each integer in a value, in its arrays and tables too."""
     if is_int(value):
         yield value
     elif type(value) in (list, dict):
@@ -694,7 +790,7 @@ def integers_in(value):
             yield from integers_in(item)
 
 
-def tables_of(document):
+def tables_of(document: Document) -> Iterator[tuple[Document, Fields, str]]:
     """Each table of a document that has a table of fields, with these and its name."""
     yield document, ROOT_FIELDS, "root"
     if is_table(document.get("plan")):
@@ -706,26 +802,31 @@ def tables_of(document):
                 yield entry, entry_fields, name
 
 
-def lacks_key(table, table_fields, name):
+def lacks_key(table: Document, table_fields: Fields, name: str) -> bool:
+    """Whether a key is missing that a table must have; of [[say]] one that says something."""
     says_nothing = name == "say" and not any(key in table for key in SAYINGS)
     return says_nothing or any(required and key not in table for key, (required, _) in table_fields.items())
 
 
-def has_unknown_key(table, table_fields, _):
+def has_unknown_key(table: Document, table_fields: Fields, _: str) -> bool:
+    """Whether a table has a key that is not among its fields."""
     return any(key not in table_fields for key in table)
 
 
-def has_wrong_form(table, table_fields, _):
+def has_wrong_form(table: Document, table_fields: Fields, _: str) -> bool:
+    """Whether a value of a table has another form than its field."""
     return any(not table_fields[key][1](value) for key, value in table.items())
 
 
-def within(value, least, most):
+def within(value: int, least: int, most: int) -> int:
+    """The value, where it is in the range; else refused by rule 5."""
     if not least <= value <= most:
         refuse(5)
     return value
 
 
-def node_in(bus, text):
+def node_in(bus: Bus, text: str) -> Node:
+    """The node of a name; refused by rule 5 where the bus has none of it."""
     if not re.fullmatch(r"[BR](0|[1-9][0-9]?)", text, re.ASCII):
         refuse(5)
     kind, number = LETTERS.index(text[0]), int(text[1:])
@@ -733,24 +834,28 @@ def node_in(bus, text):
     return kind, number
 
 
-def pattern_in(bus, text):
+def pattern_in(bus: Bus, text: str) -> Pattern:
+    """The node of a name, or all nodes of a kind for B or R."""
     return (LETTERS.index(text), None) if text in ("B", "R") else node_in(bus, text)
 
 
-def pair_in(pair, least, most):
+def pair_in(pair: list[int], least: int, most: int) -> Pair:
+    """The pair, where it rises and lies in the range; else refused by rule 5."""
     within(pair[0], least, most)
     within(pair[1], pair[0], most)
     return tuple(pair)
 
 
-def list_in(document, key, count, default, least=0, most=(1 << 32) - 1):
+def list_in(document: Document, key: str, count: int, default: int, least: int = 0, most: int = (1 << 32) - 1) -> list[int]:
+    """The numbers at a key, one for each of the count, or so many times the default; refused by rule 5 where one is out of the range."""
     values = document.get(key, [default] * count)
     if len(values) != count:
         refuse(5)
     return [within(value, least, most) for value in values]
 
 
-def plan_in(table):
+def plan_in(table: Document) -> Plan:
+    """The timing plan that a table says, with the defaults for what it leaves out."""
     plan = Plan(**table)
     for key, (least, most) in PLAN_RANGES.items():
         within(getattr(plan, key), least, most)
@@ -759,7 +864,8 @@ def plan_in(table):
     return plan
 
 
-def bus_in(document):
+def bus_in(document: Document) -> Bus:
+    """The bus that a document says."""
     version = within(document.get("version", 1), 1, 2)
     return Bus(
         within(document["biu"], 1, 16),
@@ -772,14 +878,16 @@ def bus_in(document):
     )
 
 
-def apps_in(document, count):
+def apps_in(document: Document, count: int) -> list[str]:
+    """The application behind each BIU."""
     apps = document.get("apps", ["table"] * count)
     if len(apps) != count or any(app not in ("table", "counter", "follow") for app in apps):
         refuse(5)
     return apps
 
 
-def clocks_in(bus, entries):
+def clocks_in(bus: Bus, entries: list[Document]) -> dict[Node, tuple[int, Segments]]:
+    """The start and the segments of each node's clock."""
     clocks = {}
     for entry in entries:
         node = node_in(bus, entry["node"])
@@ -793,7 +901,8 @@ def clocks_in(bus, entries):
     return {node: clocks.get(node, (0, [[0, bus.plan.u]])) for node in bus.nodes()}
 
 
-def links_in(bus, frames, entries):
+def links_in(bus: Bus, frames: int, entries: list[Document]) -> list[LinkRule]:
+    """The delay rules of the [[link]] entries, in their order."""
     rules = []
     for entry in entries:
         source, target = pattern_in(bus, entry["from"]), pattern_in(bus, entry["to"])
@@ -812,7 +921,8 @@ def links_in(bus, frames, entries):
     return rules
 
 
-def onsets_in(bus, frames, entries):
+def onsets_in(bus: Bus, frames: int, entries: list[Document]) -> dict[Node, tuple[int, int]]:
+    """The frame and the slot from which on each node with a [[fault]] entry is not good."""
     onsets = {}
     for entry in entries:
         node = node_in(bus, entry["node"])
@@ -822,7 +932,8 @@ def onsets_in(bus, frames, entries):
     return onsets
 
 
-def say_in(bus, frames, entry):
+def say_in(bus: Bus, frames: int, entry: Document) -> Say:
+    """What one [[say]] entry says."""
     source, target = node_in(bus, entry["from"]), pattern_in(bus, entry["to"])
     slots, stages = pair_in(entry["slots"], 0, bus.sync), pair_in(entry["stages"], 1, TAIL)
     in_sync_slot = slots == (bus.sync, bus.sync)
@@ -849,7 +960,7 @@ def say_in(bus, frames, entry):
     )
 
 
-def scenario_in(document):
+def scenario_in(document: Document) -> Scenario:
     """What a document says whose values are in range; else it is refused by rule 5."""
     bus, frames = bus_in(document), within(document["frames"], 1, 4096)
     plan = bus.plan
@@ -867,7 +978,8 @@ def scenario_in(document):
     )
 
 
-def keeps_time(plan, ticks):
+def keeps_time(plan: Plan, ticks: Segments) -> bool:
+    """Whether a clock's segments begin with tick 0 and rise, and its ticks are as long as the plan lets them be."""
     firsts = [first for first, _ in ticks]
     return (
         firsts[:1] == [0]
@@ -876,7 +988,7 @@ def keeps_time(plan, ticks):
     )
 
 
-def check_rules(scenario):
+def check_rules(scenario: Scenario) -> None:
     """The rules that speak of what a document says: 6 to 11."""
     bus, plan, clocks = scenario.bus, scenario.bus.plan, scenario.clocks.values()
     if failing := first_failing(bus):
@@ -895,7 +1007,8 @@ def check_rules(scenario):
         refuse(11)
 
 
-def read_scenario(text):
+def read_scenario(text: bytes) -> Scenario:
+    """The scenario that a document says; Refused by the first rule that it breaks."""
     document = read_toml(text)
     for code, breaks in ((2, lacks_key), (3, has_unknown_key), (4, has_wrong_form)):
         if any(breaks(*table) for table in tables_of(document)):
@@ -909,20 +1022,27 @@ def read_scenario(text):
 
 
 class Port:
-    def __init__(self, app, state):
+    """What stands behind a BIU: its application with a state, and which of the last 64 deliveries were no word."""
+
+    none: list[bool]
+
+    def __init__(self, app: str, state: int) -> None:
         self.app, self.state, self.none = app, state, []
 
-    def offered(self, slot):
+    def offered(self, slot: int) -> int:
+        """The word that the application offers in a data slot of its BIU."""
         return (self.state + (slot if self.app == "follow" else 0)) % (1 << 32)
 
-    def deliver(self, value):
+    def deliver(self, value: Word) -> None:
+        """Hands a delivery to the application, which changes its state."""
         self.none = (self.none + [value is FAULT])[-64:]
         if self.app == "counter":
             self.state = (self.state + 1) % (1 << 64)
         elif self.app == "follow":
             self.state = (31 * self.state + (value or 0)) % (1 << 64)
 
-    def losses(self):
+    def losses(self) -> int:
+        """How many of the last 64 deliveries were no word."""
         return sum(self.none)
 
 
@@ -932,11 +1052,14 @@ class Port:
 class Judge:
     """What the good nodes have seen, in the stages of a frame, of nodes that are not good."""
 
-    def __init__(self, bus):
+    heard: list[set[int]]  # by kind those of whom something was taken
+    unlike: list[set[int]]  # by kind those of whom receivers took unlike things
+
+    def __init__(self, bus: Bus) -> None:
         self.bus = bus
         self.heard, self.unlike = [set(), set()], [set(), set()]
 
-    def see(self, kind, rows):
+    def see(self, kind: int, rows: list[Row]) -> None:
         """Each good receiver's row of a stage has its sights by source: (time, nothing) in the sync slot, else (nothing, value)."""
         for source in range(self.bus.size(kind)):
             sights = [row.get(source) for row in rows]
@@ -945,7 +1068,8 @@ class Judge:
                 if not self.are_alike(sights):
                     self.unlike[kind].add(source)
 
-    def are_alike(self, sights):
+    def are_alike(self, sights: list[Sight | None]) -> bool:
+        """Whether sights of one source are equal, or times that lie no further apart than those of a good node may."""
         if None in sights:
             return False
         if sights[0][0] is None:
@@ -953,7 +1077,7 @@ class Judge:
         times = [time for time, _ in sights]
         return max(times) - min(times) <= self.bus.plan.dmax - self.bus.plan.dmin
 
-    def verdict(self, trusted, good):
+    def verdict(self, trusted: Trusted, good: set[Node]) -> str | None:
         """The cause for which the premise fails, if it does."""
         two_faced = []
         for kind in (BIU, RMU):
@@ -970,23 +1094,30 @@ class Judge:
 class Recorder:
     """The log of all that one node is given."""
 
-    def __init__(self):
+    parts: list[bytes]
+    quiet: int  # ticks without a word that are not written yet
+
+    def __init__(self) -> None:
         self.parts, self.quiet = [], 0
 
-    def flush(self):
+    def flush(self) -> None:
+        """Writes the record of the ticks without a word that are not written yet."""
         if self.quiet:
             self.parts.append(b"\2" + self.quiet.to_bytes(4))
             self.quiet = 0
 
-    def word(self, word):
+    def word(self, word: int) -> None:
+        """Writes the record of a tick with a word."""
         self.flush()
         self.parts.append(b"\1" + word.to_bytes(4))
 
-    def message(self, source, text):
+    def message(self, source: int, text: bytes) -> None:
+        """Writes the record of bytes that came of a node of the other kind."""
         self.flush()
         self.parts.append(bytes([3, source, len(text)]) + text)
 
-    def end(self):
+    def end(self) -> bytes:
+        """The records, with that of the end."""
         self.flush()
         return b"".join(self.parts) + b"\4"
 
@@ -994,34 +1125,39 @@ class Recorder:
 class Site:
     """A good node with its clock and its port."""
 
-    def __init__(self, scenario, node, windows):
+    def __init__(self, scenario: Scenario, node: Node, windows: list[Window]) -> None:
         self.node, self.scenario = node, scenario
         self.clock = Timeline(*scenario.clocks[node])
         self.core = Core(scenario.bus, node, windows)
         self.port = Port(scenario.apps[node[1]], scenario.words[node[1]]) if node[0] == BIU else None
-        self.recorder = None
+        self.recorder: Recorder | None = None
 
-    def is_running(self):
+    def is_running(self) -> bool:
+        """Whether the node is good at its next tick, and the run has its frame."""
         core = self.core
         place = (core.frame + 1, 0) if core.ticks == core.next_epoch else (core.frame, core.window.slot)
         return core.frame < self.scenario.frames and self.scenario.is_good(self.node, *place)
 
-    def pass_to(self, tick):
+    def pass_to(self, tick: int) -> None:
+        """Has all ticks before this one, at which nothing happens."""
         if self.recorder:
             self.recorder.quiet += tick - self.core.ticks
         self.core.ticks = tick
 
-    def arrive(self, time, source, text):
+    def arrive(self, time: int, source: int, text: bytes) -> None:
+        """Hands bytes over that come at a time from a node of the other kind."""
         self.pass_to(self.clock.stamp_of(time))
         if self.recorder:
             self.recorder.message(source, text)
         self.core.arrive(source, text)
 
-    def tick(self, tick):
+    def tick(self, tick: int) -> Shown:
+        """Has all ticks up to this one, and gives what the node shows at it."""
         self.pass_to(tick)
         asked = []
 
-        def ask(role, slot):
+        def ask(role: str, slot: int) -> int:
+            """The node's request in a schedule slot, and in a data slot the word that its port offers."""
             number = self.node[1]
             asked.append(self.scenario.requests[number] if role == "schedule" else self.port.offered(slot))
             return asked[0]
@@ -1043,21 +1179,31 @@ class FrameStart:
 
     tick: int
     time: int
-    convicted: tuple
-    state: int = None
-    losses: int = None
+    convicted: tuple[int, ...]  # by kind the mask of those that it holds convicted
+    state: int | None = None
+    losses: int | None = None
 
 
 AFTER_MESSAGES = 16  # more than any number of a source
 
 
 class World:
-    def __init__(self, scenario, recorded=None):
+    """A run of a scenario: what is pending comes in the order of time, and `lines` are those of the report."""
+
+    spread: int  # the greatest difference between the times at which good nodes began one frame, in reference units
+    deliveries: int
+    breach: str | None  # its cause
+    slot_deliveries: dict[tuple[int, int, int], tuple[int, Word]]  # by frame, slot and BIU: owner and value
+    milestone: Milestone  # the one that is settled next
+    heap: list[tuple[int, Node, int, int, int | bytes]]  # time, node, source, count, and bytes or the number of a tick
+    convicted: list[int]  # how many nodes of each kind good nodes hold convicted
+
+    def __init__(self, scenario: Scenario, recorded: Node | None = None) -> None:
         self.scenario, self.bus = scenario, scenario.bus
         self.windows = self.bus.windows()
-        self.arrivals = {}  # time of what was taken, by receiver and source, in the open window
+        self.arrivals: dict[tuple[Node, int], int] = {}  # time of what was taken, by receiver and source, in the open window
         self.lines, self.spread, self.deliveries, self.breach = [], 0, 0, None
-        self.told = {}  # milestone: what each node told of it
+        self.told: dict[Milestone, dict[Node, Any]] = {}  # milestone: what each node told of it
         self.judge, self.slot_deliveries = Judge(self.bus), {}
         self.milestone, self.ended = ("frame", 0), False
         self.heap, self.count = [], 0
@@ -1074,16 +1220,17 @@ class World:
 
     # what is pending
 
-    def push(self, time, node, source, item):
+    def push(self, time: int, node: Node, source: int, item: int | bytes) -> None:
         """At one node messages come by their source, and before its tick."""
         self.count += 1
         heapq.heappush(self.heap, (time, node, source, self.count, item))
 
-    def push_tick(self, site):
+    def push_tick(self, site: Site) -> None:
+        """Makes the node's next tick at which something happens pending."""
         tick = site.core.next_busy()
         self.push(site.clock.time_of(tick), site.node, AFTER_MESSAGES, tick)
 
-    def open_window(self, site):
+    def open_window(self, site: Site) -> None:
         """What nodes that are not good say in the window that begins."""
         core = site.core
         for say in self.scenario.says:
@@ -1092,7 +1239,8 @@ class World:
                 text = say.bytes_of(self.bus, core.frame, core.window)
                 self.push(time, site.node, say.source[1], text)
 
-    def run(self):
+    def run(self) -> Self:
+        """The run, at its end or its breach."""
         while not self.ended:
             time, node, source, _, item = heapq.heappop(self.heap)
             site = self.sites[node]
@@ -1106,7 +1254,8 @@ class World:
                 self.arrivals.setdefault((node, source), time)
         return self
 
-    def proceed(self, site, time, tick):
+    def proceed(self, site: Site, time: int, tick: int) -> None:
+        """Has a tick of a node, and does with what it shows what follows from it."""
         core, frame = site.core, site.core.frame
         shown = site.tick(tick)
         if shown.turned:
@@ -1122,7 +1271,8 @@ class World:
                 self.open_window(site)
             self.push_tick(site)
 
-    def send(self, node, time, frame, slot, stage, text):
+    def send(self, node: Node, time: int, frame: int, slot: int, stage: int, text: bytes) -> None:
+        """Makes a message pending at each node of the other kind, after the delay of its link."""
         for number in range(self.bus.size(other(node[0]))):
             target = other(node[0]), number
             delay = self.scenario.delay_of(node, target, frame, slot, stage)
@@ -1130,15 +1280,17 @@ class World:
 
     # what nodes tell
 
-    def tell_frame(self, site):
+    def tell_frame(self, site: Site) -> None:
+        """Keeps what a node tells of the frame that it begins."""
         core, port = site.core, site.port
         start = FrameStart(core.epoch, site.clock.time_of(core.epoch), tuple(mask_of(core.convicted(k)) for k in (BIU, RMU)))
         if port:
             start.state, start.losses = port.state, port.losses()
         self.told.setdefault(("frame", core.frame), {})[site.node] = start
 
-    def tell_stage(self, site, frame, window, taken):
-        row = {}
+    def tell_stage(self, site: Site, frame: int, window: Window, taken: Taken) -> None:
+        """Keeps the sights of a node that has closed a window, the tail aside."""
+        row: Row = {}
         for source, value in taken.items():
             is_sync = window.slot == self.bus.sync
             row[source] = (self.arrivals[site.node, source], None) if is_sync else (None, value)
@@ -1150,10 +1302,12 @@ class World:
 
     # what is settled
 
-    def good_at(self, frame, slot):
+    def good_at(self, frame: int, slot: int) -> list[Node]:
+        """The nodes that are good in a slot."""
         return [node for node in self.bus.nodes() if self.scenario.is_good(node, frame, slot)]
 
-    def settle(self):
+    def settle(self) -> None:
+        """Settles one milestone after the other, as long as each good node has told of it."""
         while not self.ended:
             place = self.milestone[1], self.milestone[2] if self.milestone[0] == "stage" else 0
             good, told = self.good_at(*place), self.told.get(self.milestone, {})
@@ -1164,7 +1318,8 @@ class World:
             else:
                 self.settle_stage(*self.milestone[1:], good, told)
 
-    def settle_frame(self, frame, starts):
+    def settle_frame(self, frame: int, starts: dict[Node, FrameStart]) -> None:
+        """Reports the begin of a frame by what its good nodes tell, or the end of the run."""
         self.told.pop(self.milestone, None)
         for node, start in starts.items():
             self.lines.append(f"e {frame} {name_of(node)} {start.tick} {start.time}")
@@ -1182,7 +1337,8 @@ class World:
             self.lines.append(f"end {frame}")
         self.milestone = "stage", frame, 0, 1
 
-    def settle_stage(self, frame, slot, stage, good, told):
+    def settle_stage(self, frame: int, slot: int, stage: int, good: list[Node], told: dict[Node, tuple[Row, Trusted]]) -> None:
+        """Judges a stage by what its good nodes saw; reports a breach, or after stage 3 the slot."""
         self.told.pop(self.milestone, None)
         for kind in (BIU, RMU):
             self.judge.see(kind, [told[node][0] for node in good if node[0] == other(kind)])
@@ -1197,7 +1353,8 @@ class World:
             self.report_slot(frame, slot, good)
             self.milestone = ("stage", frame, slot + 1, 1) if slot < self.bus.sync else ("frame", frame + 1)
 
-    def report_slot(self, frame, slot, good):
+    def report_slot(self, frame: int, slot: int, good: list[Node]) -> None:
+        """Reports what the good BIUs delivered in a slot."""
         for kind, number in good:
             delivered = self.slot_deliveries.pop((frame, slot, number), None) if kind == BIU else None
             if delivered:
@@ -1210,7 +1367,8 @@ class World:
 # --- Logs --------------------------------------------------------------------------------------------------------------
 
 
-def log_header(bus, node):
+def log_header(bus: Bus, node: Node) -> bytes:
+    """The header of a node's log."""
     text = bytes([bus.biu, bus.rmu]) + bus.slots.to_bytes(2)
     text += b"".join(getattr(bus.plan, item.name).to_bytes(4) for item in fields(Plan)) + bytes(node)
     if bus.version == 1 and bus.probation == 0:
@@ -1219,23 +1377,28 @@ def log_header(bus, node):
 
 
 class LogReader:
-    def __init__(self, text):
+    """Reads a log from its begin to its end; `place` is the number of the byte that is read next."""
+
+    def __init__(self, text: bytes) -> None:
         self.text, self.place = text, 0
 
-    def take(self, length):
+    def take(self, length: int) -> bytes:
+        """The next bytes, so many; refused where the log has fewer."""
         if self.place + length > len(self.text):
             raise Refused(f"refused 3 Truncated {len(self.text)}")
         self.place += length
         return self.text[self.place - length : self.place]
 
-    def number(self, length, least, most):
+    def number(self, length: int, least: int, most: int) -> int:
+        """The number in the next bytes; refused at its place where it is out of the range."""
         place = self.place
         value = int.from_bytes(self.take(length))
         if not least <= value <= most:
             bad_field(place)
         return value
 
-    def header(self):
+    def header(self) -> tuple[Bus, Node]:
+        """The bus and the node of the header."""
         form = self.take(4)
         if form not in (b"RBL1", b"RBL2"):
             raise Refused("refused 1 BadMagic")
@@ -1251,7 +1414,8 @@ class LogReader:
             number, probation = self.number(1, 0, 255 if version == 2 else 0), self.number(2, 0, 4096)
         return Bus(biu, rmu, slots, plan, version, number, probation), node
 
-    def plan(self):
+    def plan(self) -> Plan:
+        """The timing plan of the header, each of its numbers in its range."""
         values = {}
         for key, (least, most) in PLAN_RANGES.items():
             if key == "r":
@@ -1261,7 +1425,7 @@ class LogReader:
             values[key] = self.number(4, least, most)
         return Plan(**values)
 
-    def records(self, sources):
+    def records(self, sources: int) -> list[Event]:
         """The events of a log: (ticks, word), or (source, bytes) with a source below `sources`."""
         ticks, events = 0, []
         while True:
@@ -1286,17 +1450,20 @@ class LogReader:
         return events
 
 
-def bad_field(place):
+def bad_field(place: int) -> NoReturn:
+    """Raises Refused for the field at a place of a log."""
     raise Refused(f"refused 2 BadField {place}")
 
 
-def replay(text):
+def replay(text: bytes) -> list[str]:
+    """The lines that a node's log gives without the rest of the bus."""
     reader = LogReader(text)
     bus, node = reader.header()
     events = reader.records(bus.size(other(node[0])))
     core, lines = Core(bus, node), []
 
-    def tell_frame():
+    def tell_frame() -> None:
+        """Adds the lines of the frame that the node begins."""
         lines.append(f"e {core.frame} {name_of(node)} {core.epoch}")
         lines.append(f"c {core.frame} {name_of(node)} {mask_of(core.convicted(BIU))} {mask_of(core.convicted(RMU))}")
 
@@ -1323,21 +1490,25 @@ def replay(text):
 # --- The program -------------------------------------------------------------------------------------------------------
 
 
-def text_of(lines):
+def text_of(lines: Iterable[str]) -> bytes:
+    """The lines as bytes, each with a line feed."""
     return "".join(line + "\n" for line in lines).encode()
 
 
-def do_run(text):
+def do_run(text: bytes) -> Answer:
+    """What `run` answers: the report of a scenario's run."""
     world = World(read_scenario(text)).run()
     return (1 if world.breach else 0), text_of(world.lines)
 
 
-def do_check(text):
+def do_check(text: bytes) -> Answer:
+    """What `check` answers: both sides of the seven inequalities, in reference units."""
     sides = sides_of(read_scenario(text).bus)
     return 0, text_of(f"C{i} {left} {right}" for i, (left, right) in enumerate(sides, 1))
 
 
-def do_record(text, node):
+def do_record(text: bytes, node: Node) -> Answer:
+    """What `record` answers: the log of a node."""
     scenario = read_scenario(text)
     if node[1] >= scenario.bus.size(node[0]):
         refuse(12)
@@ -1345,7 +1516,8 @@ def do_record(text, node):
     return (1 if world.breach else 0), log_header(scenario.bus, node) + world.recorder.end()
 
 
-def do_stress(seed, frames):
+def do_stress(seed: int, frames: int) -> Answer:
+    """What `stress` answers: four numbers of the generated scenario's run."""
     world = World(read_scenario(generated(seed, frames))).run()
     if world.breach:
         return 1, b""
@@ -1357,7 +1529,7 @@ def do_stress(seed, frames):
 # --- The generated scenario --------------------------------------------------------------------------------------------
 
 
-def drawn(seed):
+def drawn(seed: int) -> Iterator[int]:
     """The upper halves of the states of a linear congruential generator."""
     state = seed
     while True:
@@ -1365,7 +1537,8 @@ def drawn(seed):
         yield state >> 32
 
 
-def generated(seed, frames):
+def generated(seed: int, frames: int) -> bytes:
+    """The document that `gen` writes for a seed and so many frames."""
     numbers, bus = drawn(seed), Bus(8, 5, 16)
     plan, nodes, middle = bus.plan, bus.nodes(), frames // 2
     fall = next(numbers) % frames
@@ -1389,13 +1562,14 @@ def generated(seed, frames):
     return text_of(lines)
 
 
-def number_in(word, least, most):
+def number_in(word: str, least: int, most: int) -> int | None:
+    """The number that a word is, where it is in the range."""
     if not re.fullmatch(r"0|[1-9][0-9]*", word, re.ASCII) or not least <= int(word) <= most:
         return None
     return int(word)
 
 
-def call_of(words):
+def call_of(words: list[str]) -> tuple[Callable[[bytes], Answer], int] | None:
     """What the words ask for: a function of the input, and how long this may be; nothing where they have no form."""
     match words:
         case ["run"]:
@@ -1417,7 +1591,7 @@ def call_of(words):
     return None
 
 
-def answer(words, stdin):
+def answer(words: list[str], stdin: BinaryIO) -> Answer:
     """The status, and what is written."""
     call = call_of(words)
     if call is None:
@@ -1432,7 +1606,8 @@ def answer(words, stdin):
         return 3, f"{refusal}\n".encode()
 
 
-def main():
+def main() -> None:
+    """Answers the words of the command line, and ends with the answer's status."""
     status, text = answer(sys.argv[1:], sys.stdin.buffer)
     sys.stdout.buffer.write(text)
     sys.exit(status)
