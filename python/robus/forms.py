@@ -2,16 +2,18 @@
 from __future__ import annotations
 
 import difflib
-from typing import Iterator
+from typing import Iterable, Iterator
 
 from robus.keys import TABLES, may_stand
+from robus.locate import Place
 from robus.model import model
 
-FIELDS = {"root": model.ROOT_FIELDS, "plan": model.PLAN_FIELDS, **model.ENTRY_FIELDS}
+FIELDS: dict[str, model.Fields] = {"root": model.ROOT_FIELDS, "plan": model.PLAN_FIELDS, **model.ENTRY_FIELDS}
 SAYINGS = model.SAYINGS
+Broken = tuple[int, Place, str]  # the code of the rule that is broken, the place, and why
 
 
-def tables_of(document: dict) -> Iterator[tuple[tuple, str, dict]]:
+def tables_of(document: model.Document) -> Iterator[tuple[Place, str, model.Document]]:
     """Each table of a document that has keys of its own: its place, its name, the table."""
     yield (), "root", document
     if isinstance(document.get("plan"), dict):
@@ -23,12 +25,12 @@ def tables_of(document: dict) -> Iterator[tuple[tuple, str, dict]]:
                 yield (name, number), name, entry
 
 
-def title(place: tuple) -> str:
+def title(place: Place) -> str:
     """A table's name for a reader: `say 3` is the third [[say]]."""
     return "the document" if not place else "plan" if place == ("plan",) else "%s %d" % (place[0], place[1] + 1)
 
 
-def near(key: str, keys) -> str | None:
+def near(key: str, keys: Iterable[str]) -> str | None:
     """The key that a misspelt one is nearest to, if any is near."""
     found = difflib.get_close_matches(key.lower(), list(keys), 1, 0.6)
     return found[0] if found else None
@@ -40,7 +42,8 @@ def elsewhere(key: str, table: str) -> str:
     return ", ".join("at the root" if name == "root" else "in " + ("plan" if name == "plan" else "[[%s]]" % name) for name in there)
 
 
-def missing(place: tuple, name: str, table: dict) -> Iterator[tuple]:
+def missing(place: Place, name: str, table: model.Document) -> Iterator[Broken]:
+    """The keys that a table must have and has not."""
     for key, (is_required, _) in FIELDS[name].items():
         if is_required and key not in table:
             typo = next((it for it in table if it not in FIELDS[name] and near(it, FIELDS[name]) == key), None)
@@ -50,7 +53,8 @@ def missing(place: tuple, name: str, table: dict) -> Iterator[tuple]:
         yield 2, place, "%s says nothing: one of word, fault, sync and raw is to stand there" % title(place)
 
 
-def unknown(place: tuple, name: str, table: dict) -> Iterator[tuple]:
+def unknown(place: Place, name: str, table: model.Document) -> Iterator[Broken]:
+    """The keys of a table that there are not."""
     for key in table:
         if key not in FIELDS[name]:
             like, other = near(key, [it for it in FIELDS[name] if it not in table] or FIELDS[name]), elsewhere(key, name)
@@ -58,13 +62,14 @@ def unknown(place: tuple, name: str, table: dict) -> Iterator[tuple]:
             yield 3, place + (key,), "%s has no key %s: %s" % (title(place), key, hint)
 
 
-def of_another_form(place: tuple, name: str, table: dict) -> Iterator[tuple]:
+def of_another_form(place: Place, name: str, table: model.Document) -> Iterator[Broken]:
+    """The keys of a table whose values have another form."""
     for key, value in table.items():
         if key in FIELDS[name] and not FIELDS[name][key][1](value):
             yield 4, place + (key,), "%s is to be %s" % (key, may_stand(name, key))
 
 
-def findings(document: dict) -> Iterator[tuple]:
+def findings(document: model.Document) -> Iterator[Broken]:
     """All that is wrong with keys and forms: the rule's code, the place, why."""
     for table in tables_of(document):
         for rule in (missing, unknown, of_another_form):

@@ -3,14 +3,15 @@ from __future__ import annotations
 
 from typing import Iterator
 
-from robus.forms import title
+from robus.forms import Broken, title
 from robus.model import model
 from robus.ranges import Values
 
 REMEDY = {1: "raise h", 2: "raise l", 3: "raise h", 4: "raise v", 5: "raise h", 6: "raise z", 7: "raise p"}
 
 
-def of_plan(values: Values) -> Iterator[tuple]:
+def of_plan(values: Values) -> Iterator[Broken]:
+    """The inequalities of the timing plan that fail."""
     if values.plan is None or values.sync is None:
         return
     bus = model.Bus(values.biu, values.rmu, values.slots, values.plan)
@@ -20,7 +21,8 @@ def of_plan(values: Values) -> Iterator[tuple]:
                 number, left, right, REMEDY[number])
 
 
-def of_clocks(values: Values) -> Iterator[tuple]:
+def of_clocks(values: Values) -> Iterator[Broken]:
+    """Clocks that do not begin with tick 0, or whose first ticks do not rise, or whose ticks are too long or too short."""
     plan = values.plan
     for place in values.entries("clock"):
         ticks = values.get(place, "ticks")
@@ -39,14 +41,15 @@ def of_clocks(values: Values) -> Iterator[tuple]:
                     plan.u - plan.r, plan.u + plan.r)
 
 
-def of_delays(values: Values) -> Iterator[tuple]:
+def of_delays(values: Values) -> Iterator[Broken]:
+    """Delays that are shorter or longer than the plan has them."""
     for place in [()] + values.entries("link"):
         delay, plan = values.get(place, "delay"), values.plan
         if delay is not None and plan is not None and not plan.dmin <= delay <= plan.dmax:
             yield 8, place + ("delay",), "a delay is to lie within dmin to dmax, which is %d to %d" % (plan.dmin, plan.dmax)
 
 
-def of_starts(values: Values) -> Iterator[tuple]:
+def of_starts(values: Values) -> Iterator[Broken]:
     """The starts lie within p; the one that is furthest from most others is named."""
     if values.plan is None or values.biu is None or values.rmu is None:
         return
@@ -61,7 +64,8 @@ def of_starts(values: Values) -> Iterator[tuple]:
             values.plan.p, high - low, title(other) if other else "the clocks that have no start")
 
 
-def of_speakers(values: Values) -> Iterator[tuple]:
+def of_speakers(values: Values) -> Iterator[Broken]:
+    """Say entries of nodes that are good there."""
     onsets, is_whole = {}, True
     for place in values.entries("fault"):
         node = values.node(values.get(place, "node"))
@@ -83,7 +87,8 @@ def of_speakers(values: Values) -> Iterator[tuple]:
                 name, *onsets[node], frames[0], slots[0])
 
 
-def of_counts(values: Values) -> Iterator[tuple]:
+def of_counts(values: Values) -> Iterator[Broken]:
+    """Say entries, link entries and pairs of ticks beyond the number that there may be."""
     for name, most in (("say", model.MOST_SAYS), ("link", model.MOST_LINKS)):
         places = values.entries(name)
         if len(places) > most:
@@ -97,7 +102,7 @@ def of_counts(values: Values) -> Iterator[tuple]:
         yield 11, most + ("ticks",), "the ticks of all clocks have %d pairs, and %d may be" % (total, model.MOST_PAIRS)
 
 
-def findings(values: Values) -> Iterator[tuple]:
+def findings(values: Values) -> Iterator[Broken]:
     """All that breaks a rule on what the values say together: the rule's code, the place, why."""
     for rule in (of_plan, of_clocks, of_delays, of_starts, of_speakers, of_counts):
         yield from rule(values)

@@ -8,7 +8,7 @@ import sys
 from dataclasses import asdict, dataclass
 
 from robus import forms, laws, ranges, syntax
-from robus.locate import Locator
+from robus.locate import Locator, Place
 from robus.model import TooLong, model, read
 from robus.scenario import path_of
 
@@ -31,7 +31,7 @@ class Finding:
     path: str = ""  # the place as Scenario.with_ takes it, say[1].slots
 
 
-def spelt(place: tuple) -> str:
+def spelt(place: Place) -> str:
     """A place as a reader writes it: say 2.slots."""
     if not place:
         return ""
@@ -41,6 +41,7 @@ def spelt(place: tuple) -> str:
 
 
 def short(text: str) -> str:
+    """A text on one line, of at most 60 characters."""
     text = " ".join(text.split())
     return text if len(text) <= 60 else text[:57] + "..."
 
@@ -78,7 +79,8 @@ def findings_in(data: bytes) -> list[Finding]:
     document = syntax.tomllib.loads("".join(part for _, part in parts))
     locator = Locator(text)
 
-    def finding(code: int, place: tuple, why: str) -> Finding:
+    def finding(code: int, place: Place, why: str) -> Finding:
+        """What is found at a place, with its line and what stands there."""
         stands = locator.texts.get(place, "")
         return Finding(code, locator.line_of(place), spelt(place), short(stands), why, path_of(place))
 
@@ -119,6 +121,7 @@ def line_for(name: str, it: Finding) -> str:
 
 
 def main(words: list[str]) -> int:
+    """tools/lint with these words; its status."""
     parser = argparse.ArgumentParser(prog="tools/lint", description=HELP, formatter_class=argparse.RawDescriptionHelpFormatter)
     parser.add_argument("scenario", help="a file, or - for standard input")
     parser.add_argument("--json", action="store_true", help="a line of JSON for each finding")

@@ -6,7 +6,9 @@ from __future__ import annotations
 
 import re
 from dataclasses import dataclass, field
+from typing import Dict, List, Tuple, Union
 
+Place = Tuple[Union[str, int], ...]
 STRING = re.compile(r'"""(?:\\.|[^\\])*?"""+|\'\'\'.*?\'\'\'+|"(?:\\.|[^"\\\n])*"|\'[^\'\n]*\'', re.DOTALL)
 BARE = re.compile(r"[A-Za-z0-9_-]+")
 BLANK = re.compile(r"(?:[ \t\r\n]|#[^\n]*)*")
@@ -20,15 +22,15 @@ class Locator:
     """Reads a document once; `lines` and `texts` are by place."""
 
     text: str
-    at: int = 0
-    lines: dict = field(default_factory=dict)
-    texts: dict = field(default_factory=dict)
-    counts: dict = field(default_factory=dict)
+    at: int = 0  # the character that is read next
+    lines: Dict[Place, int] = field(default_factory=dict)  # from 1
+    texts: Dict[Place, str] = field(default_factory=dict)
+    counts: Dict[Place, int] = field(default_factory=dict)  # how many tables of an array were met
 
-    def __post_init__(self):
+    def __post_init__(self) -> None:
         self.text = self.text.removeprefix("\ufeff")
         self.ends = [it.start() for it in re.finditer("\n", self.text)]
-        table: tuple = ()
+        table: Place = ()
         self.skip(BLANK)
         while self.at < len(self.text):
             begin = self.at
@@ -39,7 +41,8 @@ class Locator:
                 self.entry(table)
             self.skip(BLANK)
 
-    def skip(self, pattern: re.Pattern) -> str:
+    def skip(self, pattern: re.Pattern[str]) -> str:
+        """Goes behind what the pattern finds here; the text of it, which is empty where it finds nothing."""
         found = pattern.match(self.text, self.at)
         self.at = found.end() if found and found.end() > self.at else self.at
         return found[0] if found else ""
@@ -52,12 +55,14 @@ class Locator:
             low, high = (middle + 1, high) if self.ends[middle] < at else (low, middle)
         return low + 1
 
-    def note(self, place: tuple, begin: int) -> None:
+    def note(self, place: Place, begin: int) -> None:
+        """Keeps that a place stands from a character on up to here, where it has not been met before."""
         self.lines.setdefault(place, self.line_at(begin))
         self.texts.setdefault(place, self.text[begin : self.at].strip())
 
-    def key(self) -> tuple:
-        parts = []
+    def key(self) -> Place:
+        """Reads a key, which has several parts where points stand in it."""
+        parts: List[str] = []
         while True:
             self.skip(SPACE)
             if self.text[self.at] in "\"'":
@@ -71,10 +76,11 @@ class Locator:
                 return tuple(parts)
             self.at += 1
 
-    def header(self) -> tuple:
+    def header(self) -> Place:
+        """Reads the header of a table; the place of the table."""
         is_array = self.text.startswith("[[", self.at)
         self.at += 1 + is_array
-        place: tuple = ()
+        place: Place = ()
         key = self.key()
         for part in key[:-1]:
             place += (part,)
@@ -87,7 +93,8 @@ class Locator:
         self.at += 1 + is_array
         return place
 
-    def entry(self, table: tuple) -> None:
+    def entry(self, table: Place) -> None:
+        """Reads a key and its value in a table, and keeps where they stand."""
         begin = self.at
         place = table + self.key()
         self.at += 1
@@ -96,7 +103,8 @@ class Locator:
         for shorter in range(len(table) + 1, len(place)):
             self.note(place[:shorter], begin)
 
-    def value(self, place: tuple) -> None:
+    def value(self, place: Place) -> None:
+        """Reads the value at a place, and keeps where it and each part of it stand."""
         self.skip(BLANK)
         begin, mark = self.at, self.text[self.at : self.at + 1]
         if mark in "[{" and mark:
@@ -117,7 +125,7 @@ class Locator:
             self.skip(OTHER)
         self.note(place, begin)
 
-    def line_of(self, place: tuple) -> int:
+    def line_of(self, place: Place) -> int:
         """The line of a place, or of what holds it."""
         while place and place not in self.lines:
             place = place[:-1]

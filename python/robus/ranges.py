@@ -2,10 +2,11 @@
 from __future__ import annotations
 
 import re
-from typing import Any, Iterator
+from typing import Any, Callable, Iterator
 
-from robus.forms import FIELDS, SAYINGS, tables_of, title
+from robus.forms import FIELDS, SAYINGS, Broken, tables_of, title
 from robus.keys import RANGES
+from robus.locate import Place
 from robus.model import BIU, RMU, TAIL, model
 
 WORD = (1 << 32) - 1
@@ -15,7 +16,7 @@ LETTERS = "BR"
 class Values:
     """A document's values, asked for by place: nothing where a value is missing or of another form."""
 
-    def __init__(self, document: dict):
+    def __init__(self, document: model.Document) -> None:
         self.document = document
         self.tables = {place: (name, table) for place, name, table in tables_of(document)}
         self.biu, self.rmu, self.slots, self.frames = (self.ranged(key) for key in ("biu", "rmu", "slots", "frames"))
@@ -23,18 +24,21 @@ class Values:
         self.sync = None if None in sizes else 2 * self.biu + self.rmu + self.slots
         self.plan = self.whole_plan()
 
-    def get(self, place: tuple, key: str, default: Any = None) -> Any:
+    def get(self, place: Place, key: str, default: Any = None) -> Any:
+        """The value at a key of the table at this place, or the default where it is missing or of another form."""
         name, table = self.tables.get(place, ("root", {}))
         return table[key] if key in table and FIELDS[name][key][1](table[key]) else default
 
     def ranged(self, key: str) -> int | None:
+        """The number at a key of the root, where it is in its range."""
         value = self.get((), key)
         return value if value is not None and RANGES[key][0] <= value <= RANGES[key][1] else None
 
     def size(self, kind: int) -> int | None:
+        """How many nodes of a kind there are, where that is known."""
         return self.rmu if kind else self.biu
 
-    def whole_plan(self):
+    def whole_plan(self) -> model.Plan | None:
         """The plan, where each number of it is in its range."""
         table = self.document.get("plan", {})
         keys = FIELDS["plan"]
@@ -44,33 +48,36 @@ class Values:
         in_range = all(low <= getattr(plan, key) <= high for key, (low, high) in model.PLAN_RANGES.items())
         return plan if in_range and plan.r < plan.u and plan.dmin <= plan.dmax else None
 
-    def entries(self, name: str) -> list[tuple]:
+    def entries(self, name: str) -> list[Place]:
+        """The places of all entries of a name, as of all [[say]]."""
         return [place for place, (it, _) in self.tables.items() if it == name]
 
-    def node(self, text: str | None) -> tuple | None:
+    def node(self, text: str | None) -> model.Node | None:
         """The node of a name, as (kind, number), where the bus has one."""
         if text is None or not re.fullmatch(r"[BR](0|[1-9][0-9]?)", text, re.ASCII):
             return None
         kind, number = LETTERS.index(text[0]), int(text[1:])
         return (kind, number) if self.size(kind) is None or number < self.size(kind) else None
 
-    def end(self, text: str | None) -> tuple | None:
+    def end(self, text: str | None) -> model.Pattern | None:
         """A node, or (kind, None) for all of a kind."""
         return (LETTERS.index(text), None) if text in ("B", "R") else self.node(text)
 
-    def pair(self, place: tuple, key: str, low: int, high: int | None, default=None) -> tuple | None:
+    def pair(self, place: Place, key: str, low: int, high: int | None, default: list[int] | None = None) -> model.Pair | None:
         """A pair, where it is one and in range."""
         value = self.get(place, key, default)
         return tuple(value) if value is not None and high is not None and low <= value[0] <= value[1] <= high else None
 
 
-def number(values: Values, place: tuple, key: str, low: int, high: int | None, why: str = "") -> Iterator[tuple]:
+def number(values: Values, place: Place, key: str, low: int, high: int | None, why: str = "") -> Iterator[Broken]:
+    """A number that is out of its range; nothing where the range is not known."""
     value = values.get(place, key)
     if value is not None and high is not None and not low <= value <= high:
         yield 5, place + (key,), "%s is to be %s%s" % (key, "%d to %d" % (low, high) if low < high else str(low), why)
 
 
-def pair(values: Values, place: tuple, key: str, low: int, high: int | None, why: str = "") -> Iterator[tuple]:
+def pair(values: Values, place: Place, key: str, low: int, high: int | None, why: str = "") -> Iterator[Broken]:
+    """A pair that is out of its range or falls; nothing where the range is not known."""
     value = values.get(place, key)
     if value is None or high is None:
         return
@@ -80,7 +87,8 @@ def pair(values: Values, place: tuple, key: str, low: int, high: int | None, why
         yield 5, place + (key,), "%s is to have its lower end first" % key
 
 
-def node_name(values: Values, place: tuple, key: str, find) -> Iterator[tuple]:
+def node_name(values: Values, place: Place, key: str, find: Callable[[str], model.Pattern | None]) -> Iterator[Broken]:
+    """A name of which `find` finds no node."""
     text = values.get(place, key)
     if text is None or find(text) is not None:
         return
@@ -95,7 +103,8 @@ def node_name(values: Values, place: tuple, key: str, find) -> Iterator[tuple]:
     yield 5, place + (key,), "%s names no node: %s" % (key, why)
 
 
-def of_root(values: Values) -> Iterator[tuple]:
+def of_root(values: Values) -> Iterator[Broken]:
+    """What is wrong with the values of the root."""
     for key in ("biu", "rmu", "slots", "frames", "delay", "version", "probation"):
         yield from number(values, (), key, *RANGES[key])
     version = values.get((), "version", 1)
@@ -115,7 +124,8 @@ def of_root(values: Values) -> Iterator[tuple]:
             yield 5, (key,), "%s is to have one for each of the %d BIUs, and has %d" % (key, values.biu, len(found))
 
 
-def of_plan(values: Values) -> Iterator[tuple]:
+def of_plan(values: Values) -> Iterator[Broken]:
+    """What is wrong with the numbers of the plan."""
     place = ("plan",)
     for key in FIELDS["plan"]:
         yield from number(values, place, key, *RANGES[key])
@@ -127,8 +137,9 @@ def of_plan(values: Values) -> Iterator[tuple]:
         yield 5, place + (key,), "dmin is to be at most dmax, and they are %d and %d" % (plan["dmin"], plan["dmax"])
 
 
-def twice(values: Values, name: str) -> Iterator[tuple]:
-    first: dict = {}
+def twice(values: Values, name: str) -> Iterator[Broken]:
+    """Entries of a node that has one of this name already."""
+    first: dict[model.Pattern | None, Place] = {}
     for place in values.entries(name):
         node = values.node(values.get(place, "node"))
         if node in first and node is not None:
@@ -136,7 +147,8 @@ def twice(values: Values, name: str) -> Iterator[tuple]:
         first.setdefault(node, place)
 
 
-def of_clocks(values: Values) -> Iterator[tuple]:
+def of_clocks(values: Values) -> Iterator[Broken]:
+    """What is wrong with the [[clock]] entries."""
     for place in values.entries("clock"):
         yield from node_name(values, place, "node", values.node)
         yield from number(values, place, "start", 0, 10**12)
@@ -147,13 +159,15 @@ def of_clocks(values: Values) -> Iterator[tuple]:
     yield from twice(values, "clock")
 
 
-def two_kinds(values: Values, place: tuple) -> Iterator[tuple]:
+def two_kinds(values: Values, place: Place) -> Iterator[Broken]:
+    """An entry whose two ends are of one kind."""
     source, target = values.end(values.get(place, "from")), values.end(values.get(place, "to"))
     if source and target and source[0] == target[0]:
         yield 5, place + ("to",), "to is to be of the other kind: links are between a BIU and an RMU"
 
 
-def of_links(values: Values) -> Iterator[tuple]:
+def of_links(values: Values) -> Iterator[Broken]:
+    """What is wrong with the [[link]] entries."""
     last = None if values.frames is None else values.frames - 1
     for place in values.entries("link"):
         for key in ("from", "to"):
@@ -165,7 +179,8 @@ def of_links(values: Values) -> Iterator[tuple]:
         yield from pair(values, place, "stages", 1, 3)
 
 
-def of_faults(values: Values) -> Iterator[tuple]:
+def of_faults(values: Values) -> Iterator[Broken]:
+    """What is wrong with the [[fault]] entries."""
     last = None if values.frames is None else values.frames - 1
     for place in values.entries("fault"):
         yield from node_name(values, place, "node", values.node)
@@ -174,7 +189,8 @@ def of_faults(values: Values) -> Iterator[tuple]:
     yield from twice(values, "fault")
 
 
-def of_saying(values: Values, place: tuple) -> Iterator[tuple]:
+def of_saying(values: Values, place: Place) -> Iterator[Broken]:
+    """What is wrong with what a [[say]] entry says."""
     table = values.tables[place][1]
     said = [key for key in SAYINGS if key in table]
     if len(said) > 1:
@@ -188,7 +204,8 @@ def of_saying(values: Values, place: tuple) -> Iterator[tuple]:
         yield 5, place + ("raw",), "raw is to be 2 to 64 hexadecimal digits, two for each byte, and is %d characters" % len(raw)
 
 
-def of_says(values: Values) -> Iterator[tuple]:
+def of_says(values: Values) -> Iterator[Broken]:
+    """What is wrong with the [[say]] entries."""
     last = None if values.frames is None else values.frames - 1
     for place in values.entries("say"):
         yield from node_name(values, place, "from", values.node)
@@ -201,7 +218,7 @@ def of_says(values: Values) -> Iterator[tuple]:
         yield from of_ticks(values, place)
 
 
-def of_ticks(values: Values, place: tuple) -> Iterator[tuple]:
+def of_ticks(values: Values, place: Place) -> Iterator[Broken]:
     """The offset and how early, which go by the windows of the ranges."""
     slots, stages = values.pair(place, "slots", 0, values.sync), values.pair(place, "stages", 1, TAIL)
     if values.plan is None or slots is None or stages is None:
@@ -218,7 +235,7 @@ def of_ticks(values: Values, place: tuple) -> Iterator[tuple]:
     yield from number(values, place, "early", 0, most, "" if in_sync_slot else ": a message comes early in the sync slot alone")
 
 
-def findings(values: Values) -> Iterator[tuple]:
+def findings(values: Values) -> Iterator[Broken]:
     """All values that are out of their range: code 5, the place, why."""
     for rule in (of_root, of_plan, of_clocks, of_links, of_faults, of_says):
         yield from rule(values)

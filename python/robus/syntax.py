@@ -3,15 +3,18 @@ from __future__ import annotations
 
 import re
 import tomllib
+from typing import Any, Iterator
 
+from robus.locate import Place
 from robus.model import model
 
 
-def older(text: str) -> list[tuple]:
+def older(text: str) -> list[tuple[str, str]]:
+    """The parts of a document, each with what stands for it in the form in which it is read."""
     return model.older_parts(text)
 
 
-def place_of(parts: list[tuple], at: int) -> int:
+def place_of(parts: list[tuple[str, str]], at: int) -> int:
     """The place in the document of a place in the form in which it was read."""
     here = there = 0
     for before, after in parts:
@@ -22,11 +25,12 @@ def place_of(parts: list[tuple], at: int) -> int:
 
 
 def line_and_column(text: str, at: int) -> tuple[int, int]:
+    """The line and the column of a character, both from 1."""
     before = text[:at]
     return before.count("\n") + 1, at - (before.rfind("\n") + 1) + 1
 
 
-def values_in(value, place: tuple = ()):
+def values_in(value: Any, place: Place = ()) -> Iterator[tuple[Place, int]]:
     """Each integer of a document with its place."""
     if type(value) is int:
         yield place, value
