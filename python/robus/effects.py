@@ -6,25 +6,28 @@ from typing import Iterator
 from robus import syntax
 from robus.forms import title
 from robus.layout import listens, purpose
-from robus.locate import Locator
+from robus.locate import Locator, Place
 from robus.model import TAIL, model, name_of, read
 from robus.watch import Watched, watch
 
+Warned = tuple[Place, str]  # the place in the document, and why
 # Runs of more stages than this are not made for a warning
 MOST_STAGES = 200_000
 
 
-def windows_of(say) -> Iterator[tuple[int, int]]:
+def windows_of(say: model.Say) -> Iterator[tuple[int, int]]:
+    """The slots and stages of a say entry."""
     for slot in range(say.slots[0], say.slots[1] + 1):
         for stage in range(say.stages[0], say.stages[1] + 1):
             yield slot, stage
 
 
-def receivers(bus, pattern) -> list[tuple]:
+def receivers(bus: model.Bus, pattern: model.Pattern) -> list[model.Node]:
+    """The nodes for which a pattern stands."""
     return [node for node in bus.nodes() if model.stands_for(pattern, node)]
 
 
-def unheard(scenario, place: tuple, say) -> Iterator[tuple]:
+def unheard(scenario: model.Scenario, place: Place, say: model.Say) -> Iterator[Warned]:
     """A say entry in stages in which no receiver listens, or to receivers that are all faulty by then."""
     bus, kind = scenario.bus, say.target[0]
     if not any(listens(bus, slot, stage, kind) for slot, stage in windows_of(say)):
@@ -36,9 +39,10 @@ def unheard(scenario, place: tuple, say) -> Iterator[tuple]:
         yield place + ("to",), "each node to which this is said is faulty by then, and hears nothing"
 
 
-def said_twice(scenario, places: list[tuple]) -> Iterator[tuple]:
+def said_twice(scenario: model.Scenario, places: list[Place]) -> Iterator[Warned]:
     """Two say entries of one node that fall into one window of one receiver."""
-    def meet(a, b) -> bool:
+    def meet(a: model.Pair, b: model.Pair) -> bool:
+        """Whether two ranges have a number in common."""
         return a[0] <= b[1] and b[0] <= a[1]
 
     heard = [set(receivers(scenario.bus, say.target)) for say in scenario.says]
@@ -51,12 +55,14 @@ def said_twice(scenario, places: list[tuple]) -> Iterator[tuple]:
                 break
 
 
-def covered_links(scenario) -> Iterator[tuple]:
+def covered_links(scenario: model.Scenario) -> Iterator[Warned]:
     """Link entries all of whose messages a later entry is for."""
-    def within(a, b) -> bool:
+    def within(a: model.Pair, b: model.Pair) -> bool:
+        """Whether the range a lies in the range b."""
         return b[0] <= a[0] and a[1] <= b[1]
 
-    def end_within(a, b) -> bool:
+    def end_within(a: model.Pattern, b: model.Pattern) -> bool:
+        """Whether b stands for all nodes for which a stands."""
         return a[0] == b[0] and (b[1] is None or a[1] == b[1])
 
     links = scenario.links[-400:]
@@ -70,7 +76,8 @@ def covered_links(scenario) -> Iterator[tuple]:
                 break
 
 
-def of_root(scenario, document: dict) -> Iterator[tuple]:
+def of_root(scenario: model.Scenario, document: model.Document) -> Iterator[Warned]:
+    """Words that are never said, a probation that never ends, and clocks that nothing asks."""
     bus = scenario.bus
     if "requests" in document and "words" in document:
         for number, asked in enumerate(scenario.requests):
@@ -84,7 +91,7 @@ def of_root(scenario, document: dict) -> Iterator[tuple]:
             yield ("clock", number), "%s is faulty from the first slot on, so nothing asks its clock" % entry["node"]
 
 
-def of_run(run: Watched, places: list[tuple]) -> Iterator[tuple]:
+def of_run(run: Watched, places: list[Place]) -> Iterator[Warned]:
     """Say entries of nodes that are convicted by then, in idle slots, or past the end of the run."""
     scenario, bus = run.scenario, run.bus
     for place, say in zip(places, scenario.says):
@@ -107,7 +114,7 @@ def is_idle(run: Watched, frame: int, slot: int) -> bool:
     return (frame, slot) in run.reached and (frame, slot) not in run.busy
 
 
-def warnings(data: bytes) -> list[tuple]:
+def warnings(data: bytes) -> list[tuple[int, Place, str]]:
     """Line, place and reason of each warning, in the order of lines."""
     scenario = read(data)
     text = data.decode("utf-8")

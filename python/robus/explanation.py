@@ -3,10 +3,11 @@ from __future__ import annotations
 
 import argparse
 import sys
+from typing import Iterable
 
 from robus.layout import purpose, scenario_or_status
-from robus.model import BIU, RMU, model, name_of
-from robus.watch import Watched, watch
+from robus.model import BIU, RMU, Stage, model, name_of
+from robus.watch import Closed, Watched, watch
 
 HELP = """Explains a run: at a breach the class of each node with the stage and the receivers that show it, and for each conviction the
 vectors that name the node and the evidence behind them. With FRAME and SLOT it prints what each good node said, heard, took and voted in
@@ -18,7 +19,7 @@ CAUSES = {"FewGoodBiu": "the good BIUs do not outnumber the other trusted ones t
 TAGS = {model.WORD_TAG: "word", model.FAULT_TAG: "fault", model.SYNC_TAG: "call"}
 
 
-def names(nodes) -> str:
+def names(nodes: Iterable[model.Node]) -> str:
     """Nodes by name, three and more in a row as `R0..R2`."""
     parts, row = [], []
     for node in [*sorted(nodes), None]:
@@ -29,23 +30,25 @@ def names(nodes) -> str:
     return " ".join(parts) or "none"
 
 
-def grouped(pairs) -> str:
+def grouped(pairs: Iterable[tuple[model.Node, str]]) -> str:
     """Nodes with a text each: those of one text together."""
-    groups: dict = {}
+    groups: dict[str, list[model.Node]] = {}
     for node, text in pairs:
         groups.setdefault(text, []).append(node)
     return ", ".join("%s %s" % (names(nodes), text) if text else names(nodes) for text, nodes in groups.items()) or "-"
 
 
-def place_text(bus, frame: int, slot: int, stage: int) -> str:
+def place_text(bus: model.Bus, frame: int, slot: int, stage: int) -> str:
+    """A stage, or the tail as stage 4, in words."""
     return "frame %d, slot %d (%s), %s" % (frame, slot, purpose(bus, slot), "tail" if stage == 4 else "stage %d" % stage)
 
 
-def value_text(value) -> str:
+def value_text(value: model.Word) -> str:
+    """A word, or that there is none, in words."""
     return "fault" if value is model.FAULT else str(value)
 
 
-def message_text(bus, text: bytes) -> str:
+def message_text(bus: model.Bus, text: bytes) -> str:
     """Bytes as a reader says them: the word, fault or call, with its place; or the bytes themselves."""
     found = model.read_message(bus, text)
     if found is None:
@@ -54,11 +57,12 @@ def message_text(bus, text: bytes) -> str:
     return str(value) if tag == model.WORD_TAG else TAGS[tag]
 
 
-def heard_text(bus, came: list) -> str:
+def heard_text(bus: model.Bus, came: list[tuple[int, bytes]]) -> str:
+    """What came of a source in a window, each message with its tick from the window's first one on."""
     return " and ".join("%s at tick %d" % (message_text(bus, text), tick) for tick, text in came) or "-"
 
 
-def why_accused(run: Watched, node, source: int, place: tuple) -> str:
+def why_accused(run: Watched, node: model.Node, source: int, place: Stage) -> str:
     """Why what came of a source in a stage is direct evidence against it."""
     it, (frame, slot, stage) = run.stages[place][node], place
     came = it.heard.get(source, [])
@@ -76,7 +80,7 @@ def why_accused(run: Watched, node, source: int, place: tuple) -> str:
     return "sent a %s, which is none of this slot" % TAGS[found[0]]
 
 
-def evidence(run: Watched, accuser, source: int, last_frame: int) -> str | None:
+def evidence(run: Watched, accuser: model.Node, source: int, last_frame: int) -> str | None:
     """The first evidence by which a good node accuses a node of the other kind."""
     for place in sorted(run.stages):
         it = run.stages[place].get(accuser)
@@ -106,7 +110,8 @@ def convictions(run: Watched) -> list[str]:
     return lines
 
 
-def conviction(run: Watched, node, frame: int, teller) -> list[str]:
+def conviction(run: Watched, node: model.Node, frame: int, teller: model.Node) -> list[str]:
+    """For a node that is convicted from a frame on: which vectors named it, as the teller counts them, and what they rest on."""
     kind, number = node
     far = model.other(kind)
     votes = {it: value for it, value in run.turns[frame - 1, teller].items() if it[0] == far}
@@ -117,7 +122,7 @@ def conviction(run: Watched, node, frame: int, teller) -> list[str]:
     lost = [it for it in votes if it not in valid]
     if lost:
         lines.append("  no vector of %s counts: there was none, or it names nodes that there are not" % names(lost))
-    behind: dict = {}
+    behind: dict[str, list[model.Node]] = {}
     for accuser in naming:
         behind.setdefault(evidence(run, accuser, number, frame - 1) or "no evidence: faulty itself", []).append(accuser)
     return lines + ["  %s: %s" % (names(accusers), found) for found, accusers in behind.items()]
@@ -141,7 +146,7 @@ def classes(run: Watched) -> list[str]:
     return lines
 
 
-def shown(run: Watched, node, found: str) -> list[str]:
+def shown(run: Watched, node: model.Node, found: str) -> list[str]:
     """The stages of the frame that make a node symmetric or asymmetric, with the receivers."""
     frame, onset = run.place[0], run.scenario.onsets[node]
     lines = []
@@ -180,7 +185,8 @@ def slot_table(run: Watched, frame: int, slot: int) -> list[str]:
     return lines
 
 
-def row_of(bus, node, it, is_sync: bool) -> tuple:
+def row_of(bus: model.Bus, node: model.Node, it: Closed, is_sync: bool) -> tuple[str, ...]:
+    """What one good node did in a stage: its name, what it said, heard and took, its vote, and whom it accuses from there on."""
     far = model.other(node[0])
     said = message_text(bus, it.said) if it.said else "-"
     heard = grouped(((far, source), heard_text(bus, came)) for source, came in sorted(it.heard.items()))
@@ -199,7 +205,7 @@ def told(run: Watched) -> list[str]:
     return lines + (found or ["", "nobody is convicted"])
 
 
-def explanation_of(scenario, frame: int | None = None, slot: int | None = None) -> str:
+def explanation_of(scenario: model.Scenario, frame: int | None = None, slot: int | None = None) -> str:
     """What is told of a scenario's run, or of a slot of it; ValueError where the run has no such
     slot."""
     if (frame is None) != (slot is None):
@@ -213,6 +219,7 @@ def explanation_of(scenario, frame: int | None = None, slot: int | None = None) 
 
 
 def main(words: list[str]) -> int:
+    """tools/explain with these words; its status."""
     parser = argparse.ArgumentParser(prog="tools/explain", description=HELP,
                                      formatter_class=argparse.RawDescriptionHelpFormatter)
     parser.add_argument("scenario", help="a file, or - for standard input")

@@ -7,7 +7,7 @@ import sys
 from dataclasses import dataclass
 
 from robus.layout import purpose, scenario_or_status
-from robus.model import model, name_of
+from robus.model import Slot, Stage, model, name_of
 
 HELP = """Writes the [[fault]] entry and the [[say]] entries of a node that does all that a good node does, but for the given lies. It runs
 the scenario on tools/model, in which the node goes on by the rules after its first lie, and is not proved.
@@ -25,21 +25,23 @@ The entries go behind the scenario: cat bus.toml lies.toml | robus run. The node
 status: 0 done, 2 wrong words or no such file, 3 the scenario is refused, 4 it is too long"""
 
 LIE = re.compile(r"(\d+)(?:\.\.(\d+))?/(\d+)(?:\.\.(\d+))?(?:/(\d+)(?:\.\.(\d+))?)?=(silent|fault|\d+)(?:@([BR]\d+(?:,[BR]\d+)*))?")
+Entry = tuple[str, model.Pair, model.Pair, int, tuple[str, ...]]  # to whom, frames, slots, stage, and the lines behind these
 
 
 @dataclass
 class Lie:
     """Another word than the right one: where, to whom (all, where it is empty), and what; silence is None."""
 
-    frames: tuple
-    slots: tuple
-    stages: tuple
+    frames: model.Pair
+    slots: model.Pair
+    stages: model.Pair
     what: str
-    targets: tuple
+    targets: tuple[model.Node, ...]
     text: str
     is_used: bool = False
 
-    def is_for(self, place: tuple, target) -> bool:
+    def is_for(self, place: Stage, target: model.Node) -> bool:
+        """Whether a node is lied to at this place."""
         spans = (self.frames, self.slots, self.stages)
         return all(low <= it <= high for (low, high), it in zip(spans, place)) and (not self.targets or target in self.targets)
 
@@ -53,7 +55,8 @@ def span(first: str, last: str | None) -> tuple[int, int]:
     return int(first), int(last or first)
 
 
-def lie_in(text: str, scenario, node) -> Lie:
+def lie_in(text: str, scenario: model.Scenario, node: model.Node) -> Lie:
+    """The lie of a node that a word is; Wrong where it is none in this scenario."""
     found = LIE.fullmatch(text)
     if not found:
         raise Wrong("%s is no lie: they are as 0/4/1=7@R0 or 0/5=silent" % text)
@@ -74,9 +77,11 @@ def lie_in(text: str, scenario, node) -> Lie:
 class Liar(model.World):
     """A run in which one node is not counted as good from its first lie on, and goes on by the rules all the same, but for its lies.
 
-    `came` has what came of it from then on: frame, slot, stage, receiver, tick of the receiver's window, how early, bytes."""
+    `came` has what came of it from then on: frame, slot, stage, receiver, tick of the receiver's window, how early in units, bytes."""
 
-    def __init__(self, scenario, node, lies):
+    came: list[tuple[int, int, int, model.Node, int, int, bytes]]
+
+    def __init__(self, scenario: model.Scenario, node: model.Node, lies: list[Lie]) -> None:
         self.node, self.lies, self.came = node, lies, []
         self.is_convicted = False  # from then on nobody takes what it says
         super().__init__(scenario)
@@ -90,10 +95,12 @@ class Liar(model.World):
             self.open_window(liar)
             self.push_tick(liar)
 
-    def listen_at(self, site):
+    def listen_at(self, site: model.Site) -> None:
+        """Has all kept that comes of the liar to a node of the other kind, as long as anybody takes it."""
         arrive = site.arrive
 
-        def kept(time, source, text):
+        def kept(time: int, source: int, text: bytes) -> None:
+            """Hands bytes over to the node, after keeping those of the liar that come from its first lie on."""
             core, frame = site.core, site.core.frame
             tick = site.clock.stamp_of(time)
             if source == self.node[1] and not self.is_convicted and not self.scenario.is_good(self.node, frame, core.window.slot):
@@ -103,11 +110,13 @@ class Liar(model.World):
 
         site.arrive = kept
 
-    def settle_frame(self, frame, starts):
+    def settle_frame(self, frame: int, starts: dict[model.Node, model.FrameStart]) -> None:
+        """Looks whether the liar is convicted from this frame on, too."""
         self.is_convicted = any(start.convicted[self.node[0]] >> self.node[1] & 1 for start in starts.values())
         super().settle_frame(frame, starts)
 
-    def send(self, node, time, frame, slot, stage, text):
+    def send(self, node: model.Node, time: int, frame: int, slot: int, stage: int, text: bytes) -> None:
+        """Sends to each node what the lies make of the bytes, where the liar speaks from its first lie on."""
         if node != self.node or self.scenario.is_good(node, frame, slot):
             super().send(node, time, frame, slot, stage, text)
             return
@@ -118,7 +127,7 @@ class Liar(model.World):
                 delay = self.scenario.delay_of(node, target, frame, slot, stage)
                 self.push(time + delay, target, node[1], said)
 
-    def said_to(self, target, place: tuple, text: bytes) -> bytes | None:
+    def said_to(self, target: model.Node, place: Stage, text: bytes) -> bytes | None:
         """What is said to a node in place of the right bytes; the last lie that is for it counts."""
         for lie in reversed(self.lies):
             if lie.is_for(place, target):
@@ -131,7 +140,7 @@ class Liar(model.World):
         return text
 
 
-def payload(run: Liar, slot: int, tick: int, early: int, text: bytes) -> tuple:
+def payload(run: Liar, slot: int, tick: int, early: int, text: bytes) -> tuple[str, ...]:
     """What an entry says: the lines behind its ranges. Below the sync slot the tick within the window has no meaning, and is left out."""
     tag, _, _, _, value = model.read_message(run.bus, text)
     said = {model.WORD_TAG: "word = %d" % value, model.FAULT_TAG: "fault = true", model.SYNC_TAG: "sync = true"}[tag]
@@ -143,10 +152,10 @@ def payload(run: Liar, slot: int, tick: int, early: int, text: bytes) -> tuple:
     return at + (("early = %d" % early,) if early else ()) + (said,)
 
 
-def entries(run: Liar) -> list[tuple]:
+def entries(run: Liar) -> list[Entry]:
     """The entries: to whom, frames, slots, stage, payload. Those that differ in one range alone are made one."""
     far = model.other(run.node[0])
-    places: dict = {}
+    places: dict[Stage, dict[tuple[str, ...], list[model.Node]]] = {}
     for frame, slot, stage, target, tick, early, text in run.came:
         places.setdefault((frame, slot, stage), {}).setdefault(payload(run, slot, tick, early, text), []).append(target)
     single = []
@@ -158,10 +167,10 @@ def entries(run: Liar) -> list[tuple]:
     return merged(merged(single, 2), 1)
 
 
-def merged(rows: list[tuple], at: int) -> list[tuple]:
+def merged(rows: list[Entry], at: int) -> list[Entry]:
     """Rows that are alike but for the range at this place, where one ends just before the other begins, as one."""
-    open_rows: dict = {}
-    done = []
+    open_rows: dict[tuple[object, ...], int] = {}
+    done: list[Entry] = []
     for row in sorted(rows, key=lambda it: it[at]):
         alike = row[:at] + row[at + 1:]
         before = open_rows.get(alike)
@@ -173,7 +182,7 @@ def merged(rows: list[tuple], at: int) -> list[tuple]:
     return sorted(done, key=lambda it: (it[1], it[2], it[3], it[0]))
 
 
-def text_of(run: Liar, onset: tuple) -> str:
+def text_of(run: Liar, onset: Slot) -> str:
     """The entries as TOML."""
     name = name_of(run.node)
     lines = ["", "[[fault]]", 'node = "%s"' % name, "frame = %d" % onset[0], "slot = %d" % onset[1]]
@@ -184,7 +193,7 @@ def text_of(run: Liar, onset: tuple) -> str:
     return "\n".join(lines) + "\n"
 
 
-def lying(scenario, node, lies: list[Lie]) -> tuple[Liar, tuple]:
+def lying(scenario: model.Scenario, node: model.Node, lies: list[Lie]) -> tuple[Liar, Slot]:
     """The run of a scenario with the liar, and where the first lie is."""
     onset = min((lie.frames[0], lie.slots[0]) for lie in lies)
     scenario.onsets[node] = onset
@@ -192,6 +201,7 @@ def lying(scenario, node, lies: list[Lie]) -> tuple[Liar, tuple]:
 
 
 def main(words: list[str]) -> int:
+    """tools/faults with these words; its status."""
     parser = argparse.ArgumentParser(prog="tools/faults", description=HELP, usage=argparse.SUPPRESS,
                                      formatter_class=argparse.RawDescriptionHelpFormatter)
     parser.add_argument("scenario", help="a file, or - for standard input")

@@ -11,7 +11,7 @@ data slot as far as the requests fix it: while all BIUs are good and none is con
 hold in that frame of the run, for which it runs the scenario on tools/model. It is not proved."""
 
 
-def purpose(bus, slot: int) -> str:
+def purpose(bus: model.Bus, slot: int) -> str:
     """What a slot is for."""
     if slot == bus.sync:
         return "sync"
@@ -21,11 +21,12 @@ def purpose(bus, slot: int) -> str:
     return {"schedule": "request of B%d", "data": "data %d"}[role] % number
 
 
-def kind_of_sender(bus, slot: int) -> int:
+def kind_of_sender(bus: model.Bus, slot: int) -> int:
+    """The kind of the nodes that speak in stage 1 of a slot."""
     return BIU if slot == bus.sync else bus.sender_place(slot)[1]
 
 
-def stages(bus, slot: int) -> str:
+def stages(bus: model.Bus, slot: int) -> str:
     """Who speaks in each stage of a slot."""
     if slot == bus.sync:
         return "1 BIUs call, 2 RMUs call, 3 BIUs call"
@@ -35,7 +36,7 @@ def stages(bus, slot: int) -> str:
     return "1 %s to %s, 2 %s to %s" % (sender, those, those, these) + ("" if role == "data" else ", 3 %s to %s" % (these, those))
 
 
-def listens(bus, slot: int, stage: int, kind: int) -> bool:
+def listens(bus: model.Bus, slot: int, stage: int, kind: int) -> bool:
     """Whether nodes of a kind expect messages in a stage where the slot is not idle."""
     if stage == 4:
         return False
@@ -48,10 +49,11 @@ def listens(bus, slot: int, stage: int, kind: int) -> bool:
 
 
 def range_of(first: int, count: int) -> str:
+    """So many numbers from the first on, in words."""
     return "%d" % first if count == 1 else "%d..%d" % (first, first + count - 1)
 
 
-def drawing(bus) -> str:
+def drawing(bus: model.Bus) -> str:
     """The frame as a row of its parts, with the numbers of their slots."""
     parts = [("requests", bus.biu), ("data", bus.slots), ("diagnosis by BIUs", bus.biu), ("diagnosis by RMUs", bus.rmu), ("sync", 1)]
     cells, first = [], 0
@@ -63,18 +65,22 @@ def drawing(bus) -> str:
     return "| %s |\n| %s |" % (" | ".join(it[0] for it in cells), " | ".join(it[1] for it in cells))
 
 
-def owners_by_requests(scenario) -> list:
+def owners_by_requests(scenario: model.Scenario) -> list[int | None]:
     """The owner of each data slot while all BIUs are good."""
     return model.owners_of(scenario.bus, scenario.requests, set(range(scenario.bus.biu)))
 
 
-def owners_in(scenario, frame: int) -> tuple[list | None, tuple]:
-    """The owners that good nodes hold in a frame of the run, and the convicted nodes then; nothing where the run does not come so far."""
-    owners: list | None = None
-    held: dict = {}
+def owners_in(scenario: model.Scenario, frame: int) -> tuple[list[int | None] | None, tuple[int, ...]]:
+    """The owners that good nodes hold in a frame of the run, and the convicted nodes then as a mask of each kind; no owners where the run
+    does not come so far."""
+    owners: list[int | None] | None = None
+    held: dict[str, tuple[int, ...]] = {}
 
     class Run(model.World):
-        def tell_stage(self, site, at, window, taken):
+        """The run, in which the first node that closes stage 1 of the frame's first data slot tells what it holds."""
+
+        def tell_stage(self, site: model.Site, at: int, window: model.Window, taken: model.Taken) -> None:
+            """Keeps the owners and the convicted nodes that the node holds, where the window is that one."""
             nonlocal owners
             if (at, window.slot, window.stage) == (frame, self.bus.biu, 1) and owners is None:
                 owners = list(site.core.owners)
@@ -85,7 +91,7 @@ def owners_in(scenario, frame: int) -> tuple[list | None, tuple]:
     return owners, held.get("masks", (0, 0))
 
 
-def rows(scenario, owners: list) -> list[tuple]:
+def rows(scenario: model.Scenario, owners: list[int | None]) -> list[tuple[int, str, str, str]]:
     """A row a slot: number, purpose, owner or nothing, stages."""
     bus, found = scenario.bus, []
     for slot in range(bus.sync + 1):
@@ -98,6 +104,7 @@ def rows(scenario, owners: list) -> list[tuple]:
 
 
 def main(words: list[str]) -> int:
+    """tools/layout with these words; its status."""
     parser = argparse.ArgumentParser(prog="tools/layout", description=HELP, formatter_class=argparse.RawDescriptionHelpFormatter)
     parser.add_argument("scenario", help="a file, or - for standard input")
     parser.add_argument("--frame", type=int, help="the owners of this frame of the run")
@@ -121,7 +128,7 @@ def main(words: list[str]) -> int:
     return 0
 
 
-def scenario_or_status(path: str, tool: str):
+def scenario_or_status(path: str, tool: str) -> model.Scenario | int:
     """The scenario of a file; where there is none, a status, with one line on standard error."""
     try:
         return read(sys.stdin.buffer.read() if path == "-" else open(path, "rb").read())

@@ -11,13 +11,15 @@ from robus import second_model as model  # noqa: E402
 
 BIU, RMU, TAIL = model.BIU, model.RMU, model.TAIL
 name_of = model.name_of
+Slot = tuple[int, int]  # a frame, and a slot of it
+Stage = tuple[int, int, int]  # a frame, a slot of it, and a stage of that; the tail is stage 4 of the sync slot
 
 
 class TooLong(Exception):
     """The document is longer than 4,194,304 bytes."""
 
 
-def read(text: bytes):
+def read(text: bytes) -> model.Scenario:
     """The scenario that a document says; model.Refused with the line of the refusal where none."""
     if len(text) > model.SCENARIO_LIMIT:
         raise TooLong

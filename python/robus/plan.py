@@ -36,7 +36,7 @@ def up(top: int, below: int) -> int:
     return -(-top // below)
 
 
-def raised(bus) -> model.Plan:
+def raised(bus: model.Bus) -> model.Plan:
     """The plan with each of p, h, l, v and z raised to what its inequalities ask for beside the other numbers."""
     q = bus.plan
     short, long, drift = q.u - q.r, q.u + q.r, 2 * q.r
@@ -50,7 +50,7 @@ def raised(bus) -> model.Plan:
     return replace(q, p=p, h=h, l=l, v=v, z=z)
 
 
-def least(bus) -> model.Plan | None:
+def least(bus: model.Bus) -> model.Plan | None:
     """The least plan for the sizes of a bus and the u, r, dmin, dmax and c of its plan; nothing where a number leaves its range.
 
     What an inequality asks of one number only grows with the others, so raising from the lowest numbers stops at the least plan that holds:
@@ -65,13 +65,14 @@ def least(bus) -> model.Plan | None:
         plan = higher
 
 
-def ticks_of_frame(bus) -> int:
+def ticks_of_frame(bus: model.Bus) -> int:
     """The ticks of a frame, with the longest tail."""
     last = bus.windows()[-1]
     return last.first + last.length
 
 
-def table(bus) -> list[str]:
+def table(bus: model.Bus) -> list[str]:
+    """The seven inequalities as lines: both sides and what is left over, in reference units, and what each is for."""
     lines = ["     left           at least       left over"]
     for number, (left, right) in enumerate(model.sides_of(bus), 1):
         mark = "" if left >= right else "   FAILS: raise %s" % RAISE[number]
@@ -79,13 +80,13 @@ def table(bus) -> list[str]:
     return lines
 
 
-def spelt(plan) -> str:
+def spelt(plan: model.Plan) -> str:
     """A plan as a line of a scenario, without what is the default."""
     rest = ["%s = %d" % (it.name, getattr(plan, it.name)) for it in fields(plan) if getattr(plan, it.name) != it.default]
     return "plan = { %s }" % ", ".join(rest) if rest else "plan = { }"
 
 
-def bus_of(path: str):
+def bus_of(path: str) -> model.Bus | None:
     """The bus of a scenario with its plan, whether it is feasible or not; None where sizes or plan are not within their ranges."""
     data = sys.stdin.buffer.read() if path == "-" else open(path, "rb").read()
     if len(data) > model.SCENARIO_LIMIT:
@@ -98,7 +99,8 @@ def bus_of(path: str):
     return model.Bus(values.biu, values.rmu, values.slots, values.plan)
 
 
-def sizes_in(asked) -> object:
+def sizes_in(asked: argparse.Namespace) -> model.Bus | list[str]:
+    """The bus of the sizes and numbers that are asked for, or all that is wrong with them."""
     plan = replace(model.Plan(), **{key: getattr(asked, key) for key in ("u", "r", "dmin", "dmax", "c") if getattr(asked, key) is not None})
     document = {"biu": asked.biu, "rmu": asked.rmu, "slots": asked.slots, "frames": 1,
                 "plan": {it.name: getattr(plan, it.name) for it in fields(plan)}}
@@ -108,6 +110,7 @@ def sizes_in(asked) -> object:
 
 
 def main(words: list[str]) -> int:
+    """tools/plan with these words; its status."""
     parser = argparse.ArgumentParser(prog="tools/plan", description=HELP, usage=argparse.SUPPRESS,
                                      formatter_class=argparse.RawDescriptionHelpFormatter)
     parser.add_argument("scenario", nargs="?", help="a file, or - for standard input")
@@ -138,7 +141,7 @@ def main(words: list[str]) -> int:
     return tell(bus, None)
 
 
-def tell(bus, plan) -> int:
+def tell(bus: model.Bus, plan: model.Plan | None) -> int:
     """Prints the table of the plan, or of the least one where none is given; the status."""
     low = least(bus)
     print("%d BIUs, %d RMUs, %d data slots: the sync slot is %d" % (bus.biu, bus.rmu, bus.slots, bus.sync))
