@@ -17,6 +17,7 @@ None of them is proved but for the programs that they run."""
 import importlib
 import os
 import sys
+from typing import List
 
 from robus.words import FORMS
 
@@ -26,7 +27,7 @@ TOOLS = {name: name for name in ("lint", "plan", "layout", "faults", "sweep", "c
 TOOLS["explain"] = "explanation"
 
 
-def run(tool: str, words: list) -> int:
+def run(tool: str, words: List[str]) -> int:
     """The tool with these words; its status."""
     if tool in FORMS:
         return importlib.import_module("robus.words").main([tool, *words])
@@ -34,6 +35,7 @@ def run(tool: str, words: list) -> int:
 
 
 def main() -> int:
+    """What the command line asks for; its status."""
     words = sys.argv[1:]
     if words[:1] in (["--help"], ["-h"]):
         print(__doc__)

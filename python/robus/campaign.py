@@ -128,6 +128,7 @@ def run_workers(words: List[str], items: List[str], jobs: int, rows: BinaryIO) -
         signal.signal(it, lambda *_: stopped.append(True))
 
     def work(_: int) -> None:
+        """Runs items in one worker process, as long as any are left."""
         with suppress(BrokenPipeError), subprocess.Popen(words, stdin=PIPE, stdout=PIPE) as worker:
             for item in left:
                 worker.stdin.write(item.encode() + b"\n")

@@ -19,6 +19,7 @@ from functools import lru_cache
 from importlib.machinery import SourceFileLoader
 from importlib.util import module_from_spec, spec_from_loader
 from pathlib import Path
+from types import ModuleType
 from typing import Dict, List
 
 from robus.engines import TOP, Engine, named
@@ -34,7 +35,7 @@ class NoScenario(Exception):
 
 
 @lru_cache(maxsize=None)
-def maker():
+def maker() -> ModuleType:
     """tools/scenario, as a module."""
     loader = SourceFileLoader("robus_scenario_maker", str(TOP / "tools/scenario"))
     module = module_from_spec(spec_from_loader(loader.name, loader))

@@ -5,7 +5,9 @@ from collections import Counter
 from typing import Callable, Dict, List, Optional
 from xml.sax.saxutils import escape
 
+# The rows by number, and what holds of some of them
 Rows = Dict[int, List[str]]
+Test = Callable[[List[str]], object]
 ENDS = {0: "ended", 1: "breach of the fault premise", 3: "refused", 4: "too long", 7: "no memory"}
 STYLE = """.page { fill: #fff } text { font: 12px sans-serif; fill: #333 }
 .bar { fill: #3b6fb6 } .line { stroke: #999; stroke-width: 1 }
@@ -18,7 +20,7 @@ def thousands(number: int) -> str:
     return "{:,}".format(number)
 
 
-def first_of(rows: Rows, test: Callable) -> Optional[int]:
+def first_of(rows: Rows, test: Test) -> Optional[int]:
     """The least number of a row that passes the test."""
     return next((number for number in sorted(rows) if test(rows[number])), None)
 
@@ -29,7 +31,8 @@ def summary_of(rows: Rows) -> str:
     lines = ["%-42s %10s   %s" % ("", "scenarios", "first row"),
              "%-42s %10s" % ("all", thousands(len(rows)))]
 
-    def tell(what: str, test: Callable) -> None:
+    def tell(what: str, test: Test) -> None:
+        """Adds a line on the rows that pass the test, where there are any."""
         found = sum(1 for it in rows.values() if test(it))
         if found:
             lines.append("%-42s %10s   %d" % (what, thousands(found), first_of(rows, test)))

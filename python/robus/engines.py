@@ -80,6 +80,7 @@ class Library(Engine):
     name = "library"
 
     def has(self, words: Sequence[str], program: str = "robus") -> bool:
+        """Whether the library has the call of this program."""
         return function_of(self.path, program) is not None
 
     def call(self, words: Sequence[str], data: bytes = b"", program: str = "robus") -> Answer:
@@ -108,9 +109,11 @@ class Program(Engine):
         return found if os.access(found, os.X_OK) else None
 
     def has(self, words: Sequence[str], program: str = "robus") -> bool:
+        """Whether the program is there; robus itself is taken to be."""
         return program == "robus" or self.path_of(program) is not None
 
     def call(self, words: Sequence[str], data: bytes = b"", program: str = "robus") -> Answer:
+        """Runs the program; where a signal killed it the status is less than 0."""
         path = self.path if program == "robus" else str(self.path_of(program))
         done = subprocess.run([path, *words], input=data, stdout=subprocess.PIPE, check=False)
         return Answer(done.returncode, done.stdout)
@@ -125,9 +128,11 @@ class Model(Engine):
     name = "model"
 
     def has(self, words: Sequence[str], program: str = "robus") -> bool:
+        """Whether these words are among those of the second model, which are words of robus."""
         return program == "robus" and not LACKING & set(words[:1])
 
     def call(self, words: Sequence[str], data: bytes = b"", program: str = "robus") -> Answer:
+        """Runs the words in this process."""
         from robus.model import model
 
         return Answer(*model.answer(list(words), io.BytesIO(data)))

@@ -3,9 +3,12 @@ from __future__ import annotations
 
 import sys
 from functools import cached_property
-from typing import Optional, Tuple
+from typing import TYPE_CHECKING, Optional, Tuple
 
 from robus.rows import Refusal
+
+if TYPE_CHECKING:
+    from robus.lint import Finding
 
 MEANINGS = {1: "the run ended with a breach of the fault premise",
             2: "the program has no such words, or a number in them is out of its range",
@@ -59,7 +62,7 @@ class Refused(RobusError):
         self.data, self.file = data, file
 
     @cached_property
-    def findings(self) -> tuple:
+    def findings(self) -> Tuple[Finding, ...]:
         """What tools/lint finds in the scenario, in the order of its lines."""
         if self.data is None or sys.version_info < (3, 11):
             return ()
@@ -68,7 +71,7 @@ class Refused(RobusError):
         return tuple(lint(self.data)[1])
 
     @property
-    def finding(self):
+    def finding(self) -> Optional[Finding]:
         """The first finding for the rule that is broken, or None."""
         return next((it for it in self.findings if it.code == self.code), None)
 

@@ -192,7 +192,7 @@ class Node:
     def __enter__(self) -> Node:
         return self
 
-    def __exit__(self, *_) -> None:
+    def __exit__(self, *_: object) -> None:
         self.close()
 
     def __del__(self) -> None:

@@ -49,11 +49,12 @@ def sum_of_sources(kit: str) -> str:
 
 
 def fail(why: str) -> int:
+    """Says why there is no answer; the status of that."""
     print("robus: " + why, file=sys.stderr)
     return NO_ANSWER
 
 
-def catch(folder: pathlib.Path, child: subprocess.Popen) -> pathlib.Path | None:
+def catch(folder: pathlib.Path, child: subprocess.Popen[bytes]) -> pathlib.Path | None:
     """A second name for the program that `rt try` makes below the folder, held while it runs; nothing where it makes none there."""
     held = folder / "held"
     while child.poll() is None:

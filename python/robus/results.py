@@ -37,9 +37,9 @@ class Result:
         return list(rows_of(self.text.splitlines()))
 
     @cached_property
-    def by_kind(self) -> Dict[str, list]:
+    def by_kind(self) -> Dict[str, List[Any]]:
         """The rows of each kind, by its name in docs/DATA.md."""
-        found: Dict[str, list] = {kind: [] for kind in LINES}
+        found: Dict[str, List[Any]] = {kind: [] for kind in LINES}
         for row in self.rows:
             found[KIND_OF[type(row)]].append(row)
         return found

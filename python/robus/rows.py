@@ -163,6 +163,8 @@ NODE = r"[BR](?:\d|1[0-5])"
 FIELDS = {"node": NODE, "receiver": NODE, "sender": NODE, "word": r"\d+|none", "bus": "left|right",
           "hex": "(?:[0-9a-f]{2})+", "cause": "[A-Za-z]+", "name": "[A-Za-z]+",
           "inequality": "[1-7]", "total": "frames|deliveries|convicted|spread"}
+# What makes a value of the text of a field, which is None where it is missing
+Maker = Callable[[Optional[str]], Any]
 TEXTS = set("node receiver sender bus hex cause name total".split())
 
 
@@ -180,7 +182,7 @@ def number_or_none(text: Optional[str]) -> Optional[int]:
     return None if text is None or text == "none" else int(text)
 
 
-def compiled(form: str) -> Tuple[re.Pattern, List[Callable]]:
+def compiled(form: str) -> Tuple[re.Pattern[str], List[Maker]]:
     """The pattern of a form, and what makes a value of the text of each field."""
     names = re.findall(r"<(\w+)>", form)
     pattern = form.replace("[", "(?:").replace("]", ")?")

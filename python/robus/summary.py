@@ -2,7 +2,7 @@
 from __future__ import annotations
 
 from dataclasses import dataclass
-from typing import Dict, Iterable, List, Optional, Tuple
+from typing import Any, Dict, Iterable, List, Optional, Tuple
 
 from robus.rows import Breach, Conviction, Delivery, Epoch, Refusal, Row, names_in, rows_of
 
@@ -47,7 +47,8 @@ def convicted_in(convictions: Iterable[Conviction]) -> Tuple[str, ...]:
 
 def summary_of(status: int, rows: Iterable[Row]) -> Summary:
     """The summary of a report's rows."""
-    found: Dict[type, List] = {Epoch: [], Conviction: [], Delivery: [], Breach: [], Refusal: []}
+    found: Dict[type, List[Any]] = {Epoch: [], Conviction: [], Delivery: [], Breach: [],
+                                    Refusal: []}
     for row in rows:
         if type(row) in found:
             found[type(row)].append(row)

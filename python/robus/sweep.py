@@ -8,7 +8,7 @@ import re
 import sys
 from concurrent.futures import ThreadPoolExecutor
 from dataclasses import dataclass, fields
-from typing import Any, Dict, Iterable, Iterator, List, Mapping, TextIO
+from typing import Any, Dict, Iterable, Iterator, List, Mapping, TextIO, Tuple
 
 from robus import toml
 from robus.engines import Which, choose
@@ -34,6 +34,8 @@ several keys each value of one is taken with each of the others.
 status: 0 done, whatever the runs' ends, 2 wrong words or no such file, 3 the scenario is no TOML,
 or a run gave no report"""
 COLUMNS = [it.name for it in fields(Summary)]
+# The values at the changed keys, and the scenario with them
+Choice = Tuple[Dict[str, Any], Scenario]
 
 
 @dataclass(frozen=True)
@@ -45,7 +47,7 @@ class SweepRow:
     summary: Summary
 
 
-def scenarios_of(scenario: Scenario, values: Mapping[str, Iterable[Any]]) -> Iterator[tuple]:
+def scenarios_of(scenario: Scenario, values: Mapping[str, Iterable[Any]]) -> Iterator[Choice]:
     """Each choice of values, the last key changing fastest, with the scenario that it makes."""
     for choice in itertools.product(*values.values()):
         changes = dict(zip(values, choice))
@@ -62,7 +64,8 @@ def sweep(scenario: Source, values: Mapping[str, Iterable[Any]], *, engine: Whic
     raised where a run gives neither a report nor a refusal."""
     by = choose(["run"], engine)
 
-    def row_of(made: tuple) -> SweepRow:
+    def row_of(made: Choice) -> SweepRow:
+        """The row of the scenario that a choice of values makes."""
         changes, changed = made
         found = by.call(["run"], changed.text)
         if found.status not in (0, 1, 3):
