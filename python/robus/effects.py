@@ -77,7 +77,7 @@ def covered_links(scenario: model.Scenario) -> Iterator[Warned]:
 
 
 def of_root(scenario: model.Scenario, document: model.Document) -> Iterator[Warned]:
-    """Words that are never said, a probation that never ends, and clocks that nothing asks."""
+    """Words that are never said, a probation in which no accusation lapses, and clocks that nothing asks."""
     bus = scenario.bus
     if "requests" in document and "words" in document:
         for number, asked in enumerate(scenario.requests):

@@ -49,7 +49,7 @@ def listens(bus: model.Bus, slot: int, stage: int, kind: int) -> bool:
 
 
 def range_of(first: int, count: int) -> str:
-    """So many numbers from the first on, in words."""
+    """The range of so many numbers from the first on, as text."""
     return "%d" % first if count == 1 else "%d..%d" % (first, first + count - 1)
 
 

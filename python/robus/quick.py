@@ -49,7 +49,7 @@ def sum_of_sources(kit: str) -> str:
 
 
 def fail(why: str) -> int:
-    """Says why there is no answer; the status of that."""
+    """Prints why there is no answer, and gives the status for that, 70."""
     print("robus: " + why, file=sys.stderr)
     return NO_ANSWER
 

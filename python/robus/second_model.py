@@ -840,7 +840,7 @@ def pattern_in(bus: Bus, text: str) -> Pattern:
 
 
 def pair_in(pair: list[int], least: int, most: int) -> Pair:
-    """The pair, where it rises and lies in the range; else refused by rule 5."""
+    """The pair, where its first is not above its last and both are in the range; else refused by rule 5."""
     within(pair[0], least, most)
     within(pair[1], pair[0], most)
     return tuple(pair)
@@ -1240,7 +1240,7 @@ class World:
                 self.push(time, site.node, say.source[1], text)
 
     def run(self) -> Self:
-        """The run, at its end or its breach."""
+        """Goes on to the end of the run or its breach, and gives the run itself."""
         while not self.ended:
             time, node, source, _, item = heapq.heappop(self.heap)
             site = self.sites[node]
@@ -1383,7 +1383,7 @@ class LogReader:
         self.text, self.place = text, 0
 
     def take(self, length: int) -> bytes:
-        """The next bytes, so many; refused where the log has fewer."""
+        """The next bytes, as many as are asked for; refused where the log has fewer."""
         if self.place + length > len(self.text):
             raise Refused(f"refused 3 Truncated {len(self.text)}")
         self.place += length
@@ -1517,7 +1517,7 @@ def do_record(text: bytes, node: Node) -> Answer:
 
 
 def do_stress(seed: int, frames: int) -> Answer:
-    """What `stress` answers: four numbers of the generated scenario's run."""
+    """What `stress` answers: four numbers of the generated scenario's run, or status 1 at a breach."""
     world = World(read_scenario(generated(seed, frames))).run()
     if world.breach:
         return 1, b""
@@ -1563,7 +1563,7 @@ def generated(seed: int, frames: int) -> bytes:
 
 
 def number_in(word: str, least: int, most: int) -> int | None:
-    """The number that a word is, where it is in the range."""
+    """The number that a word is; nothing where it is none, or out of the range."""
     if not re.fullmatch(r"0|[1-9][0-9]*", word, re.ASCII) or not least <= int(word) <= most:
         return None
     return int(word)
