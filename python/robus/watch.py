@@ -106,7 +106,7 @@ class Watched(model.World):
                 self.turns.pop((frame - 1, node), None)
 
     def settle_stage(self, frame: int, slot: int, stage: int, good: list[model.Node],
-                 told: dict[model.Node, tuple[model.Row, model.Trusted]]) -> None:
+                     told: dict[model.Node, tuple[model.Row, model.Trusted]]) -> None:
         """Keeps what good nodes saw in a stage, too, and at a breach its place and the class of each node."""
         self.rows[slot, stage] = {node: told[node][0] for node in good}
         trusted = told[good[0]][1] if good else [set(), set()]
