@@ -21,11 +21,6 @@ def purpose(bus: model.Bus, slot: int) -> str:
     return {"schedule": "request of B%d", "data": "data %d"}[role] % number
 
 
-def kind_of_sender(bus: model.Bus, slot: int) -> int:
-    """The kind of the nodes that speak in stage 1 of a slot."""
-    return BIU if slot == bus.sync else bus.sender_place(slot)[1]
-
-
 def stages(bus: model.Bus, slot: int) -> str:
     """Who speaks in each stage of a slot."""
     if slot == bus.sync:
