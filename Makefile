@@ -1,7 +1,8 @@
 # make run SCENARIO=examples/one_silent_rmu.toml   runs a scenario
 # make picture SCENARIO=.. > run.svg               draws its run, or with FRAMES="FIRST LAST" these frames of it
 # make bridge SCENARIO=examples/bridges/carried_words.toml   runs a bridge of two buses
-# make build                                       proves and builds the programs, where they are not up to date
+# make build                                       proves and builds the programs, where they are not up to date: first the libraries below
+#                                                  them, side by side, with a line for each, and then each program
 # make test                                        the gate: every proof, must-fail edit, test and program, and the documents
 # make library                                     proves the calls for C, and builds librobus.a and librobus.so in crates/robus_c/out, where
 #                                                  they are not up to date
@@ -39,7 +40,7 @@ bridge:
 	@status=0; tools/bridge "$(SCENARIO)" || status=$$?; test $$status -le 1 || exit $$status
 
 build:
-	@tools/proved $(ROBUS) || echo "make build: no proved program is up to date: the crates below it are proved first: some 90 minutes of processor time for all three programs" >&2
+	@tools/proved $(ROBUS) && tools/proved $(PICTURE) && tools/proved $(BRIDGE) || tools/build
 	tools/proved $(ROBUS) || (cd crates/robus && rt run -- run < stdin > /dev/null)
 	tools/proved $(PICTURE) || (cd crates/robus_picture && rt run < stdin > /dev/null)
 	tools/proved $(BRIDGE) || (cd crates/robus_bridge && rt run -- run < stdin > /dev/null)
