@@ -1,5 +1,5 @@
 -- Words ask for one form.
-use Rattle.std.proofs.Common.{◌≡◌, ◌⊎◌, ◌∙◌, List, [], ◌∷◌, ℕ, String, ap, arith, codes, inl, inr, sym}
+use Rattle.std.proofs.Common.{◌≡◌, ◌⊎◌, ◌∙◌, List, [], ◌∷◌, ℕ, String, ap, arith, codes, get_or, inl, inr, sym}
 use Rattle.std.specs.declared.alloc.Global.{Global}
 use Rattle.rb_flags.specs.declared.Flag.{Flag}
 use Rattle.rb_flags.proofs.OneFlag.{no_flag, one_flag}
@@ -8,17 +8,11 @@ use Rattle.rb_bridge_top.specs.declared.status.Status.{Status}
 use Rattle.rb_bridge_top.specs.Statuses.{RunsNothing}
 use Rattle.rb_bridge_top.specs.Words.{AskFor}
 
-first : List (List ℕ) → List ℕ
-first [] = []
-first (word ∷ words) = word
-
 pub no_flag_runs : (words : List (String Global)) (flag : Flag) → AskFor words Run → ¬ AskFor words (Show flag)
-unfolding first
-no_flag_runs words flag runs shows = no_flag flag (codes "run") (omega arith) (ap first (sym runs ∙ shows))
+no_flag_runs words flag runs shows = no_flag flag (codes "run") (omega arith) (ap (λ words. get_or words 0 []) (sym runs ∙ shows))
 
 pub one_shown : (words : List (String Global)) (a b : Flag) → AskFor words (Show a) → AskFor words (Show b) → a ≡ b
-unfolding first
-one_shown words a b shows_a shows_b = one_flag a b (ap first (sym shows_a ∙ shows_b))
+one_shown words a b shows_a shows_b = one_flag a b (ap (λ words. get_or words 0 []) (sym shows_a ∙ shows_b))
 
 -- where the words ask for a run, the drives are idle only with an answer that leaves them so
 pub idle_run : (words : List (String Global)) (status : Status) → AskFor words Run → (¬ AskFor words Run) ⊎ RunsNothing status → RunsNothing status

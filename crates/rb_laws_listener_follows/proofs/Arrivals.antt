@@ -7,13 +7,8 @@ use Rattle.rb_base.proofs.Plain.{eq_self}
 use Rattle.rb_rules.specs.Core.{of_source}
 use Rattle.rb_rules.specs.Hearing.{Coming}
 use Rattle.rb_rules.specs.Sense.{Arrival}
-use Rattle.rb_laws_agreement.proofs.Tests.{true_or_false}
+use Rattle.rb_rules.proofs.Slots.{source-append}
 use Rattle.rb_laws_listener_follows.proofs.FollowerRuns.{arrivals, collected}
-
-pub of-append : (xs ys : List (ℕ × Arrival)) (j : ℕ) → of_source (xs ++ ys) j ≡ of_source xs j ++ of_source ys j
-of-append [] ys j = refl
-of-append (x ∷ xs) ys j =
-    elim (true_or_false (x.0 == j)) [ inl e ↦ rw e (ap (λ l. x.1 ∷ l) (of-append xs ys j)) | inr e ↦ rw e (of-append xs ys j) ]
 
 pub of-more : (x : ℕ × Arrival) (xs : List (ℕ × Arrival)) (j : ℕ) → (x.0 == j) ≡ true → of_source (x ∷ xs) j ≡ x.1 ∷ of_source xs j
 of-more x xs j e = rw e refl
@@ -71,7 +66,7 @@ pub none_collected : (sizes : Sizes) (heard : ℕ → List Coming) (first n j : 
 unfolding collected
 none_collected sizes heard first zero j none = refl
 none_collected sizes heard first (suc n) j none =
-    of-append (collected sizes heard first n) (arrivals sizes (first + n) (heard (first + n))) j
+    source-append (collected sizes heard first n) (arrivals sizes (first + n) (heard (first + n))) j
     ∙ ap (λ l. l ++ of_source (arrivals sizes (first + n) (heard (first + n))) j) (none_collected sizes heard first n j (λ i lt. none i (omega arith)))
     ∙ none n (omega arith)
 
@@ -83,7 +78,7 @@ pub one_collected : (sizes : Sizes) (heard : ℕ → List Coming) (first n j at 
 unfolding collected
 one_collected sizes heard first zero j at x within one none = absurd (omega arith)
 one_collected sizes heard first (suc n) j at x within one none =
-    of-append (collected sizes heard first n) (arrivals sizes (first + n) (heard (first + n))) j
+    source-append (collected sizes heard first n) (arrivals sizes (first + n) (heard (first + n))) j
     ∙ elim (cases_lt at n) [
       | inl before ↦
           ap (λ l. l ++ of_source (arrivals sizes (first + n) (heard (first + n))) j)

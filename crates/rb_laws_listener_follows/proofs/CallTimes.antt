@@ -23,6 +23,7 @@ use Rattle.rb_rules.specs.Sense.{Arrival, sense_of, sense_of_one, stamp_in, suit
 use Rattle.rb_rules.specs.Spelling.{message_in}
 use Rattle.rb_rules.specs.Standing.{Standing, taken_of}
 use Rattle.rb_rules.specs.SyncStage.{expects_call, see_time}
+use Rattle.rb_rules.proofs.Slots.{source-append}
 use Rattle.rb_laws_agreement.proofs.Goodnesses.{slot_last}
 use Rattle.rb_laws_agreement.proofs.Invariant.{IsGoodNode, Shared}
 use Rattle.rb_listen.specs.Passes.{is_call, is_sync}
@@ -30,7 +31,7 @@ use Rattle.rb_laws_listener_learns.specs.Ears.{Ear, IsHeard, SendsIn, coming_to}
 use Rattle.rb_laws_listener_learns.specs.Receivers.{call_time, is_call_of, stamp_seen}
 use Rattle.rb_laws_listener_learns.proofs.CallTimes.{LastIs, finds-call, last-is, tag-sync}
 use Rattle.rb_laws_listener_learns.proofs.Moments.{same-sent}
-use Rattle.rb_laws_listener_follows.proofs.Arrivals.{of-append, of-more, of-other}
+use Rattle.rb_laws_listener_follows.proofs.Arrivals.{of-more, of-other}
 use Rattle.rb_laws_listener_follows.proofs.FirstCalls.{sense_span}
 use Rattle.rb_laws_listener_follows.proofs.FollowerRuns.{arrivals, collected}
 use Rattle.rb_laws_listener_follows.proofs.HeardExact.{IsOwn, sends_then}
@@ -87,7 +88,7 @@ first_came : (sizes : Sizes) (heard : ℕ → List Coming) (first n j : ℕ) (x 
 unfolding collected
 first_came sizes heard first zero j x xs h = cc
 first_came sizes heard first (suc n) j x xs h =
-    by (of_source (collected sizes heard first n) j) refl (sym (of-append (collected sizes heard first n) (arrivals sizes (first + n) (heard (first + n))) j) ∙ h)
+    by (of_source (collected sizes heard first n) j) refl (sym (source-append (collected sizes heard first n) (arrivals sizes (first + n) (heard (first + n))) j) ∙ h)
     (λ y ys e. first_came sizes heard first n j y ys e)
   where
     by : (front : List Arrival) → of_source (collected sizes heard first n) j ≡ front → front ++ of_source (arrivals sizes (first + n) (heard (first + n))) j ≡ x ∷ xs

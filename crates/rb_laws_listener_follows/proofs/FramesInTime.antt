@@ -1,7 +1,6 @@
 -- A listener that begins a frame near the good nodes stands beside the run in all its windows below the sync slot.
-use Rattle.std.proofs.Common.{◌≡◌, ℕ, zero, suc, ◌+◌, ◌-◌, ◌*◌, ◌/◌, ◌<◌, ◌≤◌, Bool, true, false, List, Option, Some, None, option_map, slice_get, ◌⊎◌, inl, inr, if◌then◌else◌, refl, sym, ◌∙◌, ap, subst, arith}
+use Rattle.std.proofs.Common.{◌≡◌, ℕ, zero, suc, ◌+◌, ◌-◌, ◌*◌, ◌/◌, ◌<◌, ◌≤◌, true, List, slice_get, ◌⊎◌, inl, inr, sym, ◌∙◌, ap, subst, arith}
 use Rattle.std.proofs.lemmas.Bool.{cases_lt}
-use Rattle.std.proofs.lemmas.Option.{same_Some}
 use Rattle.rb_base.specs.Nodes.{Side}
 use Rattle.rb_base.specs.Nodes.Side.{Rmu}
 use Rattle.rb_base.specs.Sizes.{sync_slot_of}
@@ -21,6 +20,7 @@ use Rattle.rb_laws_agreement.proofs.Invariant.{IsGoodNode, Shared, is_good_now, 
 use Rattle.rb_laws_agreement.proofs.Leasts.{HaveNone, IsFirstOf, first_of}
 use Rattle.rb_laws_agreement.proofs.Places.{IsPlaced, placed, running_earlier}
 use Rattle.rb_laws_agreement.proofs.Settings.{good_state}
+use Rattle.rb_laws_agreement.proofs.FrameTimes.{Starts, starts, starts-so, starts-there}
 use Rattle.rb_laws_synchrony.proofs.SyncLaws.{epochs_near}
 use Rattle.rb_laws_listener_learns.specs.Ears.{Ear, HearsTheRun, IsEar, SendsIn, coming_to}
 use Rattle.rb_laws_listener_learns.proofs.Apart.{WasAt}
@@ -36,47 +36,23 @@ pub record HasLow (sc : Scenario) (hands : List HandIn) (ear : Ear) (frame epoch
   pub good : (me : Side) (i : ℕ) (st : NodeState) → IsGoodBefore sc hands frame 0 me i st → IsBetween low (low + sc.plan.p) (time_in_frame sc me i st 0)
   pub listener : IsBetween low (low + sc.plan.p) (time_of ear.clock epoch)
 
--- when a node begins the frame, if it is good there
-begin_of : Scenario → List HandIn → ℕ → Side → ℕ → Option ℕ
-begin_of sc hands frame me i =
-    if is_good sc me i frame 0 then option_map (λ (st : NodeState). time_in_frame sc me i st 0) (slice_get (of_kind me (before_slot sc hands frame 0).nodes) i) else None
-
-begin_is : (sc : Scenario) (hands : List HandIn) (frame : ℕ) (me : Side) (i : ℕ) (st : NodeState) → IsGoodBefore sc hands frame 0 me i st → begin_of sc hands frame me i ≡ Some (time_in_frame sc me i st 0)
-unfolding begin_of
-begin_is sc hands frame me i st h = rw h.good (ap (option_map (λ (st : NodeState). time_in_frame sc me i st 0)) h.state)
-
-record Begins (sc : Scenario) (hands : List HandIn) (frame : ℕ) (me : Side) (i t : ℕ) : Type 0 where
-  pub st : NodeState
-  pub good : IsGoodBefore sc hands frame 0 me i st
-  pub time : time_in_frame sc me i st 0 ≡ t
-
-begins : (sc : Scenario) (hands : List HandIn) (frame : ℕ) (me : Side) (i t : ℕ) → begin_of sc hands frame me i ≡ Some t → Begins sc hands frame me i t
-unfolding begin_of
-begins sc hands frame me i t h = go (is_good sc me i frame 0) refl (slice_get (of_kind me (before_slot sc hands frame 0).nodes) i) refl h
-  where
-    go : (b : Bool) → is_good sc me i frame 0 ≡ b → (o : Option NodeState) → slice_get (of_kind me (before_slot sc hands frame 0).nodes) i ≡ o
-        → (if b then option_map (λ (st : NodeState). time_in_frame sc me i st 0) o else None) ≡ Some t → Begins sc hands frame me i t
-    go true good (Some st) is e = record { st = st; good = record { good = good; state = is }; time = same_Some (time_in_frame sc me i st 0) t e }
-    go true good None is e = cc
-    go false good o is e = cc
-
 has_low : (sc : Scenario) (hands : List HandIn) → IsLawful sc → (ear : Ear) (frame epoch : ℕ) → IsReached sc hands frame → BeginsNear sc hands ear frame epoch → HasLow sc hands ear frame epoch
-has_low sc hands law ear frame epoch reached b = go (first_of (begin_of sc hands frame) 16)
+has_low sc hands law ear frame epoch reached b = go (first_of (starts sc hands frame) 16)
   where
     small : (me : Side) (i : ℕ) (st : NodeState) → IsGoodBefore sc hands frame 0 me i st → i < 16
     small me i st h = good_below_16 sc law.sizes me i frame 0 h.good
 
-    go : IsFirstOf (begin_of sc hands frame) 16 ⊎ HaveNone (begin_of sc hands frame) 16 → HasLow sc hands ear frame epoch
+    go : IsFirstOf (starts sc hands frame) 16 ⊎ HaveNone (starts sc hands frame) 16 → HasLow sc hands ear frame epoch
     go (inr none) = record {
       low = time_of ear.clock epoch;
-      good = λ me i st h. absurd (none me i (time_in_frame sc me i st 0) (small me i st h) (begin_is sc hands frame me i st h));
+      good = λ me i st h. absurd (none me i (time_in_frame sc me i st 0) (small me i st h) (starts-so sc hands frame me i st h));
       listener = record { least = omega arith; most = omega arith };
     }
     go (inl first) =
-        let a : Begins sc hands frame first.me first.i first.at = begins sc hands frame first.me first.i first.at first.is in
-        let near : LieWithin sc.plan.p (time_of ear.clock epoch) (time_in_frame sc first.me first.i a.st 0) = b.near first.me first.i a.st a.good in
+        let a : Starts sc hands frame first.me first.i first.at = starts-there sc hands frame first.me first.i first.at first.is in
+        let near : LieWithin sc.plan.p (time_of ear.clock epoch) (time_in_frame sc first.me first.i a.st 0) = b.near first.me first.i a.st a.is in
         let least : (me : Side) (i : ℕ) (st : NodeState) → IsGoodBefore sc hands frame 0 me i st → first.at ≤ time_in_frame sc me i st 0 =
-        λ me i st h. first.least me i (time_in_frame sc me i st 0) (small me i st h) (begin_is sc hands frame me i st h) in
+        λ me i st h. first.least me i (time_in_frame sc me i st 0) (small me i st h) (starts-so sc hands frame me i st h) in
         elim (cases_lt (time_of ear.clock epoch) first.at) [
           | inl less ↦ record {
             low = time_of ear.clock epoch;
@@ -87,9 +63,9 @@ has_low sc hands law ear frame epoch reached b = go (first_of (begin_of sc hands
             low = first.at;
             good = λ me i st h. record {
               least = least me i st h;
-              most = omega (arith, (epochs_near sc hands law).0 frame reached me first.me i first.i st a.st h a.good, a.time);
+              most = omega (arith, (epochs_near sc hands law).0 frame reached me first.me i first.i st a.st h a.is, a.at);
             };
-            listener = record { least = more; most = omega (arith, near.before, a.time) };
+            listener = record { least = more; most = omega (arith, near.before, a.at) };
           }
         ]
 

@@ -9,7 +9,7 @@ use Rattle.rb_rules.specs.declared.sense.Sense.TheVariants.{One}
 use Rattle.rb_rules.specs.Clock.{IsStamp, stamp_of}
 use Rattle.rb_rules.specs.Core.{of_source}
 use Rattle.rb_rules.specs.Goodness.{Scenario, is_good}
-use Rattle.rb_rules.specs.Hearing.{Coming, Sending, sending}
+use Rattle.rb_rules.specs.Hearing.{Coming, Sending}
 use Rattle.rb_rules.specs.NodeState.{NodeState}
 use Rattle.rb_rules.specs.NodeSteps.{expect_of}
 use Rattle.rb_rules.specs.Plan.{f0_of, shortest_of}

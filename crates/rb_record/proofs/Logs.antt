@@ -40,21 +40,7 @@ use Rattle.rb_record.specs.Recording.{MayTell}
 use Rattle.rb_record.proofs.Comings.{AreSound, IsSound, run-sound}
 use Rattle.rb_record.proofs.Runs.{run-reached}
 use Rattle.rb_record.proofs.Ticks.{IsEvent, at-node, is-event, may-tell, next-is, sized-at}
-
--- Words.
-
-entry-small : (n m : ℕ) (xs : List ℕ) (i : ℕ) → HasEach n (λ x. x ≤ m) xs → get_or xs i 0 ≤ m
-entry-small n m xs i each = elim (cases_lt i (length xs)) [
-  | inl lt ↦ each.each i 0 lt
-  | inr ge ↦ let past : get_or xs i 0 ≡ 0 = get_or_past xs i 0 ge in omega (arith, past)
-]
-
-word-small : (sc : Scenario) (ports : List PortState) (i slot : ℕ) (r : Role) → IsLawful sc → word_for sc ports i slot r < 2 ^ 32
-word-small sc ports i slot (Schedule n) lawful = let few = entry-small sc.sizes.bius 64 sc.requests i lawful.requests in omega (arith, few)
-word-small sc ports i slot (Data n) lawful = mod_below _ (2 ^ 32) (omega arith)
-word-small sc ports i slot (DiagBiu n) lawful = omega arith
-word-small sc ports i slot (DiagRmu n) lawful = omega arith
-word-small sc ports i slot Sync lawful = omega arith
+use Rattle.rb_laws_agreement.proofs.Speaking.{word_fits}
 
 -- One event.
 
@@ -69,7 +55,7 @@ happens-by sc ports me i t s (Tick k) lawful ready is known = by (wants_in sc me
   where
     by : (slot : Option ℕ) → MayHappen (count_of (other me) sc.sizes) (kind.Tick (word_of sc ports i slot) (is_some slot))
     by None = refl
-    by (Some slot) = word-small sc ports i slot (role_of sc.sizes slot) lawful
+    by (Some slot) = word_fits sc ports i slot (role_of sc.sizes slot) lawful
 happens-by sc ports me i t s (Arrival place c) lawful ready is known =
     let size = sized-at place c s.coming ready.0 is.sized in (known-at sc.sizes me place c s.coming ready.0 known, size.0, size.1)
 

@@ -7,6 +7,7 @@ use Rattle.rb_rules.specs.WorldStep.Choice.{Take, GoOn}
 use Rattle.rb_laws_logs.specs.Given.{first_run, first_step, step_with}
 use Rattle.rb_laws_events.proofs.EventsHold.{ends-hold}
 use Rattle.rb_laws_events.proofs.EveryWorld.{after-more}
+use Rattle.rb_laws_events.proofs.RunsEnd.{takes-append}
 use Rattle.rb_laws_events.specs.Laws.{taken_by, takes_from}
 use Rattle.rb_world.specs.declared.ties.Ties.TheVariants.{First}
 use Rattle.rb_world.specs.Nexts.{Standing, after_steps, step, step_among}
@@ -79,10 +80,6 @@ run-reached sc n = record { choices = choices_of sc n; is = run-is sc n }
 
 -- How many.
 
-takes-more : (sc : Scenario) (w : World) (cs : List Choice) (c : Choice) → takes_from sc w (cs ++ c ∷ []) ≡ takes_from sc w cs + taken_by sc (fold (choose sc) w cs) c
-takes-more sc w [] c = omega arith
-takes-more sc w (x ∷ xs) c = let rest = takes-more sc (choose sc w x) xs c in omega (arith, rest)
-
 one-take : (sc : Scenario) (w : World) → 1 ≤ length (due_of sc w) → taken_by sc w (choice_in (due_of sc w)) ≡ 1
 one-take sc w some = by (due_of sc w) refl some
   where
@@ -96,7 +93,7 @@ all-taken sc zero some = omega arith
 all-taken sc (suc n) some =
     let rest = all-taken sc n (λ m lt. some m (omega (arith, lt))) in
     let c : Choice = choice_in (due_of sc (first_run sc n)) in
-    let sum = takes-more sc (first_world sc) (choices_of sc n) c in
+    let sum = takes-append sc (first_world sc) (choices_of sc n) c in
     let one : taken_by sc (world_after sc (choices_of sc n)) c ≡ 1 = subst (λ w. taken_by sc w c ≡ 1) (run-is sc n) (one-take sc (first_run sc n) (some n (omega arith))) in
     omega (arith, rest, sum, one)
 

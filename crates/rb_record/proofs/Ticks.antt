@@ -45,6 +45,7 @@ use Rattle.rb_world.specs.Worlds.{IsReached}
 use Rattle.rb_world.proofs.Ready.{due-reached}
 use Rattle.rb_world.proofs.InTime.{HasTick, reached-in-time}
 use Rattle.rb_laws_sweeps.proofs.SentLater.{node-moves}
+use Rattle.rb_laws_sweeps.proofs.Telling.{shown-node}
 use Rattle.rb_record.specs.Recording.{MayTell}
 use Rattle.rb_record.proofs.Ends.{none-given}
 use Rattle.rb_laws_logs.proofs.Sized.{AreSized, IsSized}
@@ -134,16 +135,12 @@ kind-named Biu i (node.Rmu j) h = absurd (cc)
 kind-named Rmu i (node.Biu j) h = absurd (cc)
 kind-named Rmu i (node.Rmu j) h = (refl, let same : i ≡ j = grind (arith, nat_tests) in same)
 
-event-node : (sc : Scenario) (ports : List PortState) (me : Side) (i : ℕ) (c : Core) (p : Pending) → (event_of sc ports me i c p).node ≡ name_of me i
-event-node sc ports me i c (Tick k) = refl
-event-node sc ports me i c (Arrival place a) = refl
-
 -- it is at this node
 pub at-node : (sc : Scenario) (w : World) (e : Event) (name : NodeName) → (is : IsEvent sc w e) → same_node e.node name ≡ true
     → (is.d.side ≡ kind_of name) × (is.d.node ≡ index_of name)
 at-node sc w e name is same =
     kind-named is.d.side is.d.node name
-    (ap (λ n. same_node n name) (sym (ap (λ (e : Event). e.node) is.is ∙ event-node sc w.ports is.d.side is.d.node is.s.core is.d.pending)) ∙ same)
+    (ap (λ n. same_node n name) (sym (ap (λ (e : Event). e.node) is.is ∙ shown-node sc w.ports is.d.side is.d.node is.s.core is.d.pending)) ∙ same)
 
 -- and at its site
 pub at-site : (sc : Scenario) (w : World) (e : Event) (name : NodeName) → (is : IsEvent sc w e) → same_node e.node name ≡ true → site_of name w ≡ Some is.s
@@ -289,7 +286,7 @@ taken-before sc w e name z lawful reached sound is at =
     let same : due.s ≡ is.s = same_Some due.s is.s (sym due.there ∙ is.there) in
     let its : e ≡ event_of sc w.ports d.side d.node due.s.core d.pending = is.is ∙ ap (λ (s : Site). event_of sc w.ports d.side d.node s.core d.pending) (sym same) in
     let test : is_node d.side d.node (kind_of name) (index_of name) ≡ same_node e.node name =
-    same-is d.side d.node name ∙ ap (λ n. same_node n name) (sym (ap (λ (e : Event). e.node) its ∙ event-node sc w.ports d.side d.node due.s.core d.pending)) in (
+    same-is d.side d.node name ∙ ap (λ n. same_node n name) (sym (ap (λ (e : Event). e.node) its ∙ shown-node sc w.ports d.side d.node due.s.core d.pending)) in (
       b.s,
       (
         b.there,

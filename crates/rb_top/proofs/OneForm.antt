@@ -28,20 +28,9 @@ same_numbers make seed frames seed' frames' a b is_seed is_frames =
     let f : frames ≡ frames' = decimal_injective frames frames' (omega (arith, a.most_frames)) (omega (arith, b.most_frames)) is_frames in
     ap (λ x. make x frames) s ∙ ap (λ x. make seed' x) f
 
-first : List (List ℕ) → List ℕ
-first [] = []
-first (a ∷ bs) = a
-
-second : List (List ℕ) → List ℕ
-second [] = []
-second (a ∷ []) = []
-second (a ∷ (b ∷ cs)) = b
-
-third : List (List ℕ) → List ℕ
-third [] = []
-third (a ∷ []) = []
-third (a ∷ (b ∷ [])) = []
-third (a ∷ (b ∷ (c ∷ ds))) = c
+-- the word at a place
+abbrev word : ℕ → List (List ℕ) → List ℕ
+word n words = get_or words n []
 
 -- equal names
 same_node : (a b : NodeName) → IsNumbered a → IsNumbered b → node_text a ≡ node_text b → a ≡ b
@@ -81,21 +70,19 @@ same_group which which' members members' a b is_voter is_members =
 
 -- the form whose word is a flag
 to_show : (form : Form) (flag : Flag) → words_of form ≡ flag_text flag ∷ [] → form ≡ Show flag
-unfolding first
-to_show Run flag e = absurd (no_flag flag (codes "run") (omega arith) (ap first e))
-to_show Check flag e = absurd (no_flag flag (codes "check") (omega arith) (ap first e))
-to_show (Gen seed frames) flag e = absurd (no_flag flag (codes "gen") (omega arith) (ap first e))
-to_show (Stress seed frames) flag e = absurd (no_flag flag (codes "stress") (omega arith) (ap first e))
-to_show (Record node) flag e = absurd (no_flag flag (codes "record") (omega arith) (ap first e))
-to_show Replay flag e = absurd (no_flag flag (codes "replay") (omega arith) (ap first e))
-to_show (Spell letter) flag e = absurd (no_flag flag (codes "spell") (omega arith) (ap first e))
-to_show Letters flag e = absurd (no_flag flag (codes "letters") (omega arith) (ap first e))
-to_show (Group which members) flag e = absurd (no_flag flag (codes "group") (omega arith) (ap first e))
-to_show (Listen skip) flag e = absurd (no_flag flag (codes "listen") (omega arith) (ap first e))
-to_show (Show flag') flag e = ap Show (one_flag flag' flag (ap first e))
+to_show Run flag e = absurd (no_flag flag (codes "run") (omega arith) (ap (word 0) e))
+to_show Check flag e = absurd (no_flag flag (codes "check") (omega arith) (ap (word 0) e))
+to_show (Gen seed frames) flag e = absurd (no_flag flag (codes "gen") (omega arith) (ap (word 0) e))
+to_show (Stress seed frames) flag e = absurd (no_flag flag (codes "stress") (omega arith) (ap (word 0) e))
+to_show (Record node) flag e = absurd (no_flag flag (codes "record") (omega arith) (ap (word 0) e))
+to_show Replay flag e = absurd (no_flag flag (codes "replay") (omega arith) (ap (word 0) e))
+to_show (Spell letter) flag e = absurd (no_flag flag (codes "spell") (omega arith) (ap (word 0) e))
+to_show Letters flag e = absurd (no_flag flag (codes "letters") (omega arith) (ap (word 0) e))
+to_show (Group which members) flag e = absurd (no_flag flag (codes "group") (omega arith) (ap (word 0) e))
+to_show (Listen skip) flag e = absurd (no_flag flag (codes "listen") (omega arith) (ap (word 0) e))
+to_show (Show flag') flag e = ap Show (one_flag flag' flag (ap (word 0) e))
 
 same_form : (a b : Form) → IsInRange a → IsInRange b → words_of a ≡ words_of b → a ≡ b
-unfolding first second third
 same_form Run Run i j e = refl
 same_form Run Check i j e = cc
 same_form Run (Gen seed' frames') i j e = cc
@@ -118,7 +105,7 @@ same_form Check (Group which' members') i j e = cc
 same_form Check (Listen skip') i j e = cc
 same_form (Gen seed frames) Run i j e = cc
 same_form (Gen seed frames) Check i j e = cc
-same_form (Gen seed frames) (Gen seed' frames') i j e = same_numbers Gen seed frames seed' frames' i j (ap second e) (ap third e)
+same_form (Gen seed frames) (Gen seed' frames') i j e = same_numbers Gen seed frames seed' frames' i j (ap (word 1) e) (ap (word 2) e)
 same_form (Gen seed frames) (Stress seed' frames') i j e = cc
 same_form (Gen seed frames) (Record node') i j e = cc
 same_form (Gen seed frames) Replay i j e = cc
@@ -129,7 +116,7 @@ same_form (Gen seed frames) (Listen skip') i j e = cc
 same_form (Stress seed frames) Run i j e = cc
 same_form (Stress seed frames) Check i j e = cc
 same_form (Stress seed frames) (Gen seed' frames') i j e = cc
-same_form (Stress seed frames) (Stress seed' frames') i j e = same_numbers Stress seed frames seed' frames' i j (ap second e) (ap third e)
+same_form (Stress seed frames) (Stress seed' frames') i j e = same_numbers Stress seed frames seed' frames' i j (ap (word 1) e) (ap (word 2) e)
 same_form (Stress seed frames) (Record node') i j e = cc
 same_form (Stress seed frames) Replay i j e = cc
 same_form (Stress seed frames) (Spell letter') i j e = cc
@@ -140,13 +127,13 @@ same_form (Record node) Run i j e = cc
 same_form (Record node) Check i j e = cc
 same_form (Record node) (Gen seed' frames') i j e = cc
 same_form (Record node) (Stress seed' frames') i j e = cc
-same_form (Record node) (Record node') i j e = ap Record (same_node node node' i j (ap second e))
+same_form (Record node) (Record node') i j e = ap Record (same_node node node' i j (ap (word 1) e))
 same_form (Record node) Replay i j e = cc
 same_form (Record node) (Spell letter') i j e = cc
 same_form (Record node) Letters i j e = cc
 same_form (Record node) (Group which' members') i j e = cc
 same_form (Record node) (Listen skip') i j e =
-    let letters : 114 ≡ 108 = ap (λ words. get_or (first words) 0 0) e in absurd (omega (arith, letters))
+    let letters : 114 ≡ 108 = ap (λ words. get_or (word 0 words) 0 0) e in absurd (omega (arith, letters))
 same_form Replay Run i j e = cc
 same_form Replay Check i j e = cc
 same_form Replay (Gen seed' frames') i j e = cc
@@ -163,7 +150,7 @@ same_form (Spell letter) (Gen seed' frames') i j e = cc
 same_form (Spell letter) (Stress seed' frames') i j e = cc
 same_form (Spell letter) (Record node') i j e = cc
 same_form (Spell letter) Replay i j e = cc
-same_form (Spell letter) (Spell letter') i j e = ap Spell (same_letter letter letter' i j (ap second e))
+same_form (Spell letter) (Spell letter') i j e = ap Spell (same_letter letter letter' i j (ap (word 1) e))
 same_form (Spell letter) Letters i j e = cc
 same_form (Spell letter) (Group which' members') i j e = cc
 same_form (Spell letter) (Listen skip') i j e = cc
@@ -185,20 +172,20 @@ same_form (Group which members) (Record node') i j e = cc
 same_form (Group which members) Replay i j e = cc
 same_form (Group which members) (Spell letter') i j e = cc
 same_form (Group which members) Letters i j e = cc
-same_form (Group which members) (Group which' members') i j e = same_group which which' members members' i j (ap second e) (ap third e)
+same_form (Group which members) (Group which' members') i j e = same_group which which' members members' i j (ap (word 1) e) (ap (word 2) e)
 same_form (Group which members) (Listen skip') i j e = cc
 same_form (Listen skip) Run i j e = cc
 same_form (Listen skip) Check i j e = cc
 same_form (Listen skip) (Gen seed' frames') i j e = cc
 same_form (Listen skip) (Stress seed' frames') i j e = cc
 same_form (Listen skip) (Record node') i j e =
-    let letters : 108 ≡ 114 = ap (λ words. get_or (first words) 0 0) e in absurd (omega (arith, letters))
+    let letters : 108 ≡ 114 = ap (λ words. get_or (word 0 words) 0 0) e in absurd (omega (arith, letters))
 same_form (Listen skip) Replay i j e = cc
 same_form (Listen skip) (Spell letter') i j e = cc
 same_form (Listen skip) Letters i j e = cc
 same_form (Listen skip) (Group which' members') i j e = cc
 same_form (Listen skip) (Listen skip') i j e =
-    ap Listen (decimal_injective skip skip' (omega (arith, i)) (omega (arith, j)) (ap second e))
+    ap Listen (decimal_injective skip skip' (omega (arith, i)) (omega (arith, j)) (ap (word 1) e))
 same_form form (Show flag) i j e = to_show form flag e
 same_form (Show flag) form i j e = sym (to_show form flag (sym e))
 

@@ -14,7 +14,7 @@ use Rattle.rb_rules.specs.Ports.{with_state}
 use Rattle.rb_rules.specs.WorldStep.{Choice, Due, Site, Way, World, book_with, choose, comes_so, due_at, due_of, first_world, frame_in, go_on, hand, happens, is_complete, least, needs_no_event, record_since, settle, settle_next, take, take_if_due, times_of}
 use Rattle.rb_rules.specs.WorldStep.Choice.{Take, GoOn, Hand}
 use Rattle.rb_rules.specs.WorldStep.Way.{ByAnEvent, ByItself}
-use Rattle.rb_laws_events.proofs.WorldBooks.{IsTurn, go-on-turn, happens-book, last-one, none-past, settle_rest, take-turn}
+use Rattle.rb_laws_events.proofs.WorldBooks.{IsTurn, go-on-turn, hand-leaves, happens-book, last-one, none-past, settle_rest, take-turn}
 use Rattle.rb_world.specs.Nexts.{is_last}
 use Rattle.rb_world.specs.Worlds.{IsReached}
 use Rattle.rb_world.proofs.GoingOn.{ended-stays}
@@ -122,22 +122,7 @@ take-ends sc w i well = by (slice_get (due_of sc w) i) refl
     by (Some d) e = settle-ends sc ByAnEvent 2 (happens sc w d) (ap (λ b. b.ended) (happens-book sc w d) ∙ due-going sc w i d e)
 
 hand-ends : (sc : Scenario) (w : World) (biu state : ℕ) → EndsWell w → EndsWell (hand sc w biu state)
-unfolding hand
-hand-ends sc w biu state well = by (frame_in w.turn)
-  where
-    inner : (x : World) (b : Bool) → EndsWell x → EndsWell (elim b as (λ _. World) [ true ↦ x | false ↦ w ])
-    inner x true h = h
-    inner x false h = well
-
-    by : (o : Option ℕ) → EndsWell (elim o as (λ _. World) [
-      | None ↦ w
-      | Some frame ↦ elim (is_good sc Biu biu frame 0) [
-        | true ↦ record w { ports = with_state biu state w.ports; hands = w.hands ++ record { frame = frame; biu = biu; state = state } ∷ [] }
-        | false ↦ w
-      ]
-    ])
-    by None = well
-    by (Some frame) = inner (record w { ports = with_state biu state w.ports; hands = w.hands ++ record { frame = frame; biu = biu; state = state } ∷ [] }) (is_good sc Biu biu frame 0) well
+hand-ends sc w biu state well = hand-leaves EndsWell sc w biu state (λ ports hands. well) well
 
 choose-ends : (sc : Scenario) (w : World) (c : Choice) → EndsWell w → EndsWell (choose sc w c)
 choose-ends sc w (Take i) well = take-ends sc w i well
@@ -187,22 +172,7 @@ take-gave sc w i gave = by (slice_get (due_of sc w) i)
     by (Some d) = turn-gave w.book.given (take_if_due sc w (Some d)) (take-turn sc w d)
 
 hand-gave : (sc : Scenario) (w : World) (biu state : ℕ) → GaveLast w → GaveLast (hand sc w biu state)
-unfolding hand
-hand-gave sc w biu state gave = by (frame_in w.turn)
-  where
-    inner : (x : World) (b : Bool) → GaveLast x → GaveLast (elim b as (λ _. World) [ true ↦ x | false ↦ w ])
-    inner x true h = h
-    inner x false h = gave
-
-    by : (o : Option ℕ) → GaveLast (elim o as (λ _. World) [
-      | None ↦ w
-      | Some frame ↦ elim (is_good sc Biu biu frame 0) [
-        | true ↦ record w { ports = with_state biu state w.ports; hands = w.hands ++ record { frame = frame; biu = biu; state = state } ∷ [] }
-        | false ↦ w
-      ]
-    ])
-    by None = gave
-    by (Some frame) = inner (record w { ports = with_state biu state w.ports; hands = w.hands ++ record { frame = frame; biu = biu; state = state } ∷ [] }) (is_good sc Biu biu frame 0) gave
+hand-gave sc w biu state gave = hand-leaves GaveLast sc w biu state (λ ports hands. gave) gave
 
 choose-gave : (sc : Scenario) (w : World) (c : Choice) → GaveLast w → GaveLast (choose sc w c)
 choose-gave sc w (Take i) gave = take-gave sc w i gave

@@ -25,7 +25,8 @@ use Rattle.rb_world_traffic.specs.Arriving.{number_of}
 use Rattle.rb_world.specs.Observing.{WasTold, left_at, left_below, left_for}
 use Rattle.rb_world.specs.Trailing.{swept_first}
 use Rattle.rb_world.proofs.CaughtUp.{CatchMay, first-other}
-use Rattle.rb_world.proofs.ToldOn.{named-back, same-name}
+use Rattle.rb_world.proofs.ToldOn.{same-name}
+use Rattle.rb_world.proofs.Going.{name-is}
 
 -- One node.
 
@@ -76,7 +77,7 @@ pub below-next : (sc : Scenario) (until : Side → ℕ → ℕ) (me : Side) (i :
     → left_below sc until me i sites name ++ (if same_node (name_of me i) name then left_for sc until sites name else []) ≡ left_below sc until me (i + 1) sites name
 below-next sc until me i sites name =
     ap (λ b. left_below sc until me i sites name ++ (if b then left_for sc until sites name else []))
-    (ap (same_node (name_of me i)) (sym (named-back name)) ∙ same-named me (kind_of name) i (number_of name))
+    (ap (same_node (name_of me i)) (sym (name-is name)) ∙ same-named me (kind_of name) i (number_of name))
     ∙ one-more (same_side (kind_of name) me) (number_of name) i (left_for sc until sites name)
 
 -- All of them.

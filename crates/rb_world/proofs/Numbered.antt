@@ -16,7 +16,7 @@ use Rattle.rb_world_book.specs.declared.turn.Turn.TheVariants as shown
 use Rattle.rb_laws_events.specs.Laws.{IsNextTurn}
 use Rattle.rb_laws_events.proofs.EventsHold.{events-hold, turns-hold}
 use Rattle.rb_laws_events.proofs.GivenAlone.{go-on-is}
-use Rattle.rb_laws_events.proofs.OneTake.{settle-hands}
+use Rattle.rb_laws_events.proofs.OneTake.{settle-hands, take-hands}
 use Rattle.rb_laws_events.proofs.RoundNodes.{item-at}
 use Rattle.rb_world.specs.declared.ties.Ties.{Ties}
 use Rattle.rb_world.specs.declared.ties.Ties.TheVariants.{First}
@@ -29,29 +29,6 @@ use Rattle.rb_world.proofs.GoingOn.{ended-stays}
 use Rattle.rb_world.proofs.LastTurn.{reached-ended, reached-gave}
 use Rattle.rb_world.proofs.Steps.{place-below}
 use Rattle.rb_world.proofs.Turns.{reached-more}
-
--- What is handed in stays.
-
-pending-hands : (sc : Scenario) (w : World) (d : Due) (s : Site) (p : Pending) → (with_pending sc w d.side d.node s p).hands ≡ w.hands
-unfolding with_act
-pending-hands sc w d s (Tick k) = refl
-pending-hands sc w d s (Arrival place c) = refl
-
-happens-hands : (sc : Scenario) (w : World) (d : Due) → (happens sc w d).hands ≡ w.hands
-unfolding happens
-happens-hands sc w d = by _
-  where
-    by : (o : Option Site) → (elim o as (λ _. World) [ None ↦ w | Some s ↦ with_pending sc w d.side d.node s d.pending ]).hands ≡ w.hands
-    by None = refl
-    by (Some s) = pending-hands sc w d s d.pending
-
-take-hands : (sc : Scenario) (w : World) (i : ℕ) → (take sc w i).hands ≡ w.hands
-unfolding take
-take-hands sc w i = by (slice_get (due_of sc w) i)
-  where
-    by : (o : Option Due) → (take_if_due sc w o).hands ≡ w.hands
-    by None = refl
-    by (Some d) = settle-hands sc ByAnEvent 2 (happens sc w d) ∙ happens-hands sc w d
 
 -- One call.
 

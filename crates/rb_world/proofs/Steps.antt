@@ -10,6 +10,7 @@ use Rattle.rb_rules.specs.WorldStep.{Choice, World, choose, due_of, first_world,
 use Rattle.rb_rules.specs.WorldStep.Choice.{Take}
 use Rattle.rb_laws_events.proofs.EveryWorld.{after-more}
 use Rattle.rb_laws_events.proofs.GivenAlone.{given-alone}
+use Rattle.rb_laws_events.proofs.RunsEnd.{takes-append}
 use Rattle.rb_laws_events.specs.Laws.{EveryRunEnds, SomethingIsDue, most_at_once, most_takes, nodes_of, taken_by, takes_from}
 use Rattle.rb_gen.specs.Draws.{number_of}
 use Rattle.rb_world.specs.Nexts.{Standing, after_steps, drawn, is_last, place_among, step, step_among}
@@ -61,10 +62,6 @@ place-below (Seeded seed) state n some = mod_below (number_of state) n some
 
 -- Takes.
 
-takes-more : (sc : Scenario) (w : World) (cs : List Choice) (c : Choice) → takes_from sc w (cs ++ c ∷ []) ≡ takes_from sc w cs + taken_by sc (fold (choose sc) w cs) c
-takes-more sc w [] c = omega arith
-takes-more sc w (x ∷ xs) c = let rest = takes-more sc (choose sc w x) xs c in omega (arith, rest)
-
 -- some choices lead to this world, of which so many took an event
 record IsAfterTakes (sc : Scenario) (n : ℕ) (w : World) : Type 0 where
   choices : List Choice
@@ -77,7 +74,7 @@ one-take sc w i below = let at = item-at (due_of sc w) i below in ap (λ o. elim
 take-counts : (sc : Scenario) (n : ℕ) (w : World) (i : ℕ) → IsAfterTakes sc n w → i < length (due_of sc w) → IsAfterTakes sc (suc n) (take sc w i)
 take-counts sc n w i is below =
     let one : taken_by sc (world_after sc is.choices) (Take i) ≡ 1 = subst (λ x. taken_by sc x (Take i) ≡ 1) is.is (one-take sc w i below) in
-    let sum = takes-more sc (first_world sc) is.choices (Take i) in
+    let sum = takes-append sc (first_world sc) is.choices (Take i) in
     let many = is.many in
     record {
       choices = is.choices ++ Take i ∷ [];

@@ -11,6 +11,7 @@ use Rattle.rb_rules.specs.Hearing.{Coming}
 use Rattle.rb_rules.specs.Sense.{Arrival}
 use Rattle.rb_rules.specs.Slots.{count_of}
 use Rattle.rb_rules.specs.WorldStep.{Site, coming_from}
+use Rattle.rb_rules.proofs.Slots.{source-append}
 use Rattle.rb_laws_events.proofs.SameHeard.{Every}
 use Rattle.rb_world.specs.Sites.{taken_in}
 use Rattle.rb_laws_sweeps.specs.Brought.{BringsArrivals, BringsComings, due_from}
@@ -39,11 +40,6 @@ unfolding arrive
 arrive-is sc me core from bytes known small =
     let test : (nat_lt from (count_of (other me) sc.sizes) && not (nat_le (2 ^ 31) core.had)) ≡ true = grind (arith, nat_tests, known, small) in
     ap (λ b. elim b as (λ _. Core) [ true ↦ record core { inbox = core.inbox ++ (from, let a : Arrival = record { stamp = core.had; bytes = bytes } in a) ∷ [] } | false ↦ core ]) test
-
-source-append : (xs ys : List (ℕ × Arrival)) (j : ℕ) → of_source (xs ++ ys) j ≡ of_source xs j ++ of_source ys j
-source-append xs ys j =
-    ap (map (λ (a : ℕ × Arrival). a.1)) (filter-append (λ (a : ℕ × Arrival). a.0 == j) xs ys)
-    ∙ map-append (λ (a : ℕ × Arrival). a.1) (filter (λ (a : ℕ × Arrival). a.0 == j) xs) (filter (λ (a : ℕ × Arrival). a.0 == j) ys)
 
 assoc : {X : Type 0} (xs ys zs : List X) → (xs ++ ys) ++ zs ≡ xs ++ (ys ++ zs)
 assoc [] ys zs = refl

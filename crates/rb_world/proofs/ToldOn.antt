@@ -42,6 +42,7 @@ use Rattle.rb_world.proofs.Along.{along-begins, comes-by-itself, comes-by-tick, 
 use Rattle.rb_world.proofs.Observed.{was-both}
 use Rattle.rb_world.proofs.Running.{along-first, comes-to, run-ended, run-to, until-named}
 use Rattle.rb_world.proofs.NextRecord.{goes-on}
+use Rattle.rb_world.proofs.Going.{name-is}
 
 -- Names.
 
@@ -50,10 +51,6 @@ same-name Biu i (node.Biu j) e = let same : i ≡ j = grind (arith, nat_tests, e
 same-name Biu i (node.Rmu j) e = cc
 same-name Rmu i (node.Biu j) e = cc
 same-name Rmu i (node.Rmu j) e = let same : i ≡ j = grind (arith, nat_tests, e) in ap node.Rmu (sym same)
-
-pub named-back : (name : NodeName) → name_of (kind_of name) (number_of name) ≡ name
-named-back (node.Biu i) = refl
-named-back (node.Rmu i) = refl
 
 -- A tick.
 
@@ -85,7 +82,7 @@ alone-told sc v me i a s from name named there =
     other None e = refl
     other (Some z) e =
         ap (λ b. if b then heard sc (kind_of name) (number_of name) (a.time + 1) z ++ telling sc v.ports (kind_of name) (number_of name) (swept sc (kind_of name) (number_of name) (a.time + 1) z) (Tick a.tick) ∷ [] else [])
-        (ap (same_node (name_of me i)) (named-back name) ∙ e)
+        (ap (same_node (name_of me i)) (name-is name) ∙ e)
 
     by : (b : Bool) → same_node (name_of me i) name ≡ b → (if b then heard sc me i (a.time + 1) s else []) ++ (if b then t ∷ [] else []) ≡ alone_for sc v me i a name
     by false e = sym (other (slice_get (of_kind (kind_of name) v.sites) (number_of name)) e)

@@ -39,9 +39,6 @@ due_or_memory status end (inl is) second = inl is
 due_or_memory status end (inr failed) (inl h) = absurd (never_both status h failed)
 due_or_memory status end (inr failed) (inr memory) = inr memory
 
-not_usage : (status : Status) → MayRefuse status → ¬ (status ≡ code.Usage)
-not_usage status may e = subst MayRefuse e may
-
 shown_or : (status : Status) → (status ≡ code.Done) ⊎ (status ≡ code.WriteFault) → status ≡ code.ReadFault → ⊥
 shown_or status (inl done) e = let n : 0 ≡ 5 = ap number_of (sym done ∙ e) in absurd (omega (arith, n))
 shown_or status (inr fault) e = let n : 6 ≡ 5 = ap number_of (sym fault ∙ e) in absurd (omega (arith, n))
@@ -109,9 +106,9 @@ over_bytes words status input source source' sink sink' left left' right right' 
   unknown = usage.unknown;
   usage = usage.refused;
   nothing = λ w. ap (λ s. s.bytes) (untouched.unwritten w) ∙ ap (λ s. s.bytes) f;
-  reads = λ fault. let known : (form : Form) × AskFor words form = usage.known (not_usage status (subst MayRefuse (sym fault) tt)) in
+  reads = λ fault. let known : (form : Form) × AskFor words form = usage.known (λ none. subst MayRefuse (sym fault ∙ none) tt) in
       never_read words status source source' _ _ _ _ shows unread fault known.0 known.1;
-  writes = λ fault. let known : (form : Form) × AskFor words form = usage.known (not_usage status (subst MayRefuse (sym fault) tt)) in
+  writes = λ fault. let known : (form : Form) × AskFor words form = usage.known (λ none. subst MayRefuse (sym fault ∙ none) tt) in
       never_written words status source source' sink sink' f ok shows fails fault known.0 known.1;
   shown = λ flag a. shown_done flag status sink sink' f ok (shows flag a);
   run = λ a. record {

@@ -85,9 +85,6 @@ promised (Show flag) status input source source' sink sink' e f k = tt
 
 -- Answers.
 
-not_usage : (status : Status) → MayRefuse status → ¬ (status ≡ code.Usage)
-not_usage status may e = subst MayRefuse e may
-
 -- all clauses of the call, with a source of this input and an empty sink, of which no call failed
 pub over_bytes : (words : List (String Global)) (status : Status) (input source source' : List ℕ) (sink sink' : Held) (drive drive' : FirstDrive)
     → source ≡ input → sink ≡ fresh → sink'.failed ≡ false
@@ -106,9 +103,9 @@ over_bytes words status input source source' sink sink' drive drive' e f ok usag
   unknown = λ u form a. usage.unknown u form (to_asked words form a);
   usage = λ none. usage.refused (λ form a. none form (from_asked words form a));
   nothing = λ w. ap (λ s. s.bytes) (untouched.unwritten w) ∙ ap (λ s. s.bytes) f;
-  reads = λ fault. let known : (form : Form) × AskFor words form = usage.known (not_usage status (subst MayRefuse (sym fault) tt)) in
+  reads = λ fault. let known : (form : Form) × AskFor words form = usage.known (λ none. subst MayRefuse (sym fault ∙ none) tt) in
       never_unread (limit_of known.0) status source source' (unread known.0 known.1) fault;
-  writes = λ fault. let known : (form : Form) × AskFor words form = usage.known (not_usage status (subst MayRefuse (sym fault) tt)) in
+  writes = λ fault. let known : (form : Form) × AskFor words form = usage.known (λ none. subst MayRefuse (sym fault ∙ none) tt) in
       no_fault sink sink' f ok (fails fault known.0 known.1).rose;
   of_form = λ form a.
       let asked : AskFor words form = to_asked words form a in
