@@ -5,7 +5,6 @@ pub mod Shown
 pub mod Sensed
 pub mod Alike
 pub mod Runs
-pub mod Seeing
 pub mod Quiet
 pub mod Forms
 pub mod Starts

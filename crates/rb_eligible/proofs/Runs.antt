@@ -1,23 +1,21 @@
 -- Runs of sources that spell alike: what is taken of one, and what is known once it passed.
-use Rattle.std.proofs.Common.{◌≡◌, ℕ, ◌*◌, ◌<◌, ◌≤◌, ◌^◌, ◌⊎◌, Bool, true, false, not, ◌&&◌, ◌||◌, ◌==◌, if◌then◌else◌, Option, Some, None, is_some, unwrap_or, List, length, map, get_or, set, lit<, inl, inr, refl, sym, ◌∙◌, ap, subst, arith}
+use Rattle.std.proofs.Common.{◌≡◌, ℕ, ◌*◌, ◌<◌, ◌≤◌, ◌^◌, ◌⊎◌, Bool, true, false, not, ◌&&◌, ◌||◌, ◌==◌, if◌then◌else◌, Option, Some, None, is_some, unwrap_or, List, length, get_or, replicate, set, lit<, inl, inr, refl, sym, ◌∙◌, ap, subst, arith}
 use Rattle.std.proofs.lemmas.Bool.{cases_eq}
-use Rattle.std.proofs.lemmas.List.{get_or-set_other, get_or-set_same}
+use Rattle.std.proofs.lemmas.List.{get_or-replicate, get_or-set_other, get_or-set_same}
 use Rattle.rb_base.specs.Nodes.{has, set_of, size}
 use Rattle.rb_base.specs.declared.values.Heard.{Heard}
 use Rattle.rb_base.specs.declared.values.Heard.TheVariants.{Fault}
-use Rattle.rb_base.specs.declared.values.See.{See}
 use Rattle.rb_base.proofs.Plain.{and-true, and_first, and_second}
 use Rattle.rb_base.proofs.Sets.{eq_other, has-is, has_none, is_set_of, set_of-lt}
 use Rattle.rb_base.proofs.SetSizes.{size_less, size_within}
 use Rattle.rb_rules.specs.declared.sense.Expect.{Expect}
-use Rattle.rb_rules.specs.ExactStage.{present, see_value}
+use Rattle.rb_rules.specs.ExactStage.{present}
 use Rattle.rb_rules.specs.Majority.{majority_of}
 use Rattle.rb_rules.specs.Sense.{is_one, value_in}
 use Rattle.rb_frame.specs.Spellings.{high_of, len_of, spelled}
 use Rattle.rb_eligible.specs.declared.reading.Sole.{Sole}
 use Rattle.rb_eligible.specs.Inboxes.{KeptArrivals, is_sole, sense_in, sole_at}
 use Rattle.rb_eligible.specs.Readings.{Says, bytes_of}
-use Rattle.rb_eligible.specs.Sheets.{IsSheet}
 use Rattle.rb_eligible.specs.Takings.{AreOnesOf, AreValuesOf, IsPartial, IsRun}
 use Rattle.rb_eligible.proofs.Alike.{leading_vote}
 use Rattle.rb_eligible.proofs.Scans.{within_next}
@@ -75,17 +73,20 @@ says_at e s t one value low tail says =
 
 -- so far nothing was taken
 pub partial_first : (kept : KeptArrivals) (e : Expect) (due left ones lead : ℕ) (value : Option Heard) (taken : List (Option Heard)) → left ≡ due → ones ≡ 0 → lead ≡ 0
-    → ((j : ℕ) → j < 16 → has due j ≡ false → get_or taken j None ≡ None) → IsPartial kept e due left ones lead value taken
-partial_first kept e due left ones lead value taken left_is ones_is lead_is rest =
+    → taken ≡ replicate 16 None → IsPartial kept e due left ones lead value taken
+partial_first kept e due left ones lead value taken left_is ones_is lead_is blank =
     rw (left_is, ones_is, lead_is) (record {
       fits = lit< tt;
       within = λ j h inside. inside;
       one = λ received shown j h. has_none j ∙ sym (none (has due j) (is_one (sense_in e received j)));
-      so_far = λ received shown j h out. rest j h out ∙ sym (ap (λ b. if b then value_in (sense_in e received j) else None) out);
-      blank = λ j h out poor. rest j h out;
+      so_far = λ received shown j h out. nothing_at j h ∙ sym (ap (λ b. if b then value_in (sense_in e received j) else None) out);
+      blank = λ j h out poor. nothing_at j h;
       held = λ j h inside. (let n : true ≡ false = sym inside ∙ has_none j in absurd cc);
     })
   where
+    nothing_at : (j : ℕ) → j < 16 → get_or taken j None ≡ None
+    nothing_at j h = ap (λ xs. get_or xs j None) blank ∙ get_or-replicate 16 j None None h
+
     none : (b q : Bool) → ((b && not b) && q) ≡ false
     none true q = refl
     none false q = refl
@@ -201,16 +202,6 @@ more_led left rest run lead lead' v value value' run_is led j h inside =
       | inr new ↦ inr (sym (has-is run j (λ j. has left j && not (has rest j)) run_is h) ∙ new.0, new.1)
     ]
 
--- nothing stands outside of the set
-pub sheet_next : (kept : KeptArrivals) (due left rest : ℕ) (sole : Sole) (v : Option Heard) (taken taken' : List (Option Heard)) (sees sees' : List See)
-    → ((j : ℕ) → j < 16 → has left j ≡ true → has due j ≡ true) → IsRun kept left rest sole v taken taken' → length taken' ≡ 16 → sees' ≡ map see_value taken'
-    → IsSheet due taken sees → IsSheet due taken' sees'
-sheet_next kept due left rest sole v taken taken' sees sees' within run all shown sheet = record {
-  all = all;
-  shown = shown;
-  rest = λ j h out. run.others j h (not_true (has left j) (λ inside. sym out ∙ within j h inside)) ∙ sheet.rest j h out;
-}
-
 -- once none is left
 gone_all : (left j : ℕ) → left ≡ 0 → has left j ≡ false
 gone_all left j none = ap (λ s. has s j) none ∙ has_none j
@@ -232,18 +223,18 @@ partial_vote kept e due left ones lead value taken none all leads partial =
     leading_vote value ones lead taken all (λ j h inside. (partial.held j h inside).1) (λ j h poor. partial.blank j h (gone_all left j none) poor) leads
 
 -- the run of a word with which the sources begin
-pub word_begun : (kept : KeptArrivals) (e : Expect) (due rest run : ℕ) (x : Heard) (sole : Sole) (taken taken' : List (Option Heard)) (sees : List See)
-    → ((j : ℕ) → j < 16 → has due j ≡ true → is_sole kept j ≡ true) → IsSheet due taken sees → Says e (bytes_of sole) true (Some x) → IsRun kept due rest sole (Some x) taken taken'
+pub word_begun : (kept : KeptArrivals) (e : Expect) (due rest run : ℕ) (x : Heard) (sole : Sole) (taken taken' : List (Option Heard))
+    → ((j : ℕ) → j < 16 → has due j ≡ true → is_sole kept j ≡ true) → taken ≡ replicate 16 None → Says e (bytes_of sole) true (Some x) → IsRun kept due rest sole (Some x) taken taken'
     → run < 2 ^ 16 → ((j : ℕ) → j < 16 → has run j ≡ (has due j && not (has rest j))) → IsPartial kept e due rest run run (Some x) taken'
-word_begun kept e due rest run x sole taken taken' sees soles sheet says taking fits is =
+word_begun kept e due rest run x sole taken taken' soles blank says taking fits is =
     partial_next kept e due due rest 0 run 0 run true (Some x) None (Some x) sole taken taken' soles says taking fits
     (λ j h. is j h ∙ sym (ap (λ b. b || (has due j && not (has rest j))) (has_none j)))
     (λ j h inside. inr (sym (is j h) ∙ inside, (refl, refl)))
-    (partial_first kept e due due 0 0 None taken refl refl refl sheet.rest)
+    (partial_first kept e due due 0 0 None taken refl refl refl blank)
 
 -- which is that of all
-pub word_of_all : (kept : KeptArrivals) (e : Expect) (due rest : ℕ) (x : Heard) (sole : Sole) (taken taken' : List (Option Heard)) (sees : List See)
-    → ((j : ℕ) → j < 16 → has due j ≡ true → is_sole kept j ≡ true) → IsSheet due taken sees → Says e (bytes_of sole) true (Some x) → IsRun kept due rest sole (Some x) taken taken'
+pub word_of_all : (kept : KeptArrivals) (e : Expect) (due rest : ℕ) (x : Heard) (sole : Sole) (taken taken' : List (Option Heard))
+    → ((j : ℕ) → j < 16 → has due j ≡ true → is_sole kept j ≡ true) → taken ≡ replicate 16 None → Says e (bytes_of sole) true (Some x) → IsRun kept due rest sole (Some x) taken taken'
     → due < 2 ^ 16 → rest ≡ 0 → IsPartial kept e due rest due due (Some x) taken'
-word_of_all kept e due rest x sole taken taken' sees soles sheet says taking fits none =
-    word_begun kept e due rest due x sole taken taken' sees soles sheet says taking fits (λ j h. sym (ap (λ b. has due j && not b) (gone_all rest j none) ∙ and-true (has due j)))
+word_of_all kept e due rest x sole taken taken' soles blank says taking fits none =
+    word_begun kept e due rest due x sole taken taken' soles blank says taking fits (λ j h. sym (ap (λ b. has due j && not b) (gone_all rest j none) ∙ and-true (has due j)))

@@ -1,24 +1,22 @@
 //! What a node took and shows in a window.
-ghost use Rattle.std.specs.Prelude.{◌≡◌, None, replicate};
+ghost use Rattle.std.specs.Prelude.{◌≡◌, None, map, replicate};
 ghost use Rattle.rb_base.specs.declared.values.Heard.{Heard};
 ghost use Rattle.rb_base.specs.declared.values.See.{See};
-ghost use Rattle.rb_eligible.specs.Sheets.{IsWritten};
+ghost use Rattle.rb_rules.specs.ExactStage.{see_value};
 
-use rb_base::{Heard, NodeSet, Place, See};
+use rb_base::{Heard, Place, See};
 use rb_rules::{Closed, Closing};
 
-/// What a node took in a window, and what it shows of it. It is written over from window to window:
-/// it knows of which sources something was taken, so that no more is written than has to be.
+/// What a node took in a window, and what it shows of it. It is written over from window to window.
 #[derive(Drop)]
-pub struct Sheet<K> {
+pub struct Sheet {
     pub closing: Closing,
     pub closed: Closed,
-    pub written: NodeSet<K>,
 }
 
-impl<K: Copy> Sheet<K> {
+impl Sheet {
     /// A sheet on which nothing stands.
-    pub fn new() -> Sheet<K>
+    pub fn new() -> Sheet
         ensures closing { result.closing
             ≡ record { taken = replicate 16 None; voted = Heard.Fault } }
         ensures closed { result.closed ≡ record {
@@ -26,8 +24,6 @@ impl<K: Copy> Sheet<K> {
           sees = replicate 16 See.Nothing;
           delivered = None;
         } }
-        ensures written { result.written ≡ 0 }
-        ensures sheet { IsWritten result }
     {
         Sheet {
             closing: Closing {
@@ -43,7 +39,17 @@ impl<K: Copy> Sheet<K> {
                 sees: [See::Nothing; 16],
                 delivered: None,
             },
-            written: NodeSet::empty(),
         }
+    }
+
+    /// Nothing is taken, and nothing shown of any source.
+    pub fn wipe(&mut self)
+        ensures closing { self.new.closing
+            ≡ record { taken = replicate 16 None; voted = Heard.Fault } }
+        ensures shown { self.new.closed.sees ≡ map see_value self.new.closing.taken }
+    {
+        self.closing.taken = [None; 16];
+        self.closing.voted = Heard::Fault;
+        self.closed.sees = [See::Nothing; 16];
     }
 }

@@ -29,6 +29,18 @@ fn one_more(calm: u16) -> u16
     if calm < 4096 { calm + 1 } else { 4096 }
 }
 
+/// The set, with node i where that passes.
+pub fn with_passing<K: Copy>(set: NodeSet<K>, i: u8, passes: bool) -> NodeSet<K>
+    requires { i < 16 }
+    ensures { result ≡ (if passes then set_of (λ j. has set j || (j == i)) else set) }
+{
+    let mut with_node = set;
+    if passes {
+        with_node.insert(NodeId::of(i));
+    }
+    with_node
+}
+
 impl<K: Copy> Standing<K> {
     /// At first the nodes with the numbers below `count`, at most 16 of them, are trusted, and none
     /// is accused.
@@ -161,39 +173,15 @@ impl<K: Copy> Standing<K> {
         }
     }
 
-    // The set, with node i where its direct accusation lapses.
-    fn with_lapsing(&self, set: NodeSet<K>, i: u8, probation: u16) -> NodeSet<K>
-        requires { i < 16 }
-        ensures { result ≡ (if lapses probation (standing_of self.now) i
-            then set_of (λ j. has set j || (j == i)) else set) }
-    {
-        let id = NodeId::of(i);
-        if self.lapses(id, probation) {
-            let mut grown = set;
-            grown.insert(id);
-            grown
-        } else {
-            set
-        }
-    }
-
     // The nodes whose direct accusation lapses.
     fn lapsing(&self, probation: u16) -> NodeSet<K>
         ensures { result ≡ set_of (lapses probation (standing_of self.now)) }
     {
         let mut set = NodeSet::empty();
         for i in 0..16u8 {
-            set = self.with_lapsing(set, i, probation);
+            set = with_passing(set, i, self.lapses(NodeId::of(i), probation));
         }
         set
-    }
-
-    // The calm of node i in the next frame.
-    fn calm_of(&self, i: u8, probation: u16) -> u16
-        requires { i < 16 }
-        ensures { result ≡ next_calm probation (standing_of self.now) i }
-    {
-        self.next_calm(NodeId::of(i), probation)
     }
 
     // The calm of each node in the next frame.
@@ -202,7 +190,7 @@ impl<K: Copy> Standing<K> {
     {
         let mut calms = [0; 16];
         for i in 0..16u8 {
-            calms[usize::from(i)] = self.calm_of(i, probation);
+            calms[usize::from(i)] = self.next_calm(NodeId::of(i), probation);
         }
         calms
     }

@@ -1,11 +1,10 @@
 //! What a node takes in a window, and whom it accuses for what came.
-ghost use Rattle.std.specs.Prelude.{◌≡◌, ℕ, ◌<◌, ◌*◌, ◌^◌, ◌&&◌, ◌||◌, ◌⊎◌, true, if◌then◌else◌, length, map, slice_set, IfSome, IsNone, IsSome, IsTrue};
+ghost use Rattle.std.specs.Prelude.{◌≡◌, ℕ, ◌<◌, ◌*◌, ◌^◌, ◌&&◌, ◌||◌, ◌⊎◌, None, true, if◌then◌else◌, length, map, replicate, slice_set, IfSome, IsNone, IsSome, IsTrue};
 ghost use Rattle.rb_base.specs.Nodes.{has, set_of, size};
 ghost use Rattle.rb_rules.specs.ExactStage.{present, see_value};
 ghost use Rattle.rb_rules.specs.Majority.{majority_of};
 ghost use Rattle.rb_rules.specs.Standing.{is_eligible};
 ghost use Rattle.rb_eligible.specs.Inboxes.{is_sole, sole_at};
-ghost use Rattle.rb_eligible.specs.Sheets.{IsSheet, IsWritten};
 ghost use Rattle.rb_eligible.specs.Standings.{standing_of};
 ghost use Rattle.rb_eligible.specs.Takings.{AccusesBy, AreOnesOf, AreTakenOf, AreValuesOf, IsPartial, IsRun};
 
@@ -31,23 +30,6 @@ fn leads<K: Copy>(same: NodeSet<K>, ones: NodeSet<K>) -> bool
     ensures { IsTrue result → size ones < 2 * size same }
 {
     ones.count() < 2 * same.count()
-}
-
-// Makes room for what comes of the sources of the set. Of the others nothing is written down any
-// longer. Were all written over each time, a frame of the generated run with seed 7 would cost
-// 1,330,900 instructions in place of 1,321,400.
-#[inline(always)]
-fn make_room<K: Copy>(due: NodeSet<K>, sheet: &mut Sheet<K>)
-    requires { IsWritten sheet.old }
-    ensures written { sheet.new.written ≡ due }
-    ensures sheet { IsSheet due sheet.new.closing.taken sheet.new.closed.sees }
-{
-    let stale = sheet.written.difference(due);
-    sheet.written = due;
-    if !stale.is_empty() {
-        sheet.closing.taken = [None; 16];
-        sheet.closed.sees = [See::Nothing; 16];
-    }
 }
 
 // The first source that is left.
@@ -200,11 +182,13 @@ fn take_runs<K: Copy>(
     requires due { (j : ℕ) → j < 16 → has due j ≡ true → is_sole inbox.now j ≡ true }
     requires start { IsPartial inbox.now expect.now due start.left start.ones start.lead.sources
         start.lead.value taken.old }
-    requires sheet { IsSheet due taken.old sees.old }
+    requires all { length taken.old ≡ 16 }
+    requires shown { sees.old ≡ map see_value taken.old }
     ensures ones { AreOnesOf inbox.now expect.now (has due) result.ones }
     ensures taken { AreValuesOf inbox.now expect.now due taken.new }
     ensures alike { IsTrue result.alike → majority_of (present taken.new) ≡ result.value }
-    ensures sheet { IsSheet due taken.new sees.new }
+    ensures all { length taken.new ≡ 16 }
+    ensures shown { sees.new ≡ map see_value taken.new }
 {
     let Partial {
         mut left,
@@ -239,11 +223,13 @@ fn take_due<K: Copy>(
 ) -> Taking<K>
     requires fits { due < 2 ^ 16 }
     requires due { (j : ℕ) → j < 16 → has due j ≡ true → is_sole inbox.now j ≡ true }
-    requires sheet { IsSheet due taken.old sees.old }
+    requires blank { taken.old ≡ replicate 16 None }
+    requires shown { sees.old ≡ map see_value taken.old }
     ensures ones { AreOnesOf inbox.now expect.now (has due) result.ones }
     ensures taken { AreValuesOf inbox.now expect.now due taken.new }
     ensures alike { IsTrue result.alike → majority_of (present taken.new) ≡ result.value }
-    ensures sheet { IsSheet due taken.new sees.new }
+    ensures all { length taken.new ≡ 16 }
+    ensures shown { sees.new ≡ map see_value taken.new }
 {
     let Some(first) = first_of(due) else {
         return take_runs(inbox, due, nothing_of(due), expect, taken, sees);
@@ -340,9 +326,8 @@ pub fn take_with_evidence<K: Copy>(
     standing: &mut Standing<K>,
     expect: &Expect,
     expected: NodeSet<K>,
-    sheet: &mut Sheet<K>,
+    sheet: &mut Sheet,
 ) -> Taking<K>
-    requires { IsWritten sheet.old }
     ensures ones { AreOnesOf inbox.now expect.now (λ j. has expected j
         && is_eligible (standing_of standing.old) j) result.ones }
     ensures taken { AreTakenOf inbox.now (standing_of standing.old) expect.now expected
@@ -351,10 +336,10 @@ pub fn take_with_evidence<K: Copy>(
         (standing_of standing.new) }
     ensures alike { IsTrue result.alike
         → majority_of (present sheet.new.closing.taken) ≡ result.value }
-    ensures sheet { IsWritten sheet.new }
+    ensures shown { sheet.new.closed.sees ≡ map see_value sheet.new.closing.taken }
 {
     let due = due_of(inbox, standing, expected);
-    make_room(due, sheet);
+    sheet.wipe();
     let taken = &mut sheet.closing.taken;
     let taking = take_due(inbox, due, expect, taken, &mut sheet.closed.sees);
     accuse_by(inbox, standing, expect, expected, taking.ones);

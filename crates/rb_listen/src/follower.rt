@@ -25,7 +25,7 @@ pub struct Follower {
     engine: Engine<Biu>,
     had: u64,
     inbox: Inbox<Rmu>,
-    shown: Shown<Rmu>,
+    shown: Shown,
     ahead: Ahead,
 }
 

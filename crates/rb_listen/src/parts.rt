@@ -57,7 +57,7 @@ pub(crate) fn epoch_at(engine: &Engine<Biu>, now: u64) -> Option<Epoch>
 pub(crate) fn close_at(
     engine: &mut Engine<Biu>,
     inbox: &mut Inbox<Rmu>,
-    shown: &mut Shown<Rmu>,
+    shown: &mut Shown,
     window: &Window,
     now: u64,
 ) -> bool

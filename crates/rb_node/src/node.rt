@@ -38,7 +38,7 @@ pub struct Node<K: Kind> {
     engine: Engine<K>,
     had: u64,
     inbox: Inbox<K::Other>,
-    shown: Shown<K::Other>,
+    shown: Shown,
     ahead: Ahead,
 }
 

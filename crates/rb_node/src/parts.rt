@@ -95,7 +95,7 @@ pub(crate) fn say_at<K: Kind>(
 pub(crate) fn close_at<K: Kind>(
     engine: &mut Engine<K>,
     inbox: &mut Inbox<K::Other>,
-    shown: &mut Shown<K::Other>,
+    shown: &mut Shown,
     window: &Window,
     now: u64,
 ) -> bool

@@ -1,20 +1,18 @@
 //! A stage below the sync slot: what a node makes of what came in it.
 #![tactic(auto)]
 
-ghost use Rattle.std.specs.Prelude.{◌≡◌, ◌<◌, ◌||◌, ◌==◌, if◌then◌else◌, unwrap_or, IsTrue};
-ghost use Rattle.rb_base.specs.Nodes.{has, set_of};
+ghost use Rattle.std.specs.Prelude.{◌≡◌, ◌<◌, map, unwrap_or, IsTrue};
 ghost use Rattle.rb_base.specs.declared.values.Heard.{Heard};
-ghost use Rattle.rb_eligible.specs.Sheets.{IsWritten};
 ghost use Rattle.rb_eligible.specs.Standings.{standing_of};
 ghost use Rattle.rb_eligible.specs.Takings.{AccusesBy};
 ghost use Rattle.rb_round.specs.Closes.{ClosesBy};
-ghost use Rattle.rb_rules.specs.ExactStage.{at_source, present, with_unlike};
+ghost use Rattle.rb_rules.specs.ExactStage.{at_source, present, see_value, with_unlike};
 ghost use Rattle.rb_rules.specs.Majority.{majority_of};
 ghost use Rattle.rb_rules.specs.Standing.{is_unlike};
 
 pub use close::close_on_sheet;
-use rb_base::{Heard, NodeId, NodeSet};
-use rb_eligible::{Inbox, Sheet, Standing, take_with_evidence};
+use rb_base::{Heard, NodeSet};
+use rb_eligible::{Inbox, Sheet, Standing, take_with_evidence, with_passing};
 pub use rb_rules::Closing;
 use rb_rules::Expect;
 use rb_vote::majority_taken;
@@ -62,14 +60,13 @@ fn close_busy<K: Copy>(
     standing: &mut Standing<K>,
     expect: &Expect,
     expected: NodeSet<K>,
-    sheet: &mut Sheet<K>,
+    sheet: &mut Sheet,
 )
-    requires { IsWritten sheet.old }
     ensures closing { ClosesBy inbox.now (standing_of standing.old) expect.now expected
         sheet.new.closing }
     ensures accused { AccusesBy inbox.now (standing_of standing.old) expect.now expected
         (standing_of standing.new) }
-    ensures sheet { IsWritten sheet.new }
+    ensures shown { sheet.new.closed.sees ≡ map see_value sheet.new.closing.taken }
 {
     let taking = take_with_evidence(inbox, standing, expect, expected, sheet);
     sheet.closing.voted = vote(&sheet.closing.taken, taking.alike, taking.value);
@@ -85,26 +82,6 @@ fn is_unlike(value: Heard, taken: Option<Heard>) -> bool
     }
 }
 
-// The set, with this source where something other than the value was taken of it.
-fn with_differing<K: Copy>(
-    set: NodeSet<K>,
-    source: u8,
-    value: Heard,
-    taken: Option<Heard>,
-) -> NodeSet<K>
-    requires { source < 16 }
-    ensures { result ≡ (if is_unlike value taken
-        then set_of (λ j. has set j || (j == source)) else set) }
-{
-    if is_unlike(value, taken) {
-        let mut grown = set;
-        grown.insert(NodeId::of(source));
-        grown
-    } else {
-        set
-    }
-}
-
 /// Accuses by mismatch each source of which something other than the value was taken. They stay
 /// eligible.
 pub fn accuse_unlike<K: Copy>(closing: &Closing, value: Heard, standing: &mut Standing<K>)
@@ -113,7 +90,8 @@ pub fn accuse_unlike<K: Copy>(closing: &Closing, value: Heard, standing: &mut St
 {
     let mut differing = NodeSet::empty();
     for source in 0..16u8 {
-        differing = with_differing(differing, source, value, closing.taken[usize::from(source)]);
+        let taken = closing.taken[usize::from(source)];
+        differing = with_passing(differing, source, is_unlike(value, taken));
     }
     standing.accuse_differing(differing);
 }

@@ -1,16 +1,15 @@
-use Rattle.std.proofs.Common.{◌≡◌, false, length}
+use Rattle.std.proofs.Common.{◌≡◌, false, length, map}
 use Rattle.rb_base.specs.Nodes.{has, size}
+use Rattle.rb_rules.specs.ExactStage.{see_value}
 use Rattle.rb_eligible.specs.Inboxes.{sole_at}
 use Rattle.rb_eligible.specs.Takings.{IsRun}
-use Rattle.rb_eligible.proofs.Seeing.{AreShown}
 use Rattle.rb_eligible.proofs.taking.take_run.Given as goal
 
 -- the sources that are left, and what was taken of the others
 abbrev pub invariant-loop-source : goal.invariant-loop-source
 invariant-loop-source g l = record {
   all : length l.taken ≡ 16;
-  all_seen : length l.sees ≡ 16;
-  seen : AreShown l.sees l.taken;
+  shown : l.sees ≡ map see_value l.taken;
   passed : has l.rest l.fn.first ≡ false;
   run : IsRun l.inbox l.fn.left l.rest (sole_at l.inbox.soles l.fn.first) l.value l.fn.taken l.taken;
 }

@@ -1,10 +1,10 @@
 use Rattle.std.proofs.Common.{refl, sym, ◌∙◌}
 use Rattle.rb_eligible.specs.Inboxes.{sole_at}
-use Rattle.rb_eligible.proofs.Runs.{more_fit, more_led, more_ones, partial_next, partial_ones, partial_values, partial_vote, sheet_next}
+use Rattle.rb_eligible.proofs.Runs.{more_fit, more_led, more_ones, partial_next, partial_ones, partial_values, partial_vote}
 use Rattle.rb_eligible.proofs.taking.take_runs.Goals as goal
 
 pub loop-first-init : goal.loop-first-init
-loop-first-init g c = record { partial = c.requires.start; sheet = c.requires.sheet }
+loop-first-init g c = record { partial = c.requires.start; all = c.requires.all; shown = c.requires.shown }
 
 pub loop-first-preserved : goal.loop-first-preserved
 loop-first-preserved g c =
@@ -27,7 +27,8 @@ loop-first-preserved g c =
           c.requires.due says taking (more_fit l.ones ones run said.one c.with_ones-ones.ensures inv.partial.fits)
           (more_ones l.left rest run l.ones ones said.one c.difference-run.ensures c.with_ones-ones.ensures)
           (more_led l.left rest run l.lead.sources lead.sources said.value l.lead.value lead.value c.difference-run.ensures c.with_run-lead.ensures) inv.partial;
-      sheet = sheet_next kept due l.left rest sole said.value l.taken taken' l.sees c.take_run-rest.new.sees inv.partial.within taking c.take_run-rest.ensures.all c.take_run-rest.ensures.shown inv.sheet;
+      all = c.take_run-rest.ensures.all;
+      shown = c.take_run-rest.ensures.shown;
     }
 
 pub returns-clause-ones : goal.returns-clause-ones
@@ -43,9 +44,12 @@ returns-clause-taken g c =
 pub returns-clause-alike : goal.returns-clause-alike
 returns-clause-alike g c = λ is.
     let l = c.loop-first in
-    partial_vote c.args.inbox.now c.args.expect.now c.args.due l.left l.ones l.lead.sources l.lead.value l.taken (c.in_default.ensures.none refl) l.invariant.sheet.all
+    partial_vote c.args.inbox.now c.args.expect.now c.args.due l.left l.ones l.lead.sources l.lead.value l.taken (c.in_default.ensures.none refl) l.invariant.all
     (c.leads.ensures is) l.invariant.partial
     ∙ sym c.unwrap_or.ensures
 
-pub returns-clause-sheet : goal.returns-clause-sheet
-returns-clause-sheet g c = c.loop-first.invariant.sheet
+pub returns-clause-all : goal.returns-clause-all
+returns-clause-all g c = c.loop-first.invariant.all
+
+pub returns-clause-shown : goal.returns-clause-shown
+returns-clause-shown g c = c.loop-first.invariant.shown

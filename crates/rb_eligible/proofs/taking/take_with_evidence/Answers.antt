@@ -15,5 +15,5 @@ returns-clause-ones g c =
 
 pub returns-clause-taken : goal.returns-clause-taken
 returns-clause-taken g c =
-    due_taken c.args.inbox.now (standing_of c.args.standing.now) c.args.expect.now c.args.expected c.due_of-due.result c.take_due-taking.new.taken c.due_of-due.ensures.due c.take_due-taking.ensures.sheet.all
+    due_taken c.args.inbox.now (standing_of c.args.standing.now) c.args.expect.now c.args.expected c.due_of-due.result c.take_due-taking.new.taken c.due_of-due.ensures.due c.take_due-taking.ensures.all
     c.take_due-taking.ensures.taken

@@ -10,7 +10,7 @@ pub returns-then-is_quiet-clause-closing : goal.returns-then-is_quiet-clause-clo
 returns-then-is_quiet-clause-closing g c = λ received shown.
     let s = standing_of c.args.standing.now in
     let sense = sense_in c.args.expect.now received in
-    c.leave_blank.ensures.closing
+    c.wipe.ensures.closing
     ∙ nothing_closing s (has c.args.expected) sense (quiet_takes s c.args.expected sense (c.is_quiet.ensures.nobody c.if-is_quiet.true))
 
 pub returns-then-is_quiet-clause-accused : goal.returns-then-is_quiet-clause-accused
