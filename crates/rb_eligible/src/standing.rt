@@ -30,6 +30,7 @@ fn one_more(calm: u16) -> u16
 }
 
 /// The set, with node i where that passes.
+#[inline(always)]
 pub fn with_passing<K: Copy>(set: NodeSet<K>, i: u8, passes: bool) -> NodeSet<K>
     requires { i < 16 }
     ensures { result ≡ (if passes then set_of (λ j. has set j || (j == i)) else set) }

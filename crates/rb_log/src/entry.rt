@@ -62,6 +62,7 @@ fn arrival_in(senders: u8, bytes: &[u8], place: usize) -> Result<Entry, LogRefus
 }
 
 /// The record at a place, or the first fault in it.
+#[inline(always)]
 #[tactic(auto, unfolding(crate::specs::Entries::entry_at))]
 pub(crate) fn entry_at(senders: u8, bytes: &[u8], place: usize) -> Result<Entry, LogRefusal>
     requires place { place < 2 ^ 63 }
