@@ -34,8 +34,8 @@ SEED shuffles. Else scenario NUMBER is what COMMAND prints for the seed SEED + N
 stands for {} in COMMAND, or behind it. Without --generator it is tools/scenario where
 tools/compare_models is, and else `robus gen {} 8`. N workers run at a time, as many as there are
 processors where it is not given. What is not named here, as --sshlogin 8/host, goes to GNU parallel
-as it is, which then starts the workers. The same line again goes on where the last run stopped; a
-greater COUNT adds to it.
+as it is, which then starts the workers. Options of this tool may stand before FOLDER, too. The same line
+again goes on where the last run stopped; a greater COUNT adds to it.
 
 The scenarios are run by the library or the proved program (make build). --model, which is --engine
 model, runs them by tools/model, a second model of the bus in Python, which is not proved and
@@ -198,6 +198,15 @@ def is_gnu_parallel() -> bool:
     return said.startswith("GNU parallel")
 
 
+def in_order(words: List[str]) -> List[str]:
+    """The words, with FOLDER, COUNT and SEED before the options of this tool that stand first."""
+    takes = {"--model": 1, "--generator": 2, "--engine": 2, "--jobs": 2}
+    at = 0
+    while words[at:] and words[at] in takes:
+        at += takes[words[at]]
+    return words[at:at + 3] + words[:at] + words[at + 3:]
+
+
 def asked_in(words: List[str]) -> Asked:
     """The options among the words."""
     asked, rest = Asked(), iter(words)
@@ -248,6 +257,7 @@ def main(words: List[str]) -> int:
     if {"--help", "-h"} & set(words):
         print(HELP)
         return 0
+    words = in_order(words)
     numbers = [int(it) for it in words[1:3] if it.isdigit()]
     if words[1:] == ["summary"]:
         return tell(Path(words[0]), rows_in(Path(words[0])))

@@ -9,6 +9,7 @@ import unittest
 from pathlib import Path
 
 from helpers import EXAMPLES, TOP, script
+from robus.campaign import in_order
 
 # Stands for GNU parallel: its version, or the command of its last words once for so many lines
 PARALLEL = """#!/usr/bin/env python3
@@ -43,6 +44,11 @@ class Campaigns(unittest.TestCase):
     def take(self, *names: str):
         for name in names:
             shutil.copy(EXAMPLES / name, self.folder)
+
+    def test_options_may_stand_first(self):
+        words = ["--model", "--jobs", "2", "FOLDER", "9", "1", "--generator", "COMMAND"]
+        self.assertEqual(in_order(words), ["FOLDER", "9", "1", "--model", "--jobs", "2", "--generator", "COMMAND"])
+        self.assertEqual(in_order(["FOLDER", "summary"]), ["FOLDER", "summary"])
 
     def test_the_rows_of_the_page(self):
         self.take("late_onset.toml", "two_sided.toml")
