@@ -4,7 +4,7 @@
 pub use inbox::Inbox;
 pub use rb_rules::{Expect, Sense};
 pub use sheet::Sheet;
-pub use standing::{Standing, with_passing};
+pub use standing::{Standing, with_node_if};
 pub use taking::{Taking, is_quiet, take_with_evidence};
 
 pub mod inbox;

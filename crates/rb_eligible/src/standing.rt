@@ -29,15 +29,15 @@ fn one_more(calm: u16) -> u16
     if calm < 4096 { calm + 1 } else { 4096 }
 }
 
-/// The set, with node i where that passes.
+/// The set, with this node added where the test holds.
 #[inline(always)]
-pub fn with_passing<K: Copy>(set: NodeSet<K>, i: u8, passes: bool) -> NodeSet<K>
-    requires { i < 16 }
-    ensures { result ≡ (if passes then set_of (λ j. has set j || (j == i)) else set) }
+pub fn with_node_if<K: Copy>(set: NodeSet<K>, node: u8, holds: bool) -> NodeSet<K>
+    requires { node < 16 }
+    ensures { result ≡ (if holds then set_of (λ j. has set j || (j == node)) else set) }
 {
     let mut with_node = set;
-    if passes {
-        with_node.insert(NodeId::of(i));
+    if holds {
+        with_node.insert(NodeId::of(node));
     }
     with_node
 }
@@ -180,7 +180,7 @@ impl<K: Copy> Standing<K> {
     {
         let mut set = NodeSet::empty();
         for i in 0..16u8 {
-            set = with_passing(set, i, self.lapses(NodeId::of(i), probation));
+            set = with_node_if(set, i, self.lapses(NodeId::of(i), probation));
         }
         set
     }

@@ -12,7 +12,7 @@ ghost use Rattle.rb_rules.specs.Standing.{is_unlike};
 
 pub use close::close_on_sheet;
 use rb_base::{Heard, NodeSet};
-use rb_eligible::{Inbox, Sheet, Standing, take_with_evidence, with_passing};
+use rb_eligible::{Inbox, Sheet, Standing, take_with_evidence, with_node_if};
 pub use rb_rules::Closing;
 use rb_rules::Expect;
 use rb_vote::majority_taken;
@@ -91,7 +91,7 @@ pub fn accuse_unlike<K: Copy>(closing: &Closing, value: Heard, standing: &mut St
     let mut differing = NodeSet::empty();
     for source in 0..16u8 {
         let taken = closing.taken[usize::from(source)];
-        differing = with_passing(differing, source, is_unlike(value, taken));
+        differing = with_node_if(differing, source, is_unlike(value, taken));
     }
     standing.accuse_differing(differing);
 }
