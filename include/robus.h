@@ -118,13 +118,13 @@ typedef struct robus_seat {
     uint16_t probation; /* 0 to 4096: after how many frames without new evidence a direct accusation lapses; 0 for never */
     uint32_t u;         /* 2 to 1000000 units of a tick */
     uint32_t r;         /* below u: by how many units a tick may be longer or shorter */
-    uint32_t dmin;      /* 1 to dmax: the least delay of a message */
-    uint32_t dmax;      /* up to 1000000000: the greatest */
-    uint32_t l;         /* 1 to 1000 ticks of a window below the sync slot */
+    uint32_t dmin;      /* 1 to dmax units: the least delay of a message */
+    uint32_t dmax;      /* up to 1000000000 units: the greatest */
+    uint32_t l;         /* 1 to 1000 ticks of a window below the sync slot, and of that slot's stage 1 */
     uint32_t h;         /* 1 to 1000: the tick of a window at which its message is sent */
     uint32_t v;         /* 1 to 1000 ticks of the sync slot's stage 2 */
     uint32_t z;         /* 1 to 1000 ticks of its stage 3 */
-    uint32_t c;         /* 0 to 1000: by how many ticks a BIU's next frame begins later */
+    uint32_t c;         /* 0 to 1000: how many ticks beyond z after its call in stage 3 a BIU begins the next frame */
     uint32_t p;         /* 0 to 1000000000 units: the bound on the skew of the nodes' first ticks of a frame */
 } robus_seat;
 

@@ -1,9 +1,9 @@
 """The words of the programs as calls. Each raises Refused where the input is refused, Failed where
 a program ends with another status than 0 and 1, and NoEngine where nothing there can run it.
 
-A scenario is a Scenario, the path of a file, the bytes of a TOML document, or a dict of its keys.
-`engine` is `library`, `program`, `model`, a path, or an Engine (robus.engines); without it the
-first of these three that is there runs the call."""
+A scenario is a Scenario, the path of a file, a TOML document as bytes or as a str of several
+lines, or a dict of its keys. `engine` is `library`, `program`, `model`, a path, or an Engine;
+without it the first of these three that is there runs the call."""
 from __future__ import annotations
 
 import os
@@ -81,7 +81,7 @@ def letters(scenario: Source, *, engine: Which = None) -> Letters:
 def group(scenario: Source, how: str, members: Iterable[str], *, engine: Which = None) -> Groups:
     """Runs a scenario; what its good BIUs find for a group of BIUs, as ["B0", "B1", "B2"].
 
-    `how` is `most`, the value that more than half of them gave, or `mid`, the middle word."""
+    `how` is `most`, the word of more than half of those that own a slot, or `mid`, the middle."""
     mask = sum({1 << biu_in(name) for name in members})
     return of_scenario(Groups, ["group", how, str(mask)], scenario, engine)
 

@@ -10,7 +10,7 @@ ROOT = {
     "slots": ("an integer, 1 to 64", "the data slots of a frame"),
     "frames": ("an integer, 1 to 4096", "the frames of the run"),
     "requests": ("an array of biu integers, 0 to 64", "how many data slots each BIU asks for"),
-    "words": ("an array of biu integers, 0 to 4294967295", "the state with which each BIU's port begins"),
+    "words": ("an array of biu integers, 0 to 4294967295", "the state with which the application at each BIU begins"),
     "apps": ('an array of biu strings: "table", "counter", "follow"', "what stands behind each BIU"),
     "plan": ("a table, as { h = 7 }", "the timing plan"),
     "delay": ("an integer, 1 to 1000000000", "the delay of a message for which no link entry stands"),
@@ -25,18 +25,18 @@ ROOT = {
 PLAN = {
     "u": ("an integer, 2 to 1000000", "units of a tick"),
     "r": ("an integer, 0 to u - 1", "by how many units a tick may be longer or shorter"),
-    "dmin": ("an integer, 1 to 1000000000, at most dmax", "the least delay"),
-    "dmax": ("an integer, 1 to 1000000000, at least dmin", "the greatest delay"),
-    "l": ("an integer, 1 to 1000", "ticks of a window below the sync slot"),
+    "dmin": ("an integer, 1 to 1000000000, at most dmax", "the least delay, in units"),
+    "dmax": ("an integer, 1 to 1000000000, at least dmin", "the greatest delay, in units"),
+    "l": ("an integer, 1 to 1000", "ticks of a window below the sync slot and of stage 1 of the sync slot"),
     "h": ("an integer, 1 to 1000", "the tick of a window at which its message is sent"),
     "v": ("an integer, 1 to 1000", "ticks of stage 2 of the sync slot"),
     "z": ("an integer, 1 to 1000", "ticks of stage 3 of the sync slot"),
-    "c": ("an integer, 0 to 1000", "by how many ticks a BIU's next frame begins later"),
-    "p": ("an integer, 0 to 1000000000", "the bound on the skew"),
+    "c": ("an integer, 0 to 1000", "how many ticks beyond z after its call in stage 3 a BIU begins the next frame"),
+    "p": ("an integer, 0 to 1000000000", "the bound on the skew of the nodes' first ticks of a frame, in units"),
 }
 CLOCK = {
     "node": (NODE, "whose clock it is"),
-    "start": ("an integer, 0 to 1000000000000", "the time of tick 0"),
+    "start": ("an integer, 0 to 1000000000000", "the time of tick 0, in units"),
     "ticks": ("an array of pairs [first tick, length], as [[0, 10000]]", "from which tick on which length stands"),
 }
 LINK = {

@@ -48,7 +48,7 @@ def short(text: str) -> str:
 
 def another_kind(data: bytes) -> str | None:
     """What the bytes are where they are no scenario, but something else that robus reads or writes."""
-    if data.startswith(b"RBL1"):
+    if data.startswith((b"RBL1", b"RBL2")):
         return "this is a log, which robus replay and robus listen read"
     if re.match(rb"e \d+ [BR]\d+ \d+ \d+$", data, re.MULTILINE):
         return "this is a report, which tools/table and robus_picture read"

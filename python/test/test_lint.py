@@ -54,7 +54,7 @@ class Spoilt(unittest.TestCase):
     def test_what_is_no_scenario(self):
         bridge = (TOP / "examples/bridges/carried_words.toml").read_bytes()
         for data, refusal, words in ((bridge, "refused 2 MissingKey", "a bridge"), (b"e 0 B0 0 0\n", "refused 1 NotToml", "a report"),
-                                     (b"RBL1\0\1", "refused 1 NotToml", "a log")):
+                                     (b"RBL1\0\1", "refused 1 NotToml", "a log"), (b"RBL2\0\1", "refused 1 NotToml", "a log")):
             said, found = lint(data)
             self.assertEqual((said, len(found)), (refusal, 1))
             self.assertIn(words, found[0].why)
