@@ -90,8 +90,8 @@ fn are_within(shortest: u32, longest: u32, segments: &[(u64, u32)]) -> bool
 }
 
 impl Clock {
-    /// A clock that starts at `start`. A segment is a first tick and the length of the ticks from
-    /// there on, `unit` give or take `drift`.
+    /// A clock whose tick 0 begins at `start`. A segment is a first tick and the length of the ticks
+    /// from there on, `unit` give or take `drift`. Times and lengths are in reference units.
     ///
     /// `NotRising` comes exactly where there is no segment, the first does not begin at tick 0, or
     /// one does not begin after the one before it; else `TickOutOfBounds` exactly where a length is
@@ -125,21 +125,22 @@ impl Clock {
         Ok(Clock { start, segments })
     }
 
-    /// The time at which tick 0 begins.
+    /// The time at which tick 0 begins, in reference units.
     pub fn start(&self) -> u64
         ensures { result ≡ self.now.start }
     {
         self.start
     }
 
-    /// The segments in order, each a first tick and the length of the ticks from there on.
+    /// The segments in order, each a first tick and the length of the ticks from there on, in
+    /// reference units.
     pub fn segments(&self) -> &[(u64, u32)]
         ensures { result.now ≡ self.now.segments }
     {
         &self.segments
     }
 
-    /// The time at which the tick begins, of ticks up to 2^31.
+    /// The time at which the tick begins, in reference units, of ticks up to 2^31.
     pub fn at(&self, tick: u64) -> u64
         requires { tick ≤ 2 ^ 31 }
         ensures time { result ≡ time_of self.now tick }
@@ -149,7 +150,8 @@ impl Clock {
         self.late_at(tick)
     }
 
-    /// The time at which the tick begins, of ticks up to 2^33, which is more than a node can have.
+    /// The time at which the tick begins, in reference units, of ticks up to 2^33, which is more
+    /// than a node can have.
     /// Without a way for clocks of one length a frame of the generated run with seed 7 costs
     /// 1,354,000 instructions in place of 1,321,400.
     #[inline(always)]
@@ -191,8 +193,8 @@ impl Clock {
         now + (tick - from) * length
     }
 
-    /// The stamp of a time: the least tick that does not begin before it. An arrival at that time
-    /// is given to a node before this tick. The time has come by tick 2^31.
+    /// The stamp of a time in reference units: the least tick that does not begin before it. An
+    /// arrival at that time is given to a node before this tick. The time has come by tick 2^31.
     #[inline(never)]
     pub fn first_at(&self, time: u64) -> u64
         requires { ComesBy (2 ^ 31) self.now time }

@@ -123,7 +123,7 @@ impl<K: Copy> Standing<K> {
         self.mismatch = self.mismatch.union(set);
     }
 
-    /// Trusts the nodes of the set no longer, for good.
+    /// From now on the nodes of the set are not trusted.
     pub fn convict(&mut self, set: NodeSet<K>)
         ensures { standing_of self.new
             ≡ record (standing_of self.old) { trusted = without self.old.trusted set } }

@@ -144,7 +144,8 @@ impl Seat {
         }
     }
 
-    /// The plan of the bus with its sizes, and the node's name; or why there is no such node.
+    /// The plan of the bus with its sizes, and the node's name; or the first reason why there is no
+    /// such node: its sizes, its number, the plan's ranges, or an inequality of the plan.
     pub fn seated(&self) -> Result<(Feasible, NodeName), NoNode>
         ensures plan { IfOk result (λ seated. seated.0 ≡ timetable_of self.now) }
         ensures name { IfOk result (λ seated. seated.1 ≡ name_of self.now) }

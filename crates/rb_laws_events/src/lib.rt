@@ -103,9 +103,9 @@ pub fn cores_follow_the_rounds()
 {}
 
 /// Any two running nodes of a world that stand in one slot begin it at most the stated skew apart,
-/// and hold one schedule, the same convicted nodes, no good one among them, and the same votes on
-/// the earlier slots of the frame: in each slot that is complete in the rounds, and at the begin of
-/// each frame.
+/// and hold the same convicted nodes, no good one among them, the same votes on the earlier slots
+/// of the frame on which both vote, and from the first data slot on one schedule: in each slot that
+/// is complete in the rounds, and at the begin of each frame.
 pub fn running_nodes_agree()
     ensures { RunningNodesAgreeInLawful }
 {}

@@ -148,8 +148,8 @@ fn rule_at(rules: &[Rule], number: u16) -> Option<Rule>
 }
 
 impl Delays {
-    /// The delays with these rules. Where several are for one message the last of them counts, and
-    /// where none is, `base`.
+    /// The delays with these rules, in reference units. Where several are for one message the last
+    /// of them counts, and where none is, `base`.
     pub fn new(alloc: Global, base: u32, rules: &[Rule]) -> Result<Delays, OutOfMemory>
         ensures { IfOk result (λ d. d ≡ record { base = base; rules = rules.now }) }
     {

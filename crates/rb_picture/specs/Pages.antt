@@ -17,7 +17,7 @@ help_text =
     ++ codes "\n"
     ++ codes "Input: a report, at most 67108864 bytes. Output: one SVG document.\n"
     ++ codes "Status: 0 done, 2 unknown words, 3 input refused, 4 input too long,\n"
-    ++ codes "5 reading failed, 6 writing failed, 7 no memory, 8 no arguments.\n"
+    ++ codes "5 reading failed, 6 writing failed, 7 no memory, 8 arguments could not be had.\n"
     ++ codes "\n"
     ++ codes "Example: robus run < examples/late_onset.toml | robus_picture > run.svg\n"
     ++ codes "Manual: docs/robus_picture.md, or man robus_picture\n"

@@ -79,7 +79,8 @@ fn fails(left: i128, right: i128) -> bool
     left < right
 }
 
-/// The left and the right side of an inequality of the plan, from 1 to 7.
+/// The left and the right side of an inequality of the plan, from 1 to 7, in reference units. The
+/// inequality fails where the left side is below the right one.
 pub fn sides(shape: &Shape, plan: &Plan, n: u8) -> (i128, i128)
     requires plan { IsPlan plan.now }
     requires first { 1 ≤ n }

@@ -44,7 +44,7 @@ convicted_at sizes me st accused =
     convicted_by (count_of accused sizes) (trusted_of me (other accused) st) (trusted_of me accused st)
     (voted_vector sizes (other accused) st)
 
--- at the tick of its next epoch a node convicts, lets accusations lapse and begins the next frame. Convictions are for good
+-- at the tick of its next epoch a node convicts, lets accusations lapse and begins the next frame. A conviction is never taken back
 unfoldable pub turn : Sizes → ℕ → Side → ℕ → NodeState → NodeState
 turn sizes probation me epoch st =
     fresh_state sizes (st.frame + 1) epoch
