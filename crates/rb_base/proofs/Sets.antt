@@ -1,13 +1,13 @@
 -- Sets of nodes: what is in a set that a test makes, and when two sets are one.
-use Rattle.std.proofs.Common.{◌≡◌, ◌≢◌, ℕ, min, max, zero, suc, ◌+◌, ◌-◌, ◌*◌, ◌%◌, ◌^◌, ◌<◌, ◌≤◌, ◌⊎◌, Bool, true, false, cond, not, ◌||◌, ◌&&◌, ◌==◌, nat_lt, bit_and, bit_or, w16, inl, inr, refl, sym, ◌∙◌, ap, add-zero, arith}
+use Rattle.std.proofs.Common.{◌≡◌, ◌≢◌, ℕ, min, max, zero, suc, ◌+◌, ◌-◌, ◌*◌, ◌/◌, ◌%◌, ◌^◌, ◌<◌, ◌≤◌, ◌⊎◌, Bool, true, false, cond, not, ◌||◌, ◌&&◌, ◌==◌, nat_lt, bit_and, bit_or, w16, inl, inr, refl, sym, ◌∙◌, ap, add-zero, arith}
 use Rattle.std.specs.Int.{bit_at, trailing_zeros}
 use Rattle.std.proofs.lemmas.Bool.{cases_lt, cases_order, le-ltb, lt-ltb}
 use Rattle.std.proofs.lemmas.Bool.Decides.{nat_tests}
-use Rattle.std.proofs.lemmas.Nat.{and_le_l, or_lt}
-use Rattle.std.proofs.lemmas.Nat.Bits.{bit_at-lt, bit_at-pow_other, bit_at-pow_same, bit_at-trailing_zeros, bit_at-zero, bit_at_above, bit_at_and, bit_at_cat_high, bit_at_cat_low, bit_at_clear_other, bit_at_clear_same, bit_at_not, bit_at_ones, bit_at_ones_above, bit_at_or, bit_at_set_other, bit_at_set_same, same_from_bits_below}
+use Rattle.std.proofs.lemmas.Nat.{and_le_l, and_le_r, or_lt}
+use Rattle.std.proofs.lemmas.Nat.Bits.{bit_at-lt, bit_at-suc, bit_at_lowest, bit_at-pow_other, bit_at-pow_same, bit_at-trailing_zeros, bit_at-zero, bit_at_above, bit_at_and, bit_at_cat_high, bit_at_cat_low, bit_at_clear_other, bit_at_clear_same, bit_at_not, bit_at_ones, bit_at_ones_above, bit_at_or, bit_at_set_other, bit_at_set_same, same_from_bits_below}
 use Rattle.std.proofs.Math.Pow.{pow_mono}
 use Rattle.rb_base.specs.Nodes.{TakesFirst, has, set_below, set_of}
-use Rattle.rb_base.proofs.Plain.{and-false, and-true, eq_self, or-false, or-true}
+use Rattle.rb_base.proofs.Plain.{and-false, and-same, and-true, eq_self, more-differs, or-false, or-true}
 
 set_below-lt : (n : ℕ) (p : ℕ → Bool) → set_below n p < 2 ^ n
 unfolding set_below
@@ -193,28 +193,34 @@ only_is k h =
       | inr order ↦ let ne : i ≢ k = apart i k order in ap (λ b. b == 1) (bit_at-pow_other k i ne) ∙ sym (eq_other i k ne)
     ]))
 
--- what is left of a set is less than it once a node was taken out
-pub without_less : (s k : ℕ) → s < 2 ^ 16 → k < 16 → has s k ≡ true → set_of (λ i. has s i && not (i == k)) < s
-without_less s k fits h inside =
-    let after = set_of (λ i. has s i && not (i == k)) in
-    let most : after ≤ s = rw (← remove_is s k fits h) (and_le_l s (65535 - 1 * 2 ^ k % 2 ^ 16)) in
-    let out : has after k ≡ false = has-set_of k (λ i. has s i && not (i == k)) h ∙ ap (λ b. has s k && not b) (eq_self k) ∙ and-false (has s k) in
-    let changed : after ≢ s = λ same. let no : true ≡ false = sym inside ∙ ap (λ t. has t k) (sym same) ∙ out in absurd cc in
-    omega (arith, most, changed)
-
 -- the number of the lowest node of a set is below 16
 pub lowest_below : (s : ℕ) → 0 < s → s < 2 ^ 16 → trailing_zeros w16 s < 16
 lowest_below s some fits = (bit_at-trailing_zeros w16 s some fits).0
 
--- the lowest node is taken out of the set
-pub takes_first : (before after k : ℕ) → 0 < before → before < 2 ^ 16 → k ≡ trailing_zeros w16 before → after ≡ set_of (λ i. has before i && not (i == k)) → TakesFirst before after k
-takes_first before after k some fits is rest =
-    let all : (trailing_zeros w16 before < 16) × (bit_at before (trailing_zeros w16 before) ≡ 1) × ((i : ℕ) → i < trailing_zeros w16 before → bit_at before i ≡ 0) =
-    bit_at-trailing_zeros w16 before some fits in
-    let inside : has before k ≡ true = rw is (ap (λ b. b == 1) all.1) in
+-- where k is the lowest 1 of n, it is the one that `n & n - 1` takes out
+has-lowest_out : (k i n : ℕ) → bit_at n k ≡ 1 → ((j : ℕ) → j < k → bit_at n j ≡ 0) → (has n i && has (n - 1) i) ≡ (has n i && not (i == k))
+has-lowest_out zero zero n one none =
+    let out : bit_at (n - 1) 0 ≡ 0 = omega (arith, bit_at_lowest n, bit_at_lowest (n - 1)) in
+    ap (λ b. has n 0 && b == 1) out
+has-lowest_out zero (suc i) n one none =
+    let half : (n - 1) / 2 ≡ n / 2 = omega (arith, bit_at_lowest n) in
+    rw (bit_at-suc n i, bit_at-suc (n - 1) i, half, more-differs (suc i) 0 (omega arith)) (and-same (has (n / 2) i) (has (n / 2) i) true (λ h. h))
+has-lowest_out (suc k) zero n one none = rw (none 0 (omega arith)) refl
+has-lowest_out (suc k) (suc i) n one none =
+    let half : (n - 1) / 2 ≡ n / 2 - 1 = omega (arith, bit_at_lowest n, none 0 (omega arith)) in
+    let next : (i == k) ≡ (suc i == suc k) = grind (arith, nat_tests) in
+    rw (bit_at-suc n i, bit_at-suc (n - 1) i, half)
+    (has-lowest_out k i (n / 2) (sym (bit_at-suc n k) ∙ one) (λ j h. sym (bit_at-suc n j) ∙ none (suc j) (omega arith)) ∙ ap (λ b. has (n / 2) i && not b) next)
+
+-- `s & s - 1` takes the lowest node out of the set
+pub takes_first : (s k : ℕ) → 0 < s → s < 2 ^ 16 → k ≡ trailing_zeros w16 s → TakesFirst s (bit_and s (s - 1)) k
+takes_first s k some fits is =
+    let all : (trailing_zeros w16 s < 16) × (bit_at s (trailing_zeros w16 s) ≡ 1) × ((i : ℕ) → i < trailing_zeros w16 s → bit_at s i ≡ 0) = bit_at-trailing_zeros w16 s some fits in
+    let one : bit_at s k ≡ 1 = rw is all.1 in
+    let none : (i : ℕ) → i < k → bit_at s i ≡ 0 = λ i h. all.2 i (let e : i < trailing_zeros w16 s = omega arith in e) in
     record {
-      inside = inside;
-      first = λ i less. ap (λ b. b == 1) (all.2 i (let e : i < trailing_zeros w16 before = omega arith in e));
-      rest = rest;
-      less = rw rest (without_less before k fits (let e : trailing_zeros w16 before < 16 = all.0 in omega arith) inside);
+      inside = ap (λ b. b == 1) one;
+      first = λ i h. ap (λ b. b == 1) (none i h);
+      rest = common_is s (s - 1) fits ∙ same_set_of _ _ (λ i _. has-lowest_out k i s one none);
+      less = let le : bit_and s (s - 1) ≤ s - 1 = and_le_r s (s - 1) in omega arith;
     }

@@ -71,7 +71,7 @@ impl<K: Copy> NodeSet<K> {
             return None;
         }
         let first = NodeId::of(self.bits.trailing_zeros() as u8);
-        self.remove(first);
+        self.bits &= self.bits - 1;
         Some(first)
     }
 
