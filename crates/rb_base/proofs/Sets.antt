@@ -193,10 +193,6 @@ only_is k h =
       | inr order ↦ let ne : i ≢ k = apart i k order in ap (λ b. b == 1) (bit_at-pow_other k i ne) ∙ sym (eq_other i k ne)
     ]))
 
--- the number of the lowest node of a set is below 16
-pub lowest_below : (s : ℕ) → 0 < s → s < 2 ^ 16 → trailing_zeros w16 s < 16
-lowest_below s some fits = (bit_at-trailing_zeros w16 s some fits).0
-
 -- where k is the lowest 1 of n, it is the one that `n & n - 1` takes out
 has-lowest_out : (k i n : ℕ) → bit_at n k ≡ 1 → ((j : ℕ) → j < k → bit_at n j ≡ 0) → (has n i && has (n - 1) i) ≡ (has n i && not (i == k))
 has-lowest_out zero zero n one none =
