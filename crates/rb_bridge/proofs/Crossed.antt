@@ -1,5 +1,5 @@
 -- Both sides, and what is said of them, from frame to frame.
-use Rattle.std.proofs.Common.{◌≡◌, ℕ, suc, ◌+◌, ◌-◌, ◌<◌, ◌≤◌, All, Bool, true, false, is_some, get_or, Option, Some, None, option_map, List, [], ◌++◌, append_assoc, refl, sym, ◌∙◌, ap, subst, arith}
+use Rattle.std.proofs.Common.{◌≡◌, ℕ, suc, ◌+◌, ◌-◌, ◌<◌, ◌≤◌, All, Bool, true, false, is_some, get_or, Option, Some, None, Result, option_map, List, [], ◌++◌, append_assoc, refl, sym, ◌∙◌, ap, subst, arith}
 use Rattle.std.specs.Io.KnownBytes.{Appends}
 use Rattle.std.specs.Option.{option_or}
 use Rattle.std.proofs.lemmas.Bool.{false≢true}
@@ -20,8 +20,8 @@ use Rattle.rb_rules_bridge.specs.Bridges.{Bridge, IsBridge, IsHead, biu_on, bus_
 use Rattle.rb_rules_bridge.specs.Texts.{Break, break_at, break_from, break_of, bridge_text, frame_text, text_from, text_with}
 use Rattle.rb_bridge.specs.declared.side.Side.{Side}
 use Rattle.rb_bridge.specs.declared.telling.Breach.{Breach}
-use Rattle.rb_bridge.specs.Sides.{BeforeFrame, GivesAll, RunsOut}
-use Rattle.rb_bridge.specs.Crossing.{ArePlain, AreReady, AreThrough, BreaksOff, Crosses, CrossesPart, FindBoth, GiveAll, GiveSome, GoThrough, WritesAll, WritesPart, shown, told_text}
+use Rattle.rb_bridge.specs.Sides.{BeforeFrame, GivesAll, RunsOut, drive_of}
+use Rattle.rb_bridge.specs.Crossing.{ArePlain, AreReady, AreThrough, BreaksOff, BridgeRun, Crosses, CrossesAll, CrossesPart, FindBoth, GiveAll, GiveSome, GoThrough, MayCross, WritesAll, WritesPart, run_after, run_of, shown, told_text}
 use Rattle.rb_bridge.proofs.Opened.{all-are-some, gives-all}
 use Rattle.rb_bridge.proofs.Told.{finds}
 
@@ -56,40 +56,39 @@ pub none-found : (o : Option Breach) → is_some o ≡ false → o ≡ None
 none-found None e = refl
 none-found (Some x) e = cc
 
-find-both : (b : Bridge) (frame : ℕ) (both lp : Bool) (ltold lsince : Option (List Turn)) (rp : Bool) (rtold rsince : Option (List Turn)) (l r : Side) → frame < b.left.frames
-    → ArePlain both lp rp → both ≡ true → AreThrough b frame both lp ltold lsince rp rtold rsince l r → FindBoth b frame l r
-find-both b frame both lp ltold lsince rp rtold rsince l r below plain sure is = record {
-  left = finds b Left frame both lp ltold lsince l (omega (arith, below)) sure (plain.left sure) is.left is.unbroken.left;
-  right = finds b Right frame both rp rtold rsince r (omega (arith, below)) sure (plain.right sure) is.right is.unbroken.right;
+find-both : (x : BridgeRun) (frame : ℕ) (l r : Side) → frame < x.b.left.frames → ArePlain x.both x.left.is_plain x.right.is_plain → x.both ≡ true → AreThrough x frame l r
+    → FindBoth x.b frame l r
+find-both x frame l r below plain sure is = record {
+  left = finds x.b Left frame x.both x.left.is_plain x.left.told x.left.since l (omega (arith, below)) sure (plain.left sure) is.left is.unbroken.left;
+  right = finds x.b Right frame x.both x.right.is_plain x.right.told x.right.since r (omega (arith, below)) sure (plain.right sure) is.right is.unbroken.right;
 }
 
 -- what is written of a frame is what is said of it
-pub told-all : (b : Bridge) (frame : ℕ) (both lp : Bool) (ltold lsince : Option (List Turn)) (rp : Bool) (rtold rsince : Option (List Turn)) (l r : Side) (o : Option Breach) (P : List ℕ → Type 0)
-    → frame < b.left.frames → ArePlain both lp rp → GoThrough b frame both lp ltold lsince rp rtold rsince l r (option_map shown o)
-    → ((o ≡ None → FindBoth b frame l r) → P (told_text b frame (option_map shown o))) → both ≡ true → P (told_text b frame (break_at b frame))
-told-all b frame both lp ltold lsince rp rtold rsince l r o P below plain is writes sure =
-    subst (λ k. P (told_text b frame k)) (sym (is.breach_is sure))
-    (writes (λ none. find-both b frame both lp ltold lsince rp rtold rsince l r below plain sure (is.through (ap (option_map shown) none))))
+pub told-all : (x : BridgeRun) (frame : ℕ) (l r : Side) (o : Option Breach) (P : List ℕ → Type 0)
+    → frame < x.b.left.frames → ArePlain x.both x.left.is_plain x.right.is_plain → GoThrough x frame l r (option_map shown o)
+    → ((o ≡ None → FindBoth x.b frame l r) → P (told_text x.b frame (option_map shown o))) → x.both ≡ true → P (told_text x.b frame (break_at x.b frame))
+told-all x frame l r o P below plain is writes sure =
+    subst (λ k. P (told_text x.b frame k)) (sym (is.breach_is sure))
+    (writes (λ none. find-both x frame l r below plain sure (is.through (ap (option_map shown) none))))
 
-pub breaks-off : (b : Bridge) (frame : ℕ) (both lp : Bool) (ltold lsince : Option (List Turn)) (rp : Bool) (rtold rsince : Option (List Turn)) (l r m n : Side) (o : Option Breach) (x : Breach)
-    (held after : Option (List ℕ)) → GoThrough b frame both lp ltold lsince rp rtold rsince l r (option_map shown o) → o ≡ Some x
-    → (both ≡ true → Appends held after (told_text b frame (break_at b frame))) → Crosses b frame both lp ltold lsince rp rtold rsince m n held after false
-breaks-off b frame both lp ltold lsince rp rtold rsince l r m n o x held after is found text = record {
+pub breaks-off : (x : BridgeRun) (frame : ℕ) (l r m n : Side) (o : Option Breach) (found : Breach) (held after : Option (List ℕ))
+    → GoThrough x frame l r (option_map shown o) → o ≡ Some found → (x.both ≡ true → Appends held after (told_text x.b frame (break_at x.b frame)))
+    → CrossesAll x frame (m, n) held after false
+breaks-off x frame l r m n o found held after is is_found text = record {
   some = is.some;
   text = text;
   ready = λ e. absurd (false≢true e);
   unbroken = λ e sure. absurd (false≢true e);
-  broken = λ e. record { break = shown x; break_is = λ sure. is.breach_is sure ∙ here; all = is.broken (shown x) here };
+  broken = λ e. record { break = shown found; break_is = λ sure. is.breach_is sure ∙ here; all = is.broken (shown found) here };
 }
   where
-    here : option_map shown o ≡ Some (shown x)
-    here = ap (option_map shown) found
+    here : option_map shown o ≡ Some (shown found)
+    here = ap (option_map shown) is_found
 
-pub goes-on : (b : Bridge) (frame : ℕ) (both lp : Bool) (ltold lsince : Option (List Turn)) (rp : Bool) (rtold rsince : Option (List Turn)) (l r m n : Side) (o : Option Breach)
-    (held after : Option (List ℕ)) → GoThrough b frame both lp ltold lsince rp rtold rsince l r (option_map shown o) → o ≡ None
-    → (both ≡ true → Appends held after (told_text b frame (break_at b frame))) → AreReady b (frame + 1) both lp ltold lsince rp rtold rsince m n
-    → Crosses b frame both lp ltold lsince rp rtold rsince m n held after true
-goes-on b frame both lp ltold lsince rp rtold rsince l r m n o held after is none text ready = record {
+pub goes-on : (x : BridgeRun) (frame : ℕ) (l r m n : Side) (o : Option Breach) (held after : Option (List ℕ))
+    → GoThrough x frame l r (option_map shown o) → o ≡ None → (x.both ≡ true → Appends held after (told_text x.b frame (break_at x.b frame)))
+    → AreReady x (frame + 1) m n → CrossesAll x frame (m, n) held after true
+goes-on x frame l r m n o held after is none text ready = record {
   some = is.some;
   text = text;
   ready = λ e. ready;
@@ -101,10 +100,9 @@ goes-on b frame both lp ltold lsince rp rtold rsince l r m n o held after is non
     never e = cc
 
 -- or it was written in part
-pub crosses-part : (b : Bridge) (frame : ℕ) (both lp : Bool) (ltold lsince : Option (List Turn)) (rp : Bool) (rtold rsince : Option (List Turn)) (l r : Side) (o : Option Breach)
-    (held after : Option (List ℕ)) → GoThrough b frame both lp ltold lsince rp rtold rsince l r (option_map shown o)
-    → (both ≡ true → AppendsPart held after (told_text b frame (break_at b frame))) → CrossesPart b frame both lp ltold lsince rp rtold rsince held after
-crosses-part b frame both lp ltold lsince rp rtold rsince l r o held after is text = record { some = is.some; text = text }
+pub crosses-part : (x : BridgeRun) (frame : ℕ) (l r : Side) (o : Option Breach) (held after : Option (List ℕ))
+    → GoThrough x frame l r (option_map shown o) → (x.both ≡ true → AppendsPart held after (told_text x.b frame (break_at x.b frame))) → CrossesPart x frame held after
+crosses-part x frame l r o held after is text = record { some = is.some; text = text }
 
 -- The text.
 
@@ -190,60 +188,54 @@ end-part b frame held mid after is all now =
 
 -- All frames.
 
+-- a run of a bridge, by each part of what is seen of its drives
+abbrev pub run_with : Bridge → Bool → Bool → Option (List Turn) → Option (List Turn) → Bool → Option (List Turn) → Option (List Turn) → BridgeRun
+run_with b both lp ltold lsince rp rtold rsince = run_of b both (drive_of lp ltold lsince) (drive_of rp rtold rsince)
+
 -- both go into a frame, and what was said before it is written
-pub record IsCrossing (b : Bridge) (frame : ℕ) (both lp : Bool) (ltold lsince : Option (List Turn)) (rp : Bool) (rtold rsince : Option (List Turn)) (l r : Side) (held after : Option (List ℕ)) : Type 0 where
-  pub ready : AreReady b frame both lp ltold lsince rp rtold rsince l r
-  pub text : both ≡ true → IsWritten b frame held after
+pub record IsCrossing (x : BridgeRun) (frame : ℕ) (l r : Side) (held after : Option (List ℕ)) : Type 0 where
+  pub ready : AreReady x frame l r
+  pub text : x.both ≡ true → IsWritten x.b frame held after
 
 -- what a frame makes of them, where the drives are as plain as they were
-now-crosses : (b : Bridge) (frame : ℕ) (both now_lp now_rp lp rp : Bool) (ltold lmid lsince rtold rmid rsince : Option (List Turn)) (l r : Side) (P : Bool → Bool → Type 0) → now_lp ≡ lp → now_rp ≡ rp
-    → AreReady b frame both lp ltold lmid rp rtold rmid l r → ArePlain both lp rp
-    → (ArePlain both now_lp now_rp → AreReady b frame both now_lp ltold lmid now_rp rtold rmid l r → P now_lp now_rp) → P lp rp
-now-crosses b frame both now_lp now_rp lp rp ltold lmid lsince rtold rmid rsince l r P e f ready plain crosses =
-    restated (λ lp rp. ArePlain both lp rp → AreReady b frame both lp ltold lmid rp rtold rmid l r → P lp rp) now_lp now_rp lp rp e f crosses plain ready
+pub now-crosses : {E : Type 0} (b : Bridge) (pairs : List Pair) (frame : ℕ) (both now_lp now_rp lp rp : Bool) (ltold lmid lsince rtold rmid rsince : Option (List Turn)) (l r : Side) (sides : Side × Side)
+    (mid after : Option (List ℕ)) (result : Result Bool E) → IsBridge b → b.pairs ≡ pairs → frame < b.left.frames → now_lp ≡ lp → now_rp ≡ rp
+    → AreReady (run_with b both lp ltold lmid rp rtold rmid) frame l r → ArePlain both lp rp
+    → ((x : MayCross pairs frame (record { left = drive_of now_lp lmid lsince; right = drive_of now_rp rmid rsince }) l r) → Crosses (run_after x.run) frame sides mid after result)
+    → Crosses (run_with b both lp ltold lsince rp rtold rsince) frame sides mid after result
+now-crosses b pairs frame both now_lp now_rp lp rp ltold lmid lsince rtold rmid rsince l r sides mid after result bridge same below e f ready plain crosses =
+    restated (λ lp rp. Crosses (run_with b both lp ltold lsince rp rtold rsince) frame sides mid after result) now_lp now_rp lp rp e f
+    (crosses (record {
+      run = record { b = b; both = both; left_told = ltold; right_told = rtold; bridge = bridge; within = below; plain = now_plain; ready = now_ready };
+      pairs_are = same;
+    }))
+  where
+    now_plain : ArePlain both now_lp now_rp
+    now_plain = restated (ArePlain both) lp rp now_lp now_rp (sym e) (sym f) plain
 
-pub next-crossing : (b : Bridge) (frame : ℕ) (both now_lp now_rp lp rp : Bool) (ltold lmid lsince rtold rmid rsince : Option (List Turn)) (l r m n : Side) (held mid after : Option (List ℕ)) (on : Bool)
-    → now_lp ≡ lp → now_rp ≡ rp → IsCrossing b frame both lp ltold lmid rp rtold rmid l r held mid → frame < b.left.frames → ArePlain both lp rp
-    → (ArePlain both now_lp now_rp → AreReady b frame both now_lp ltold lmid now_rp rtold rmid l r → Crosses b frame both now_lp ltold lsince now_rp rtold rsince m n mid after on)
-    → on ≡ true → IsCrossing b (frame + 1) both lp ltold lsince rp rtold rsince m n held after
-next-crossing b frame both now_lp now_rp lp rp ltold lmid lsince rtold rmid rsince l r m n held mid after on e f is below plain crosses goes =
-    let now : Crosses b frame both lp ltold lsince rp rtold rsince m n mid after on =
-    now-crosses b frame both now_lp now_rp lp rp ltold lmid lsince rtold rmid rsince l r (λ lp rp. Crosses b frame both lp ltold lsince rp rtold rsince m n mid after on) e f is.ready plain crosses in
-    record { ready = now.ready goes; text = λ sure. next-written b frame held mid after (is.text sure) below (now.unbroken goes sure) (now.text sure) }
+    now_ready : AreReady (run_with b both now_lp ltold lmid now_rp rtold rmid) frame l r
+    now_ready = restated (λ lp rp. AreReady (run_with b both lp ltold lmid rp rtold rmid) frame l r) lp rp now_lp now_rp (sym e) (sym f) ready
 
-pub broken-crossing : (b : Bridge) (frame : ℕ) (both now_lp now_rp lp rp : Bool) (ltold lmid lsince rtold rmid rsince : Option (List Turn)) (l r m n : Side) (held mid after : Option (List ℕ)) (on : Bool)
-    → now_lp ≡ lp → now_rp ≡ rp → IsCrossing b frame both lp ltold lmid rp rtold rmid l r held mid → frame < b.left.frames → ArePlain both lp rp
-    → (ArePlain both now_lp now_rp → AreReady b frame both now_lp ltold lmid now_rp rtold rmid l r → Crosses b frame both now_lp ltold lsince now_rp rtold rsince m n mid after on)
-    → on ≡ false → WritesAll b both lp ltold lsince rp rtold rsince held after ending.Breach
-broken-crossing b frame both now_lp now_rp lp rp ltold lmid lsince rtold rmid rsince l r m n held mid after on e f is below plain crosses stops =
-    let now : Crosses b frame both lp ltold lsince rp rtold rsince m n mid after on =
-    now-crosses b frame both now_lp now_rp lp rp ltold lmid lsince rtold rmid rsince l r (λ lp rp. Crosses b frame both lp ltold lsince rp rtold rsince m n mid after on) e f is.ready plain crosses in
-    let off : BreaksOff b frame both lp ltold lsince rp rtold rsince = now.broken stops in
+pub next-crossing : (x : BridgeRun) (frame : ℕ) (m n : Side) (held mid after : Option (List ℕ)) (on : Bool) → CrossesAll x frame (m, n) mid after on
+    → (x.both ≡ true → IsWritten x.b frame held mid) → frame < x.b.left.frames → on ≡ true → IsCrossing x (frame + 1) m n held after
+next-crossing x frame m n held mid after on now written below goes =
+    record { ready = now.ready goes; text = λ sure. next-written x.b frame held mid after (written sure) below (now.unbroken goes sure) (now.text sure) }
+
+pub broken-crossing : (x : BridgeRun) (frame : ℕ) (sides : Side × Side) (held mid after : Option (List ℕ)) (on : Bool) → CrossesAll x frame sides mid after on
+    → (x.both ≡ true → IsWritten x.b frame held mid) → frame < x.b.left.frames → on ≡ false → WritesAll x held after ending.Breach
+broken-crossing x frame sides held mid after on now written below stops =
+    let off : BreaksOff x frame = now.broken stops in
     record {
       some = now.some;
-      text = λ sure. (break-written b frame held mid after off.break (is.text sure) below (off.break_is sure) (now.text sure)).0;
-      ends = (off.break, (λ sure. (break-written b frame held mid after off.break (is.text sure) below (off.break_is sure) (now.text sure)).1, (frame, off.all)));
+      text = λ sure. (break-written x.b frame held mid after off.break (written sure) below (off.break_is sure) (now.text sure)).0;
+      ends = (off.break, (λ sure. (break-written x.b frame held mid after off.break (written sure) below (off.break_is sure) (now.text sure)).1, (frame, off.all)));
     }
 
-pub part-crossing : (b : Bridge) (frame : ℕ) (both now_lp now_rp lp rp : Bool) (ltold lmid lsince rtold rmid rsince : Option (List Turn)) (l r : Side) (held mid after : Option (List ℕ))
-    → now_lp ≡ lp → now_rp ≡ rp → IsCrossing b frame both lp ltold lmid rp rtold rmid l r held mid → frame < b.left.frames → ArePlain both lp rp
-    → (ArePlain both now_lp now_rp → AreReady b frame both now_lp ltold lmid now_rp rtold rmid l r → CrossesPart b frame both now_lp ltold lsince now_rp rtold rsince mid after)
-    → WritesPart b both lp ltold lsince rp rtold rsince held after
-part-crossing b frame both now_lp now_rp lp rp ltold lmid lsince rtold rmid rsince l r held mid after e f is below plain crosses =
-    let now : CrossesPart b frame both lp ltold lsince rp rtold rsince mid after =
-    now-crosses b frame both now_lp now_rp lp rp ltold lmid lsince rtold rmid rsince l r (λ lp rp. CrossesPart b frame both lp ltold lsince rp rtold rsince mid after) e f is.ready plain crosses in
-    record { some = now.some; text = λ sure. part-written b frame held mid after (is.text sure) below (now.text sure) }
+pub part-crossing : (x : BridgeRun) (frame : ℕ) (held mid after : Option (List ℕ)) → CrossesPart x frame mid after
+    → (x.both ≡ true → IsWritten x.b frame held mid) → frame < x.b.left.frames → WritesPart x held after
+part-crossing x frame held mid after now written below = record { some = now.some; text = λ sure. part-written x.b frame held mid after (written sure) below (now.text sure) }
 
 -- After the last frame.
-
--- a drive was asked for all turns that were left
-all-given : (b : Bridge) (bank : Bank) (frame : ℕ) (both now_plain is_plain : Bool) (told mid since : Option (List Turn)) (s : Side) → frame ≡ b.left.frames → now_plain ≡ is_plain → BeforeFrame b bank frame both is_plain told mid s
-    → ((sc : Scenario) (handed : List HandIn) (told : Option (List Turn)) (turns : List Turn) → IsUnderWay sc handed now_plain told mid s.world turns (is_last (record_of s.turn)) → RunsOut sc handed now_plain told since)
-    → GivesAll b bank frame both is_plain told since
-all-given b bank frame both now_plain is_plain told mid since s all e is finish =
-    gives-all b bank frame both is_plain told mid since s all is
-    (subst (λ p. (sc : Scenario) (handed : List HandIn) (told : Option (List Turn)) (turns : List Turn) → IsUnderWay sc handed p told mid s.world turns (is_last (record_of s.turn)) → RunsOut sc handed p told since) e finish
-    (bus_on b bank) is.handed told is.turns is.ready.given)
 
 -- what is asked of a drive that gives all turns that are left
 abbrev pub Finishes : Bool → Option (List Turn) → Option (List Turn) → Side → Type 0
@@ -251,33 +243,33 @@ Finishes is_plain mid since s =
     (sc : Scenario) (handed : List HandIn) (told : Option (List Turn)) (turns : List Turn)
     → IsUnderWay sc handed is_plain told mid s.world turns (is_last (record_of s.turn)) → RunsOut sc handed is_plain told since
 
-both-given : (b : Bridge) (frame : ℕ) (both now_lp now_rp lp rp : Bool) (ltold lmid lsince rtold rmid rsince : Option (List Turn)) (l r : Side) → frame ≡ b.left.frames → now_lp ≡ lp → now_rp ≡ rp
-    → AreReady b frame both lp ltold lmid rp rtold rmid l r → Finishes now_lp lmid lsince l → Finishes now_rp rmid rsince r → GiveAll b frame both lp ltold lsince rp rtold rsince
+-- a drive was asked for them
+all-given : (b : Bridge) (bank : Bank) (frame : ℕ) (both now_plain is_plain : Bool) (told mid since : Option (List Turn)) (s : Side) → frame ≡ b.left.frames → now_plain ≡ is_plain
+    → BeforeFrame b bank frame both (drive_of is_plain told mid) s → Finishes now_plain mid since s → GivesAll b bank frame both (drive_of is_plain told since)
+all-given b bank frame both now_plain is_plain told mid since s all e is finish =
+    gives-all b bank frame both is_plain told mid since s all is (subst (λ p. Finishes p mid since s) e finish (bus_on b bank) is.handed told is.turns is.ready.given)
+
+pub both-given : (b : Bridge) (frame : ℕ) (both now_lp now_rp lp rp : Bool) (ltold lmid lsince rtold rmid rsince : Option (List Turn)) (l r : Side) → frame ≡ b.left.frames → now_lp ≡ lp → now_rp ≡ rp
+    → AreReady (run_with b both lp ltold lmid rp rtold rmid) frame l r → Finishes now_lp lmid lsince l → Finishes now_rp rmid rsince r → GiveAll (run_with b both lp ltold lsince rp rtold rsince) frame
 both-given b frame both now_lp now_rp lp rp ltold lmid lsince rtold rmid rsince l r all e f ready left right = record {
   left = all-given b Left frame both now_lp lp ltold lmid lsince l all e ready.left left;
   right = all-given b Right frame both now_rp rp rtold rmid rsince r all f ready.right right;
 }
 
-both-some : (b : Bridge) (frame : ℕ) (both lp : Bool) (ltold lsince : Option (List Turn)) (rp : Bool) (rtold rsince : Option (List Turn)) → GiveAll b frame both lp ltold lsince rp rtold rsince
-    → GiveSome b both lp ltold lsince rp rtold rsince
-both-some b frame both lp ltold lsince rp rtold rsince is =
-    record { left = all-are-some b Left frame both lp ltold lsince is.left; right = all-are-some b Right frame both rp rtold rsince is.right }
-
-pub ended-crossing : (b : Bridge) (frame : ℕ) (both now_lp now_rp lp rp : Bool) (ltold lmid lsince rtold rmid rsince : Option (List Turn)) (l r : Side) (held mid after : Option (List ℕ))
-    → now_lp ≡ lp → now_rp ≡ rp → IsCrossing b frame both lp ltold lmid rp rtold rmid l r held mid → frame ≡ b.left.frames
-    → Finishes now_lp lmid lsince l → Finishes now_rp rmid rsince r → Appends mid after (end_text frame) → WritesAll b both lp ltold lsince rp rtold rsince held after ending.Ended
-ended-crossing b frame both now_lp now_rp lp rp ltold lmid lsince rtold rmid rsince l r held mid after e f is all left right now =
-    let given : GiveAll b frame both lp ltold lsince rp rtold rsince = both-given b frame both now_lp now_rp lp rp ltold lmid lsince rtold rmid rsince l r all e f is.ready left right in
-    record {
-      some = both-some b frame both lp ltold lsince rp rtold rsince given;
-      text = λ sure. (end-written b frame held mid after (is.text sure) all now).0;
-      ends = (λ sure. (end-written b frame held mid after (is.text sure) all now).1, subst (λ f. GiveAll b f both lp ltold lsince rp rtold rsince) all given);
-    }
-
-pub end-crossing : (b : Bridge) (frame : ℕ) (both now_lp now_rp lp rp : Bool) (ltold lmid lsince rtold rmid rsince : Option (List Turn)) (l r : Side) (held mid after : Option (List ℕ))
-    → now_lp ≡ lp → now_rp ≡ rp → IsCrossing b frame both lp ltold lmid rp rtold rmid l r held mid → frame ≡ b.left.frames
-    → Finishes now_lp lmid lsince l → Finishes now_rp rmid rsince r → AppendsPart mid after (end_text frame) → WritesPart b both lp ltold lsince rp rtold rsince held after
-end-crossing b frame both now_lp now_rp lp rp ltold lmid lsince rtold rmid rsince l r held mid after e f is all left right now = record {
-  some = both-some b frame both lp ltold lsince rp rtold rsince (both-given b frame both now_lp now_rp lp rp ltold lmid lsince rtold rmid rsince l r all e f is.ready left right);
-  text = λ sure. end-part b frame held mid after (is.text sure) all now;
+both-some : (x : BridgeRun) (frame : ℕ) → GiveAll x frame → GiveSome x
+both-some x frame is = record {
+  left = all-are-some x.b Left frame x.both x.left.is_plain x.left.told x.left.since is.left;
+  right = all-are-some x.b Right frame x.both x.right.is_plain x.right.told x.right.since is.right;
 }
+
+pub ended-crossing : (x : BridgeRun) (frame : ℕ) (held mid after : Option (List ℕ)) → GiveAll x frame
+    → (x.both ≡ true → IsWritten x.b frame held mid) → frame ≡ x.b.left.frames → Appends mid after (end_text frame) → WritesAll x held after ending.Ended
+ended-crossing x frame held mid after given written all now = record {
+  some = both-some x frame given;
+  text = λ sure. (end-written x.b frame held mid after (written sure) all now).0;
+  ends = (λ sure. (end-written x.b frame held mid after (written sure) all now).1, subst (GiveAll x) all given);
+}
+
+pub end-crossing : (x : BridgeRun) (frame : ℕ) (held mid after : Option (List ℕ)) → GiveAll x frame
+    → (x.both ≡ true → IsWritten x.b frame held mid) → frame ≡ x.b.left.frames → AppendsPart mid after (end_text frame) → WritesPart x held after
+end-crossing x frame held mid after given written all now = record { some = both-some x frame given; text = λ sure. end-part x.b frame held mid after (written sure) all now }

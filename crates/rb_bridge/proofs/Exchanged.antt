@@ -37,7 +37,7 @@ use Rattle.rb_bridge.proofs.FramesTold.{passed-tells}
 use Rattle.rb_bridge.proofs.Handed.{handed_for}
 use Rattle.rb_bridge.proofs.UnderWay.{handed-over, latest-more}
 use Rattle.rb_bridge.specs.declared.side.Side.{Side}
-use Rattle.rb_bridge.specs.Sides.{AfterFrame, BeforeFrame, IsInStep, TurnsOver, break_by}
+use Rattle.rb_bridge.specs.Sides.{AfterFrame, BeforeFrame, IsInStep, TurnsOver, break_by, drive_of}
 use Rattle.rb_bridge.proofs.SidesHanded.{AreHanded, are-handed, begins-next, frames-on, handed-next}
 use Rattle.rb_bridge.proofs.SidesPassed.{over-some}
 
@@ -123,10 +123,10 @@ breaks-there bank frames f (Breach place cause) last its below none = by (place.
 pub exchanged : (b : Bridge) (bank : Bank) (frame : ℕ) (both is_plain is_plain' : Bool) (told since told' since' : Option (List Turn)) (s o : Side) (world : KeptWorld) (passage : Passage)
     → IsBridge b → frame < b.left.frames → (both ≡ true → is_plain ≡ true) → (both ≡ true → is_plain' ≡ true)
     → (both ≡ true → break_by bank frame (record_of s.turn) ≡ None) → (both ≡ true → break_by (across bank) frame (record_of o.turn) ≡ None)
-    → AfterFrame b bank frame both is_plain told since s → AfterFrame b (across bank) frame both is_plain' told' since' o
+    → AfterFrame b bank frame both (drive_of is_plain told since) s → AfterFrame b (across bank) frame both (drive_of is_plain' told' since') o
     → ((told : ℕ → Option Heard) (w : World) → HoldValues told o.passage.values → Stands s.world w → Stands world (with_words s.world.bus bank told b.pairs w))
     → world.bus ≡ s.world.bus → TurnsOver s.terms s.turn s.passage passage
-    → BeforeFrame b bank (frame + 1) both is_plain told since (record s { world = world; passage = passage })
+    → BeforeFrame b bank (frame + 1) both (drive_of is_plain told since) (record s { world = world; passage = passage })
 exchanged b bank frame both is_plain is_plain' told since told' since' s o world passage bridge below plain plain' unbroken unbroken' after other hands bus turns = record {
   side = record { bus_is = bus ∙ after.side.bus_is; terms_are = after.side.terms_are; scope_is = after.side.scope_is };
   handed = after.handed ++ h.more;

@@ -19,7 +19,7 @@ use Rattle.rb_bridge.specs.Passing.{HoldsPassage}
 use Rattle.rb_bridge.specs.Running.{IsUnderWay}
 use Rattle.rb_bridge.proofs.UnderWay.{begins, few-turns, goes}
 use Rattle.rb_bridge.specs.declared.side.Side.{Side}
-use Rattle.rb_bridge.specs.Sides.{BeforeFrame, GivesAll, GivesSome, HasOpened, RunsOut}
+use Rattle.rb_bridge.specs.Sides.{BeforeFrame, GivesAll, GivesSome, HasOpened, RunsOut, drive_of}
 use Rattle.rb_bridge.proofs.Told.{all-given-of}
 
 -- Before the first frame.
@@ -28,7 +28,7 @@ true-false : (a : Bool) → a ≡ false → a ≡ true → ⊥
 true-false a gone sure = cc
 
 pub opened-before : (b : Bridge) (bank : Bank) (both is_plain : Bool) (told : Option (List Turn)) (s : Side) → HasOpened (bus_on b bank) (members_on b bank) (slot_on b bank) s
-    → BeforeFrame b bank 0 both is_plain told told s
+    → BeforeFrame b bank 0 both (drive_of is_plain told told) s
 opened-before b bank both is_plain told s is = record {
   side = record { bus_is = is.bus_is; terms_are = is.terms_are; scope_is = is.scope_is };
   handed = [];
@@ -98,8 +98,8 @@ few-finished sc handed is_plain told since s turns passed is =
     let many : length is.more ≡ passed = is.many in
     omega (arith, few, all, many)
 
-pub gives-all : (b : Bridge) (bank : Bank) (frame : ℕ) (both is_plain : Bool) (told mid since : Option (List Turn)) (s : Side) → frame ≡ b.left.frames → (is : BeforeFrame b bank frame both is_plain told mid s)
-    → RunsOut (bus_on b bank) is.handed is_plain told since → GivesAll b bank frame both is_plain told since
+pub gives-all : (b : Bridge) (bank : Bank) (frame : ℕ) (both is_plain : Bool) (told mid since : Option (List Turn)) (s : Side) → frame ≡ b.left.frames → (is : BeforeFrame b bank frame both (drive_of is_plain told mid) s)
+    → RunsOut (bus_on b bank) is.handed is_plain told since → GivesAll b bank frame both (drive_of is_plain told since)
 gives-all b bank frame both is_plain told mid since s all is out = record {
   handed = is.handed;
   turns = out.turns;
@@ -108,7 +108,7 @@ gives-all b bank frame both is_plain told mid since s all is out = record {
   crosses = λ sure. ap (records_of (bus_on b bank)) ((is.plain sure).handed_is ∙ ap (λ n. hands_on bank (hands_up_to b n)) all);
 }
 
-pub all-are-some : (b : Bridge) (bank : Bank) (frame : ℕ) (both is_plain : Bool) (told since : Option (List Turn)) → GivesAll b bank frame both is_plain told since → GivesSome b bank both is_plain told since
+pub all-are-some : (b : Bridge) (bank : Bank) (frame : ℕ) (both is_plain : Bool) (told since : Option (List Turn)) → GivesAll b bank frame both (drive_of is_plain told since) → GivesSome b bank both (drive_of is_plain told since)
 all-are-some b bank frame both is_plain told since is = record {
   frame = frame;
   handed = is.handed;

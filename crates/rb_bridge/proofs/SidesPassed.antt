@@ -20,7 +20,7 @@ use Rattle.rb_bridge.specs.Passing.{HoldsPassage, IsOnItsWay, PassesFrame, is_ov
 use Rattle.rb_bridge.specs.Running.{AreNotLast, IsUnderWay}
 use Rattle.rb_bridge.proofs.FramesTold.{passed-tells}
 use Rattle.rb_bridge.specs.declared.side.Side.{Side}
-use Rattle.rb_bridge.specs.Sides.{AfterFrame, BeforeFrame, HasStopped, IsInStep, IsUp, break_by}
+use Rattle.rb_bridge.specs.Sides.{AfterFrame, BeforeFrame, HasStopped, IsInStep, IsUp, break_by, drive_of}
 
 -- Turns beyond a frame.
 
@@ -55,8 +55,8 @@ le-of a b h = omega (arith, h)
 -- The run had ended.
 
 pub stays-through : (b : Bridge) (bank : Bank) (frame : ℕ) (both is_plain : Bool) (told since : Option (List Turn)) (s : Side) → frame < b.left.frames
-    → (both ≡ true → is_plain ≡ true) → BeforeFrame b bank frame both is_plain told since s → is_last (record_of s.turn) ≡ true
-    → AfterFrame b bank frame both is_plain told since s
+    → (both ≡ true → is_plain ≡ true) → BeforeFrame b bank frame both (drive_of is_plain told since) s → is_last (record_of s.turn) ≡ true
+    → AfterFrame b bank frame both (drive_of is_plain told since) s
 stays-through b bank frame both is_plain told since s below plain before last =
     let stop : HasStopped (bus_on b bank) before.handed is_plain told since s = before.ready.stopped last in
     record {
@@ -77,14 +77,14 @@ stays-through b bank frame both is_plain told since s below plain before last =
 -- The drive gave its turns.
 
 -- these are the turns before the frame's own
-going-on : (b : Bridge) (bank : Bank) (frame : ℕ) (both is_plain : Bool) (told since : Option (List Turn)) (s : Side) → (before : BeforeFrame b bank frame both is_plain told since s)
+going-on : (b : Bridge) (bank : Bank) (frame : ℕ) (both is_plain : Bool) (told since : Option (List Turn)) (s : Side) → (before : BeforeFrame b bank frame both (drive_of is_plain told since) s)
     → is_last (record_of s.turn) ≡ false → IsUnderWay s.world.bus before.handed is_plain told since s.world before.turns false
 going-on b bank frame both is_plain told since s before last =
     subst (λ sc. IsUnderWay sc before.handed is_plain told since s.world before.turns false) (sym before.side.bus_is)
     (subst (λ over. IsUnderWay (bus_on b bank) before.handed is_plain told since s.world before.turns over) last before.ready.given)
 
 -- so the drive may be asked for more
-pub on-its-way : (b : Bridge) (bank : Bank) (frame : ℕ) (both is_plain : Bool) (told since : Option (List Turn)) (s : Side) → BeforeFrame b bank frame both is_plain told since s
+pub on-its-way : (b : Bridge) (bank : Bank) (frame : ℕ) (both is_plain : Bool) (told since : Option (List Turn)) (s : Side) → BeforeFrame b bank frame both (drive_of is_plain told since) s
     → is_last (record_of s.turn) ≡ false → IsOnItsWay is_plain since s.world s.terms s.passage
 on-its-way b bank frame both is_plain told since s before last = record {
   handed = before.handed;
@@ -95,7 +95,7 @@ on-its-way b bank frame both is_plain told since s before last = record {
 }
 
 -- or for the rest
-pub is-up : (b : Bridge) (bank : Bank) (frame : ℕ) (both is_plain : Bool) (told since : Option (List Turn)) (s : Side) → BeforeFrame b bank frame both is_plain told since s → IsUp is_plain since s
+pub is-up : (b : Bridge) (bank : Bank) (frame : ℕ) (both is_plain : Bool) (told since : Option (List Turn)) (s : Side) → BeforeFrame b bank frame both (drive_of is_plain told since) s → IsUp is_plain since s
 is-up b bank frame both is_plain told since s before = record {
   handed = before.handed;
   told = told;
@@ -104,11 +104,11 @@ is-up b bank frame both is_plain told since s before = record {
 }
 
 pub goes-through : (b : Bridge) (bank : Bank) (frame : ℕ) (both is_plain : Bool) (told mid since : Option (List Turn)) (s : Side) (world : KeptWorld) (passage : Passage) (t : Turn) → frame < b.left.frames
-    → (both ≡ true → is_plain ≡ true) → BeforeFrame b bank frame both is_plain told mid s → is_last (record_of s.turn) ≡ false → world.bus ≡ s.world.bus
+    → (both ≡ true → is_plain ≡ true) → BeforeFrame b bank frame both (drive_of is_plain told mid) s → is_last (record_of s.turn) ≡ false → world.bus ≡ s.world.bus
     → ((handed : List HandIn) (told : Option (List Turn)) (turns : List Turn) → IsUnderWay s.world.bus handed is_plain told mid s.world turns false
     → HoldsPassage s.terms s.passage.ports.frame (records_in turns) s.passage
     → PassesFrame s.world.bus handed is_plain told since world turns s.terms s.passage.ports.frame passage t)
-    → AfterFrame b bank frame both is_plain told since (record s { world = world; passage = passage; turn = t })
+    → AfterFrame b bank frame both (drive_of is_plain told since) (record s { world = world; passage = passage; turn = t })
 goes-through b bank frame both is_plain told mid since s world passage t below plain before last bus passes = record {
   side = record { bus_is = bus ∙ before.side.bus_is; terms_are = before.side.terms_are; scope_is = before.side.scope_is };
   handed = before.handed;

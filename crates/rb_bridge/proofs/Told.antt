@@ -29,8 +29,8 @@ use Rattle.rb_bridge.proofs.FramesTold.{passed-tells}
 use Rattle.rb_bridge.proofs.UnderWay.{first-given, whole-given}
 use Rattle.rb_bridge.specs.declared.side.Side.{Side}
 use Rattle.rb_bridge.specs.declared.telling.Breach.{Breach as Found}
-use Rattle.rb_bridge.specs.Sides.{AfterFrame, AreGivenOf, BeforeFrame, GivesAll, GivesSome, break_by}
-use Rattle.rb_bridge.specs.Crossing.{ArePlain, Finds, GivesAllOn, GoThrough, shown}
+use Rattle.rb_bridge.specs.Sides.{AfterFrame, AreGivenOf, BeforeFrame, GivesAll, GivesSome, break_by, drive_of}
+use Rattle.rb_bridge.specs.Crossing.{ArePlain, BridgeRun, Finds, GivesAllOn, GoThrough, shown}
 use Rattle.rb_bridge.proofs.SidesPassed.{over-some}
 use Rattle.rb_bridge.proofs.Whole.{after-crossed, before-crossed, breach-crossed}
 
@@ -47,7 +47,7 @@ all-given-of sc handed is_plain told since k turns is =
     subst (λ rs. AreGivenOf sc handed is_plain told since turns rs) (whole-given sc handed is_plain told since k turns is) (given-of sc handed is_plain told since k turns true is)
 
 pub some-before : (b : Bridge) (bank : Bank) (frame : ℕ) (both is_plain : Bool) (told since : Option (List Turn)) (s : Side) → frame ≤ b.left.frames → (both ≡ true → is_plain ≡ true)
-    → BeforeFrame b bank frame both is_plain told since s → GivesSome b bank both is_plain told since
+    → BeforeFrame b bank frame both (drive_of is_plain told since) s → GivesSome b bank both (drive_of is_plain told since)
 some-before b bank frame both is_plain told since s within plain is = record {
   frame = frame;
   handed = is.handed;
@@ -59,7 +59,7 @@ some-before b bank frame both is_plain told since s within plain is = record {
 }
 
 pub some-after : (b : Bridge) (bank : Bank) (frame : ℕ) (both is_plain : Bool) (told since : Option (List Turn)) (s : Side) → IsBridge b → frame < b.left.frames → (both ≡ true → is_plain ≡ true)
-    → AfterFrame b bank frame both is_plain told since s → GivesSome b bank both is_plain told since
+    → AfterFrame b bank frame both (drive_of is_plain told since) s → GivesSome b bank both (drive_of is_plain told since)
 some-after b bank frame both is_plain told since s bridge below plain is = record {
   frame = frame;
   handed = is.handed;
@@ -79,7 +79,7 @@ break-last bank frame (Some (Breach place cause)) k e = refl
 
 -- all were, where the last one told a breach of the frame
 pub all-after : (b : Bridge) (bank : Bank) (frame : ℕ) (both is_plain : Bool) (told since : Option (List Turn)) (s : Side) (k : Break) → frame < b.left.frames → (both ≡ true → is_plain ≡ true)
-    → AfterFrame b bank frame both is_plain told since s → break_by bank frame (record_of s.turn) ≡ Some k → GivesAll b bank frame both is_plain told since
+    → AfterFrame b bank frame both (drive_of is_plain told since) s → break_by bank frame (record_of s.turn) ≡ Some k → GivesAll b bank frame both (drive_of is_plain told since)
 all-after b bank frame both is_plain told since s k below plain is breaks = record {
   handed = is.handed;
   turns = is.before ++ s.turn ∷ [];
@@ -93,7 +93,7 @@ all-after b bank frame both is_plain told since s k below plain is breaks = reco
 -- What receivers find.
 
 pub finds : (b : Bridge) (bank : Bank) (frame : ℕ) (both is_plain : Bool) (told since : Option (List Turn)) (s : Side) → frame ≤ b.left.frames → both ≡ true → is_plain ≡ true
-    → AfterFrame b bank frame both is_plain told since s → break_by bank frame (record_of s.turn) ≡ None → Finds b bank frame s
+    → AfterFrame b bank frame both (drive_of is_plain told since) s → break_by bank frame (record_of s.turn) ≡ None → Finds b bank frame s
 finds b bank frame both is_plain told since s within two sure is none = record {
   scope_is = is.side.scope_is;
   frame_is = here;
@@ -139,51 +139,51 @@ none-found None e = refl
 none-found (Some x) e = cc
 
 -- the left bus tells a breach
-pub left-breaks : (b : Bridge) (frame : ℕ) (both lp : Bool) (ltold lsince : Option (List Turn)) (rp : Bool) (rtold rsince : Option (List Turn)) (l r : Side) (x : Found) (o : Option Found)
-    → IsBridge b → frame < b.left.frames → ArePlain both lp rp → AfterFrame b Left frame both lp ltold lsince l → BeforeFrame b Right frame both rp rtold rsince r
-    → option_map shown o ≡ break_by Left frame (record_of l.turn) → o ≡ Some x → GoThrough b frame both lp ltold lsince rp rtold rsince l r (Some (shown x))
-left-breaks b frame both lp ltold lsince rp rtold rsince l r x o bridge below plain left right told found = record {
+pub left-breaks : (x : BridgeRun) (frame : ℕ) (l r : Side) (found : Found) (o : Option Found)
+    → IsBridge x.b → frame < x.b.left.frames → ArePlain x.both x.left.is_plain x.right.is_plain → AfterFrame x.b Left frame x.both x.left l → BeforeFrame x.b Right frame x.both x.right r
+    → option_map shown o ≡ break_by Left frame (record_of l.turn) → o ≡ Some found → GoThrough x frame l r (Some (shown found))
+left-breaks x frame l r found o bridge below plain left right told is_found = record {
   some = record {
-    left = some-after b Left frame both lp ltold lsince l bridge below plain.left left;
-    right = some-before b Right frame both rp rtold rsince r (omega (arith, below)) plain.right right;
+    left = some-after x.b Left frame x.both x.left.is_plain x.left.told x.left.since l bridge below plain.left left;
+    right = some-before x.b Right frame x.both x.right.is_plain x.right.told x.right.since r (omega (arith, below)) plain.right right;
   };
   through = λ none. absurd (never none);
   broken = λ k is. by k (here ∙ is);
-  breach_is = λ sure. ap (λ o. option_or o (break_in Right frame (records_on b (hands_of b) Right))) ((left.plain sure).breach ∙ here);
+  breach_is = λ sure. ap (λ o. option_or o (break_in Right frame (records_on x.b (hands_of x.b) Right))) ((left.plain sure).breach ∙ here);
 }
   where
-    never : Some (shown x) ≡ None → ⊥
+    never : Some (shown found) ≡ None → ⊥
     never e = cc
 
-    here : break_by Left frame (record_of l.turn) ≡ Some (shown x)
-    here = sym told ∙ ap (option_map shown) found
+    here : break_by Left frame (record_of l.turn) ≡ Some (shown found)
+    here = sym told ∙ ap (option_map shown) is_found
 
-    by : (k : Break) → break_by Left frame (record_of l.turn) ≡ Some k → GivesAllOn b frame both lp ltold lsince rp rtold rsince k.bank
+    by : (k : Break) → break_by Left frame (record_of l.turn) ≡ Some k → GivesAllOn x frame k.bank
     by k e =
-        subst (GivesAllOn b frame both lp ltold lsince rp rtold rsince) (break-bank Left frame (record_of l.turn) k e)
-        (all-after b Left frame both lp ltold lsince l k below plain.left left e)
+        subst (GivesAllOn x frame) (break-bank Left frame (record_of l.turn) k e)
+        (all-after x.b Left frame x.both x.left.is_plain x.left.told x.left.since l k below plain.left left e)
 
 -- both have gone through
-pub both-through : (b : Bridge) (frame : ℕ) (both lp : Bool) (ltold lsince : Option (List Turn)) (rp : Bool) (rtold rsince : Option (List Turn)) (l r : Side) (o p : Option Found)
-    → IsBridge b → frame < b.left.frames → ArePlain both lp rp → AfterFrame b Left frame both lp ltold lsince l → AfterFrame b Right frame both rp rtold rsince r
+pub both-through : (x : BridgeRun) (frame : ℕ) (l r : Side) (o p : Option Found)
+    → IsBridge x.b → frame < x.b.left.frames → ArePlain x.both x.left.is_plain x.right.is_plain → AfterFrame x.b Left frame x.both x.left l → AfterFrame x.b Right frame x.both x.right r
     → option_map shown o ≡ break_by Left frame (record_of l.turn) → o ≡ None → option_map shown p ≡ break_by Right frame (record_of r.turn)
-    → GoThrough b frame both lp ltold lsince rp rtold rsince l r (option_map shown p)
-both-through b frame both lp ltold lsince rp rtold rsince l r o p bridge below plain left right told none told' = record {
+    → GoThrough x frame l r (option_map shown p)
+both-through x frame l r o p bridge below plain left right told none told' = record {
   some = record {
-    left = some-after b Left frame both lp ltold lsince l bridge below plain.left left;
-    right = some-after b Right frame both rp rtold rsince r bridge below plain.right right;
+    left = some-after x.b Left frame x.both x.left.is_plain x.left.told x.left.since l bridge below plain.left left;
+    right = some-after x.b Right frame x.both x.right.is_plain x.right.told x.right.since r bridge below plain.right right;
   };
   through = λ gone. record { left = left; right = right; unbroken = record { left = here; right = sym told' ∙ gone } };
   broken = λ k is. by k (sym told' ∙ is);
   breach_is = λ sure.
-      ap (λ o. option_or o (break_in Right frame (records_on b (hands_of b) Right))) ((left.plain sure).breach ∙ here)
+      ap (λ o. option_or o (break_in Right frame (records_on x.b (hands_of x.b) Right))) ((left.plain sure).breach ∙ here)
       ∙ (right.plain sure).breach ∙ sym told';
 }
   where
     here : break_by Left frame (record_of l.turn) ≡ None
     here = sym told ∙ ap (option_map shown) none
 
-    by : (k : Break) → break_by Right frame (record_of r.turn) ≡ Some k → GivesAllOn b frame both lp ltold lsince rp rtold rsince k.bank
+    by : (k : Break) → break_by Right frame (record_of r.turn) ≡ Some k → GivesAllOn x frame k.bank
     by k e =
-        subst (GivesAllOn b frame both lp ltold lsince rp rtold rsince) (break-bank Right frame (record_of r.turn) k e)
-        (all-after b Right frame both rp rtold rsince r k below plain.right right e)
+        subst (GivesAllOn x frame) (break-bank Right frame (record_of r.turn) k e)
+        (all-after x.b Right frame x.both x.right.is_plain x.right.told x.right.since r k below plain.right right e)

@@ -38,7 +38,7 @@ use Rattle.rb_bridge.specs.Running.{AreNotLast, IsUnderWay}
 use Rattle.rb_bridge.proofs.FramesTold.{breaks-late, no-break, one-frame}
 use Rattle.rb_bridge.proofs.UnderWay.{first-given, latest-more, whole-given}
 use Rattle.rb_bridge.specs.declared.side.Side.{Side}
-use Rattle.rb_bridge.specs.Sides.{AfterFrame, BeforeFrame, HasStopped, IsInStep, break_by}
+use Rattle.rb_bridge.specs.Sides.{AfterFrame, BeforeFrame, HasStopped, IsInStep, break_by, drive_of}
 use Rattle.rb_bridge.proofs.SidesHanded.{AreHanded, are-handed, begins-next, handed-next, reached-there}
 use Rattle.rb_bridge.proofs.SidesPassed.{over-some}
 
@@ -144,7 +144,7 @@ breach-crossed b bank frame handed is_plain told since k turns t break within su
 -- Before a frame.
 
 pub before-crossed : (b : Bridge) (bank : Bank) (frame : ℕ) (both is_plain : Bool) (told since : Option (List Turn)) (s : Side) → frame ≤ b.left.frames → both ≡ true → is_plain ≡ true
-    → (is : BeforeFrame b bank frame both is_plain told since s) → IsPrefix is.ready.given.world.book.given (records_on b (hands_of b) bank)
+    → (is : BeforeFrame b bank frame both (drive_of is_plain told since) s) → IsPrefix is.ready.given.world.book.given (records_on b (hands_of b) bank)
 before-crossed b bank frame both is_plain told since s within two sure is =
     elim (cases_lt frame b.left.frames) [
       | inr past ↦
@@ -244,7 +244,7 @@ begins-at sc frame r (inl at) = by r at
     by (Breach place cause) at = absurd (cc)
 
 pub after-crossed : (b : Bridge) (bank : Bank) (frame : ℕ) (both is_plain : Bool) (told since : Option (List Turn)) (s : Side) → IsBridge b → frame < b.left.frames → both ≡ true → is_plain ≡ true
-    → (is : AfterFrame b bank frame both is_plain told since s) → IsPrefix is.passed.given.world.book.given (records_on b (hands_of b) bank)
+    → (is : AfterFrame b bank frame both (drive_of is_plain told since) s) → IsPrefix is.passed.given.world.book.given (records_on b (hands_of b) bank)
 after-crossed b bank frame both is_plain told since s bridge below two sure is = by (break_by bank frame (record_of s.turn)) refl
   where
     sc : Scenario

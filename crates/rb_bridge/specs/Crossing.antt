@@ -1,5 +1,5 @@
 -- Both buses of a bridge, from frame to frame.
-use Rattle.std.specs.Prelude.{ℕ, ◌≡◌, ◌+◌, ◌<◌, Bool, true, false, Option, Some, None, List}
+use Rattle.std.specs.Prelude.{ℕ, ◌≡◌, ◌+◌, ◌<◌, Bool, true, false, Option, Some, None, List, Result, IfOk, OnErr}
 use Rattle.std.specs.Io.KnownBytes.{Appends}
 use Rattle.rb_base.specs.declared.values.Delivery.{Delivery}
 use Rattle.rb_world_book.specs.Records.{record_of}
@@ -21,7 +21,7 @@ use Rattle.rb_rules_bridge.specs.Texts.{Break, break_at, break_of, bridge_text, 
 use Rattle.rb_bridge.specs.Refusals.{bank_of}
 use Rattle.rb_bridge.specs.declared.side.Side.{Side}
 use Rattle.rb_bridge.specs.declared.telling.Breach.{Breach}
-use Rattle.rb_bridge.specs.Sides.{AfterFrame, AreUnbroken, BeforeFrame, GivesAll, GivesSome, HasOpened}
+use Rattle.rb_bridge.specs.Sides.{AfterFrame, AreUnbroken, BeforeFrame, Driven, GivesAll, GivesSome, HasOpened, drive_of}
 
 -- What is said.
 
@@ -46,79 +46,132 @@ pub record FindBoth (b : Bridge) (frame : ℕ) (l r : Side) : Type 0 where
   pub left : Finds b Left frame l
   pub right : Finds b Right frame r
 
--- Both sides. Where `both` is true, both drives are plain
+-- What is seen of the drives.
 
+-- what is seen of both drives
+pub record Drives : Type 0 where
+  pub left : Driven
+  pub right : Driven
+
+-- both drives over a call, by what each was before it and after it
+abbrev pub drives_over : {D : Type 0} → (D → Bool) → (D → Option (List Turn)) → D → D → D → D → Drives
+drives_over is_plain told l l' r r' = record { left = drive_of (is_plain l) (told l) (told l'); right = drive_of (is_plain r) (told r) (told r') }
+
+-- both drives before a call
+abbrev pub drives_now : {D : Type 0} → (D → Bool) → (D → Option (List Turn)) → D → D → Drives
+drives_now is_plain told l r = drives_over is_plain told l l r r
+
+-- where `both` is true, both are plain
 pub record ArePlain (both lp rp : Bool) : Type 0 where
   pub left : both ≡ true → lp ≡ true
   pub right : both ≡ true → rp ≡ true
 
+-- a run of a bridge, with what is seen of its drives. Where `both` is true, both are plain
+pub record BridgeRun : Type 0 where
+  pub b : Bridge
+  pub both : Bool
+  pub left : Driven
+  pub right : Driven
+
+-- the run of this bridge with these drives
+abbrev pub run_of : Bridge → Bool → Driven → Driven → BridgeRun
+run_of b both left right = record { b = b; both = both; left = left; right = right }
+
+-- Both sides.
+
 -- they go into a frame
-pub record AreReady (b : Bridge) (frame : ℕ) (both lp : Bool) (ltold lsince : Option (List Turn)) (rp : Bool) (rtold rsince : Option (List Turn)) (l r : Side) : Type 0 where
-  pub left : BeforeFrame b Left frame both lp ltold lsince l
-  pub right : BeforeFrame b Right frame both rp rtold rsince r
+pub record AreReady (x : BridgeRun) (frame : ℕ) (l r : Side) : Type 0 where
+  pub left : BeforeFrame x.b Left frame x.both x.left l
+  pub right : BeforeFrame x.b Right frame x.both x.right r
 
 -- they have gone through it
-pub record AreThrough (b : Bridge) (frame : ℕ) (both lp : Bool) (ltold lsince : Option (List Turn)) (rp : Bool) (rtold rsince : Option (List Turn)) (l r : Side) : Type 0 where
-  pub left : AfterFrame b Left frame both lp ltold lsince l
-  pub right : AfterFrame b Right frame both rp rtold rsince r
+pub record AreThrough (x : BridgeRun) (frame : ℕ) (l r : Side) : Type 0 where
+  pub left : AfterFrame x.b Left frame x.both x.left l
+  pub right : AfterFrame x.b Right frame x.both x.right r
   pub unbroken : AreUnbroken frame l r
 
+-- they are those of a bridge with these pairs, and have gone through a frame. With two plain drives, it has no breach
+pub record HaveCrossed (x : BridgeRun) (pairs : List Pair) (frame : ℕ) (l r : Side) : Type 0 where
+  pub bridge : IsBridge x.b
+  pub pairs_are : x.b.pairs ≡ pairs
+  pub within : frame < x.b.left.frames
+  pub plain : ArePlain x.both x.left.is_plain x.right.is_plain
+  pub left : AfterFrame x.b Left frame x.both x.left l
+  pub right : AfterFrame x.b Right frame x.both x.right r
+  pub unbroken : x.both ≡ true → AreUnbroken frame l r
+
 -- their drives gave the first turns of their runs
-pub record GiveSome (b : Bridge) (both lp : Bool) (ltold lsince : Option (List Turn)) (rp : Bool) (rtold rsince : Option (List Turn)) : Type 0 where
-  pub left : GivesSome b Left both lp ltold lsince
-  pub right : GivesSome b Right both rp rtold rsince
+pub record GiveSome (x : BridgeRun) : Type 0 where
+  pub left : GivesSome x.b Left x.both x.left
+  pub right : GivesSome x.b Right x.both x.right
 
 -- or all of them
-pub record GiveAll (b : Bridge) (frame : ℕ) (both lp : Bool) (ltold lsince : Option (List Turn)) (rp : Bool) (rtold rsince : Option (List Turn)) : Type 0 where
-  pub left : GivesAll b Left frame both lp ltold lsince
-  pub right : GivesAll b Right frame both rp rtold rsince
+pub record GiveAll (x : BridgeRun) (frame : ℕ) : Type 0 where
+  pub left : GivesAll x.b Left frame x.both x.left
+  pub right : GivesAll x.b Right frame x.both x.right
 
 -- that of one bank gave all of its turns
-abbrev pub GivesAllOn : Bridge → ℕ → Bool → Bool → Option (List Turn) → Option (List Turn) → Bool → Option (List Turn) → Option (List Turn) → Bank → Type 0
-GivesAllOn b frame both lp ltold lsince rp rtold rsince Left = GivesAll b Left frame both lp ltold lsince
-GivesAllOn b frame both lp ltold lsince rp rtold rsince Right = GivesAll b Right frame both rp rtold rsince
+abbrev pub GivesAllOn : BridgeRun → ℕ → Bank → Type 0
+GivesAllOn x frame Left = GivesAll x.b Left frame x.both x.left
+GivesAllOn x frame Right = GivesAll x.b Right frame x.both x.right
 
 -- A frame.
 
 -- a drive may be asked for the turns of a frame
-pub record MayGoOn (lp : Bool) (lsince : Option (List Turn)) (rp : Bool) (rsince : Option (List Turn)) (l r : Side) : Type 0 where
-  pub left : is_last (record_of l.turn) ≡ false → IsOnItsWay lp lsince l.world l.terms l.passage
-  pub right : is_last (record_of r.turn) ≡ false → IsOnItsWay rp rsince r.world r.terms r.passage
+pub record MayGoOn (d : Drives) (l r : Side) : Type 0 where
+  pub left : is_last (record_of l.turn) ≡ false → IsOnItsWay d.left.is_plain d.left.since l.world l.terms l.passage
+  pub right : is_last (record_of r.turn) ≡ false → IsOnItsWay d.right.is_plain d.right.since r.world r.terms r.passage
 
--- both are the sides of a bridge with these pairs, and go into a frame of it
-pub record MayCross (pairs : List Pair) (frame : ℕ) (lp : Bool) (lsince : Option (List Turn)) (rp : Bool) (rsince : Option (List Turn)) (l r : Side) : Type 0 where
+-- a run of a bridge as a call begins: its sides go into this frame, and its drives had told this at first
+pub record AtFrame (frame : ℕ) (d : Drives) (l r : Side) : Type 0 where
   pub b : Bridge
+  pub both : Bool
+  pub left_told : Option (List Turn)
+  pub right_told : Option (List Turn)
   pub bridge : IsBridge b
-  pub pairs_are : b.pairs ≡ pairs
   pub within : frame < b.left.frames
-  pub ltold : Option (List Turn)
-  pub rtold : Option (List Turn)
-  pub ready : AreReady b frame false lp ltold lsince rp rtold rsince l r
+  pub plain : ArePlain both d.left.is_plain d.right.is_plain
+  pub ready : AreReady (run_of b both (drive_of d.left.is_plain left_told d.left.told) (drive_of d.right.is_plain right_told d.right.told)) frame l r
+
+-- the same run as the call ends
+abbrev pub run_after : {frame : ℕ} {d : Drives} {l r : Side} → AtFrame frame d l r → BridgeRun
+run_after {frame} {d} {l} {r} x = run_of x.b x.both (drive_of d.left.is_plain x.left_told d.left.since) (drive_of d.right.is_plain x.right_told d.right.since)
+
+-- such a run of a bridge with these pairs
+pub record MayCross (pairs : List Pair) (frame : ℕ) (d : Drives) (l r : Side) : Type 0 where
+  pub run : AtFrame frame d l r
+  pub pairs_are : run.b.pairs ≡ pairs
 
 -- they went through a frame, with this breach or none. Its bus gave all of its turns
-pub record GoThrough (b : Bridge) (frame : ℕ) (both lp : Bool) (ltold lsince : Option (List Turn)) (rp : Bool) (rtold rsince : Option (List Turn)) (l r : Side) (breach : Option Break) : Type 0 where
-  pub some : GiveSome b both lp ltold lsince rp rtold rsince
-  pub through : breach ≡ None → AreThrough b frame both lp ltold lsince rp rtold rsince l r
-  pub broken : (k : Break) → breach ≡ Some k → GivesAllOn b frame both lp ltold lsince rp rtold rsince k.bank
-  pub breach_is : both ≡ true → break_at b frame ≡ breach
+pub record GoThrough (x : BridgeRun) (frame : ℕ) (l r : Side) (breach : Option Break) : Type 0 where
+  pub some : GiveSome x
+  pub through : breach ≡ None → AreThrough x frame l r
+  pub broken : (k : Break) → breach ≡ Some k → GivesAllOn x frame k.bank
+  pub breach_is : x.both ≡ true → break_at x.b frame ≡ breach
 
--- how a frame ends: they go on, or there is a breach
-pub record BreaksOff (b : Bridge) (frame : ℕ) (both lp : Bool) (ltold lsince : Option (List Turn)) (rp : Bool) (rtold rsince : Option (List Turn)) : Type 0 where
+-- a frame has a breach, and the bus that broke off gave all of its turns
+pub record BreaksOff (x : BridgeRun) (frame : ℕ) : Type 0 where
   pub break : Break
-  pub break_is : both ≡ true → break_at b frame ≡ Some break
-  pub all : GivesAllOn b frame both lp ltold lsince rp rtold rsince break.bank
+  pub break_is : x.both ≡ true → break_at x.b frame ≡ Some break
+  pub all : GivesAllOn x frame break.bank
 
-pub record Crosses (b : Bridge) (frame : ℕ) (both lp : Bool) (ltold lsince : Option (List Turn)) (rp : Bool) (rtold rsince : Option (List Turn)) (l r : Side) (held after : Option (List ℕ)) (goes_on : Bool) : Type 0 where
-  pub some : GiveSome b both lp ltold lsince rp rtold rsince
-  pub text : both ≡ true → Appends held after (told_text b frame (break_at b frame))
-  pub ready : goes_on ≡ true → AreReady b (frame + 1) both lp ltold lsince rp rtold rsince l r
-  pub unbroken : goes_on ≡ true → both ≡ true → break_at b frame ≡ None
-  pub broken : goes_on ≡ false → BreaksOff b frame both lp ltold lsince rp rtold rsince
+-- what is said of a frame was written, and both go on, or there is a breach
+pub record CrossesAll (x : BridgeRun) (frame : ℕ) (sides : Side × Side) (held after : Option (List ℕ)) (goes_on : Bool) : Type 0 where
+  pub some : GiveSome x
+  pub text : x.both ≡ true → Appends held after (told_text x.b frame (break_at x.b frame))
+  pub ready : goes_on ≡ true → AreReady x (frame + 1) sides.0 sides.1
+  pub unbroken : goes_on ≡ true → x.both ≡ true → break_at x.b frame ≡ None
+  pub broken : goes_on ≡ false → BreaksOff x frame
 
 -- a first part of what is said of it was written
-pub record CrossesPart (b : Bridge) (frame : ℕ) (both lp : Bool) (ltold lsince : Option (List Turn)) (rp : Bool) (rtold rsince : Option (List Turn)) (held after : Option (List ℕ)) : Type 0 where
-  pub some : GiveSome b both lp ltold lsince rp rtold rsince
-  pub text : both ≡ true → AppendsPart held after (told_text b frame (break_at b frame))
+pub record CrossesPart (x : BridgeRun) (frame : ℕ) (held after : Option (List ℕ)) : Type 0 where
+  pub some : GiveSome x
+  pub text : x.both ≡ true → AppendsPart held after (told_text x.b frame (break_at x.b frame))
+
+-- a frame was crossed, or a write failed and a first part was written
+pub record Crosses {E : Type 0} (x : BridgeRun) (frame : ℕ) (sides : Side × Side) (held after : Option (List ℕ)) (result : Result Bool E) : Type 0 where
+  pub all : IfOk result (CrossesAll x frame sides held after)
+  pub part : OnErr result (CrossesPart x frame held after)
 
 -- All frames.
 
@@ -127,6 +180,7 @@ pub record HaveOpened (b : Bridge) (l r : Side) : Type 0 where
   pub left : HasOpened (bus_on b Left) (members_on b Left) (slot_on b Left) l
   pub right : HasOpened (bus_on b Right) (members_on b Right) (slot_on b Right) r
 
+-- those of a bridge with these pairs and so many frames
 pub record MayBegin (pairs : List Pair) (frames : ℕ) (l r : Side) : Type 0 where
   pub b : Bridge
   pub bridge : IsBridge b
@@ -135,19 +189,24 @@ pub record MayBegin (pairs : List Pair) (frames : ℕ) (l r : Side) : Type 0 whe
   pub opened : HaveOpened b l r
 
 -- The bridge ends so. All that crosses was handed in by then, or all up to the begin of the frame with the breach
-abbrev pub EndsAs : Bridge → Bool → Bool → Option (List Turn) → Option (List Turn) → Bool → Option (List Turn) → Option (List Turn) → Ending → Type 0
-EndsAs b both lp ltold lsince rp rtold rsince ending.Ended =
-    (both ≡ true → break_of b ≡ None) × GiveAll b b.left.frames both lp ltold lsince rp rtold rsince
-EndsAs b both lp ltold lsince rp rtold rsince ending.Breach =
-    (k : Break) × ((both ≡ true → break_of b ≡ Some k) × ((frame : ℕ) × GivesAllOn b frame both lp ltold lsince rp rtold rsince k.bank))
+abbrev pub EndsAs : BridgeRun → Ending → Type 0
+EndsAs x ending.Ended =
+    (x.both ≡ true → break_of x.b ≡ None) × GiveAll x x.b.left.frames
+EndsAs x ending.Breach =
+    (k : Break) × ((x.both ≡ true → break_of x.b ≡ Some k) × ((frame : ℕ) × GivesAllOn x frame k.bank))
 
 -- all was written that is said of the bridge, where both drives are plain. The drives gave turns of its runs
-pub record WritesAll (b : Bridge) (both lp : Bool) (ltold lsince : Option (List Turn)) (rp : Bool) (rtold rsince : Option (List Turn)) (held after : Option (List ℕ)) (e : Ending) : Type 0 where
-  pub some : GiveSome b both lp ltold lsince rp rtold rsince
-  pub text : both ≡ true → Appends held after (bridge_text b)
-  pub ends : EndsAs b both lp ltold lsince rp rtold rsince e
+pub record WritesAll (x : BridgeRun) (held after : Option (List ℕ)) (e : Ending) : Type 0 where
+  pub some : GiveSome x
+  pub text : x.both ≡ true → Appends held after (bridge_text x.b)
+  pub ends : EndsAs x e
 
 -- or a first part of it
-pub record WritesPart (b : Bridge) (both lp : Bool) (ltold lsince : Option (List Turn)) (rp : Bool) (rtold rsince : Option (List Turn)) (held after : Option (List ℕ)) : Type 0 where
-  pub some : GiveSome b both lp ltold lsince rp rtold rsince
-  pub text : both ≡ true → AppendsPart held after (bridge_text b)
+pub record WritesPart (x : BridgeRun) (held after : Option (List ℕ)) : Type 0 where
+  pub some : GiveSome x
+  pub text : x.both ≡ true → AppendsPart held after (bridge_text x.b)
+
+-- all of it was written, or where a write failed a first part
+pub record Writes {E : Type 0} (b : Bridge) (d : Drives) (held after : Option (List ℕ)) (result : Result Ending E) : Type 0 where
+  pub all : (both : Bool) → ArePlain both d.left.is_plain d.right.is_plain → IfOk result (WritesAll (run_of b both d.left d.right) held after)
+  pub part : (both : Bool) → ArePlain both d.left.is_plain d.right.is_plain → OnErr result (WritesPart (run_of b both d.left d.right) held after)

@@ -63,6 +63,16 @@ abbrev pub break_by : Bank → ℕ → Option Record → Option Break
 break_by bank frame None = None
 break_by bank frame (Some r) = break_told bank frame r
 
+-- what is seen of a drive: is it plain, what had it told at first, and what has it told since
+pub record Driven : Type 0 where
+  pub is_plain : Bool
+  pub told : Option (List Turn)
+  pub since : Option (List Turn)
+
+-- a drive that is plain or not, had told this at first, and has told that since
+abbrev pub drive_of : Bool → Option (List Turn) → Option (List Turn) → Driven
+drive_of is_plain told since = record { is_plain = is_plain; told = told; since = since }
+
 -- Between two frames, with any drive.
 
 -- these turns were given, and the last one, which is beyond the frame of which all is kept that they tell
@@ -106,18 +116,18 @@ pub record HasTold (b : Bridge) (bank : Bank) (frame : ℕ) (handed : List HandI
 
 -- Before a frame and after it. The last field of each speaks of two plain drives.
 
-pub record BeforeFrame (b : Bridge) (bank : Bank) (frame : ℕ) (both is_plain : Bool) (told since : Option (List Turn)) (s : Side) : Type 0 where
+pub record BeforeFrame (b : Bridge) (bank : Bank) (frame : ℕ) (both : Bool) (d : Driven) (s : Side) : Type 0 where
   pub side : IsSideOf b bank s
   pub handed : List HandIn
   pub turns : List Turn
-  pub ready : IsReady (bus_on b bank) handed is_plain told since s turns
+  pub ready : IsReady (bus_on b bank) handed d.is_plain d.told d.since s turns
   pub plain : both ≡ true → IsInStep b bank frame handed s
 
-pub record AfterFrame (b : Bridge) (bank : Bank) (frame : ℕ) (both is_plain : Bool) (told since : Option (List Turn)) (s : Side) : Type 0 where
+pub record AfterFrame (b : Bridge) (bank : Bank) (frame : ℕ) (both : Bool) (d : Driven) (s : Side) : Type 0 where
   pub side : IsSideOf b bank s
   pub handed : List HandIn
   pub before : List Turn
-  pub passed : HasPassed (bus_on b bank) handed is_plain told since s before
+  pub passed : HasPassed (bus_on b bank) handed d.is_plain d.told d.since s before
   pub plain : both ≡ true → HasTold b bank frame handed s
 
 -- no bus tells a breach of the frame
@@ -148,20 +158,20 @@ pub record RunsOut (sc : Scenario) (handed : List HandIn) (is_plain : Bool) (tol
 
 -- The first turns of the run of the bus on a bank were given. Where both drives are plain, it was handed what the bridge carries, up to the
 -- begin of a frame, and they are the first of the run with all that the bridge carries
-pub record GivesSome (b : Bridge) (bank : Bank) (both is_plain : Bool) (told since : Option (List Turn)) : Type 0 where
+pub record GivesSome (b : Bridge) (bank : Bank) (both : Bool) (d : Driven) : Type 0 where
   pub frame : ℕ
   pub handed : List HandIn
   pub turns : List Turn
   pub records : List Record
-  pub given : AreGivenOf (bus_on b bank) handed is_plain told since turns records
+  pub given : AreGivenOf (bus_on b bank) handed d.is_plain d.told d.since turns records
   pub plain : both ≡ true → handed ≡ hands_on bank (hands_up_to b frame)
   pub crosses : both ≡ true → IsPrefix records (records_on b (hands_of b) bank)
 
 -- All of them were, with what it was handed up to the begin of this frame. Where both drives are plain, that is the run with all that the
 -- bridge carries
-pub record GivesAll (b : Bridge) (bank : Bank) (frame : ℕ) (both is_plain : Bool) (told since : Option (List Turn)) : Type 0 where
+pub record GivesAll (b : Bridge) (bank : Bank) (frame : ℕ) (both : Bool) (d : Driven) : Type 0 where
   pub handed : List HandIn
   pub turns : List Turn
-  pub given : AreGivenOf (bus_on b bank) handed is_plain told since turns (records_of (bus_on b bank) handed)
+  pub given : AreGivenOf (bus_on b bank) handed d.is_plain d.told d.since turns (records_of (bus_on b bank) handed)
   pub plain : both ≡ true → handed ≡ hands_on bank (hands_up_to b frame)
   pub crosses : both ≡ true → records_of (bus_on b bank) handed ≡ records_on b (hands_of b) bank

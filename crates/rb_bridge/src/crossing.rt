@@ -1,9 +1,8 @@
 //! Both buses of a bridge from frame to frame.
-ghost use Rattle.std.specs.Prelude.{◌≡◌, ◌<◌, ℕ, Bool, true, List, Option, IfOk, OnErr, OnOk, option_map};
-ghost use Rattle.rb_world_book.specs.declared.turn.Turn.{Turn};
+ghost use Rattle.std.specs.Prelude.{◌≡◌, option_map};
 ghost use Rattle.rb_outside.specs.Causes.{HasCause};
-ghost use Rattle.rb_rules_bridge.specs.Bridges.{Bridge, IsBridge};
-ghost use Rattle.rb_bridge.specs.Crossing.{ArePlain, AreReady, Crosses, CrossesPart, GoThrough, HaveOpened, MayBegin, MayCross, MayGoOn, WritesAll, WritesPart, shown};
+ghost use Rattle.rb_bridge.specs.Crossing.{AtFrame, Crosses, GoThrough, MayBegin, MayCross, MayGoOn, Writes};
+ghost use Rattle.rb_bridge.specs.Crossing.{drives_now, drives_over, run_after, shown};
 
 use crate::exchanging::exchange;
 use crate::frame::{finish, pass};
@@ -25,12 +24,11 @@ fn pass_both<D: Drive>(
     left_drive: &mut D,
     right_drive: &mut D,
 ) -> Option<Breach>
-    requires { MayGoOn (D.is_plain left_drive.old) (D.told left_drive.old) (D.is_plain right_drive.old) (D.told right_drive.old) left.old right.old }
-    ensures through { (b : Bridge) (both : Bool) (ltold rtold : Option (List Turn)) → IsBridge b
-        → frame < b.left.frames
-        → ArePlain both (D.is_plain left_drive.old) (D.is_plain right_drive.old)
-        → AreReady b frame both (D.is_plain left_drive.old) ltold (D.told left_drive.old) (D.is_plain right_drive.old) rtold (D.told right_drive.old) left.old right.old
-        → GoThrough b frame both (D.is_plain left_drive.old) ltold (D.told left_drive.new) (D.is_plain right_drive.old) rtold (D.told right_drive.new) left.new right.new (option_map shown result) }
+    requires { MayGoOn (drives_now D.is_plain D.told left_drive.old right_drive.old)
+        left.old right.old }
+    ensures through { (x : AtFrame frame (drives_over D.is_plain D.told
+        left_drive.old left_drive.new right_drive.old right_drive.new) left.old right.old)
+        → GoThrough (run_after x) frame left.new right.new (option_map shown result) }
     ensures left_stays { D.is_plain left_drive.new ≡ D.is_plain left_drive.old }
     ensures right_stays { D.is_plain right_drive.new ≡ D.is_plain right_drive.old }
 {
@@ -54,19 +52,12 @@ fn cross_frame<K: Sink, D: Drive>(
     right_drive: &mut D,
     output: &mut K,
 ) -> Result<bool, Failed>
-    requires { MayCross pairs.now frame (D.is_plain left_drive.old) (D.told left_drive.old) (D.is_plain right_drive.old) (D.told right_drive.old) left.old right.old }
-    ensures all { (b : Bridge) (both : Bool) (ltold rtold : Option (List Turn)) → IsBridge b
-        → b.pairs ≡ pairs.now → frame < b.left.frames
-        → ArePlain both (D.is_plain left_drive.old) (D.is_plain right_drive.old)
-        → AreReady b frame both (D.is_plain left_drive.old) ltold (D.told left_drive.old) (D.is_plain right_drive.old) rtold (D.told right_drive.old) left.old right.old
-        → IfOk result (Crosses b frame both (D.is_plain left_drive.old) ltold (D.told left_drive.new) (D.is_plain right_drive.old) rtold (D.told right_drive.new) left.new right.new
-        (K.held output.old) (K.held output.new)) }
-    ensures part { (b : Bridge) (both : Bool) (ltold rtold : Option (List Turn)) → IsBridge b
-        → b.pairs ≡ pairs.now → frame < b.left.frames
-        → ArePlain both (D.is_plain left_drive.old) (D.is_plain right_drive.old)
-        → AreReady b frame both (D.is_plain left_drive.old) ltold (D.told left_drive.old) (D.is_plain right_drive.old) rtold (D.told right_drive.old) left.old right.old
-        → OnErr result (CrossesPart b frame both (D.is_plain left_drive.old) ltold (D.told left_drive.new) (D.is_plain right_drive.old) rtold (D.told right_drive.new)
-        (K.held output.old) (K.held output.new)) }
+    requires { MayCross pairs.now frame
+        (drives_now D.is_plain D.told left_drive.old right_drive.old) left.old right.old }
+    ensures crosses { (x : MayCross pairs.now frame (drives_over D.is_plain D.told
+        left_drive.old left_drive.new right_drive.old right_drive.new) left.old right.old)
+        → Crosses (run_after x.run) frame (left.new, right.new)
+        (K.held output.old) (K.held output.new) result }
     ensures cause { HasCause (K.faults output.old) (K.faults output.new) result }
     ensures left_stays { D.is_plain left_drive.new ≡ D.is_plain left_drive.old }
     ensures right_stays { D.is_plain right_drive.new ≡ D.is_plain right_drive.old }
@@ -98,16 +89,10 @@ pub fn cross<K: Sink, D: Drive>(
     output: &mut K,
 ) -> Result<Ending, Failed>
     requires { MayBegin pairs.now frames left.old right.old }
-    ensures all { (b : Bridge) (both : Bool) → IsBridge b → b.pairs ≡ pairs.now
-        → b.left.frames ≡ frames → HaveOpened b left.old right.old
-        → ArePlain both (D.is_plain left_drive.old) (D.is_plain right_drive.old)
-        → IfOk result (WritesAll b both (D.is_plain left_drive.old) (D.told left_drive.old) (D.told left_drive.new) (D.is_plain right_drive.old) (D.told right_drive.old) (D.told right_drive.new)
-        (K.held output.old) (K.held output.new)) }
-    ensures part { (b : Bridge) (both : Bool) → IsBridge b → b.pairs ≡ pairs.now
-        → b.left.frames ≡ frames → HaveOpened b left.old right.old
-        → ArePlain both (D.is_plain left_drive.old) (D.is_plain right_drive.old)
-        → OnErr result (WritesPart b both (D.is_plain left_drive.old) (D.told left_drive.old) (D.told left_drive.new) (D.is_plain right_drive.old) (D.told right_drive.old) (D.told right_drive.new)
-        (K.held output.old) (K.held output.new)) }
+    ensures written { (x : MayBegin pairs.now frames left.old right.old)
+        → Writes x.b (drives_over D.is_plain D.told
+        left_drive.old left_drive.new right_drive.old right_drive.new)
+        (K.held output.old) (K.held output.new) result }
     ensures cause { HasCause (K.faults output.old) (K.faults output.new) result }
 {
     for frame in 0..frames {

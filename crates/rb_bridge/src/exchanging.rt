@@ -1,13 +1,14 @@
 //! What two buses hand to each other between two frames.
-ghost use Rattle.std.specs.Prelude.{◌≡◌, ◌<◌, ◌+◌, ◌++◌, ◌∷◌, [], ℕ, All, Bool, true, false, List, None, Option};
+ghost use Rattle.std.specs.Prelude.{◌≡◌, ◌<◌, ◌+◌, ◌++◌, ◌∷◌, [], ℕ, All, true, false, List};
 ghost use Rattle.rb_world_book.specs.Records.{record_of};
 ghost use Rattle.rb_world_book.specs.declared.turn.Turn.{Turn};
 ghost use Rattle.rb_run.specs.Turns.{records_in};
 ghost use Rattle.rb_world.specs.Nexts.{is_last};
 ghost use Rattle.rb_bridge.specs.Passing.{HoldsPassage, is_over};
-ghost use Rattle.rb_rules_bridge.specs.Bridges.{Bridge, IsBridge, biu_on};
+ghost use Rattle.rb_rules_bridge.specs.Bridges.{biu_on};
 ghost use Rattle.rb_rules_bridge.specs.declared.bank.Bank.TheVariants.{Left, Right};
-ghost use Rattle.rb_bridge.specs.Sides.{AfterFrame, AreUnbroken, BeforeFrame, TurnsOver};
+ghost use Rattle.rb_bridge.specs.Crossing.{AreReady, BridgeRun, HaveCrossed};
+ghost use Rattle.rb_bridge.specs.Sides.{TurnsOver};
 
 use crate::frame::is_last;
 use crate::handing::hand_over;
@@ -46,18 +47,8 @@ fn turn_over(passage: &mut Passage, terms: &Terms, turn: &Turn)
 pub(crate) fn exchange(left: &mut Side, right: &mut Side, pairs: &[Pair])
     requires left { All (λ pair. biu_on Left pair < 16) pairs.now }
     requires right { All (λ pair. biu_on Right pair < 16) pairs.now }
-    ensures left { (b : Bridge) (frame : ℕ) (both is_plain is_plain' : Bool) (told since told' since' : Option (List Turn)) → IsBridge b → b.pairs ≡ pairs.now → frame < b.left.frames
-        → (both ≡ true → is_plain ≡ true) → (both ≡ true → is_plain' ≡ true)
-        → (both ≡ true → AreUnbroken frame left.old right.old)
-        → AfterFrame b Left frame both is_plain told since left.old
-        → AfterFrame b Right frame both is_plain' told' since' right.old
-        → BeforeFrame b Left (frame + 1) both is_plain told since left.new }
-    ensures right { (b : Bridge) (frame : ℕ) (both is_plain is_plain' : Bool) (told since told' since' : Option (List Turn)) → IsBridge b → b.pairs ≡ pairs.now → frame < b.left.frames
-        → (both ≡ true → is_plain ≡ true) → (both ≡ true → is_plain' ≡ true)
-        → (both ≡ true → AreUnbroken frame left.old right.old)
-        → AfterFrame b Left frame both is_plain told since left.old
-        → AfterFrame b Right frame both is_plain' told' since' right.old
-        → BeforeFrame b Right (frame + 1) both is_plain' told' since' right.new }
+    ensures { (x : BridgeRun) (frame : ℕ) → HaveCrossed x pairs.now frame left.old right.old
+        → AreReady x (frame + 1) left.new right.new }
 {
     hand_over(&mut left.world, Bank::Left, pairs, &right.passage.values);
     hand_over(&mut right.world, Bank::Right, pairs, &left.passage.values);

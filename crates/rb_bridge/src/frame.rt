@@ -9,7 +9,7 @@ ghost use Rattle.rb_bridge.specs.Passing.{IsOnItsWay};
 ghost use Rattle.rb_bridge.specs.Running.{IsUnderWay};
 ghost use Rattle.rb_rules_bridge.specs.Bridges.{Bridge};
 ghost use Rattle.rb_rules_bridge.specs.declared.bank.Bank.{Bank};
-ghost use Rattle.rb_bridge.specs.Sides.{AfterFrame, BeforeFrame, IsUp, RunsOut};
+ghost use Rattle.rb_bridge.specs.Sides.{AfterFrame, BeforeFrame, IsUp, RunsOut, drive_of};
 
 use crate::passing::pass_frame;
 use crate::side::Side;
@@ -35,10 +35,13 @@ pub(crate) fn pass<D: Drive>(side: &mut Side, apps: &Apps, drive: &mut D)
     requires { is_last (record_of side.old.turn) ≡ false
         → IsOnItsWay (D.is_plain drive.old) (D.told drive.old) side.old.world side.old.terms
         side.old.passage }
-    ensures passes { (b : Bridge) (bank : Bank) (frame : ℕ) (both : Bool) (told : Option (List Turn)) → frame < b.left.frames → b.left.frames ≡ b.right.frames
+    ensures passes { (b : Bridge) (bank : Bank) (frame : ℕ) (both : Bool) (told : Option (List Turn))
+        → frame < b.left.frames → b.left.frames ≡ b.right.frames
         → (both ≡ true → D.is_plain drive.old ≡ true)
-        → BeforeFrame b bank frame both (D.is_plain drive.old) told (D.told drive.old) side.old
-        → AfterFrame b bank frame both (D.is_plain drive.old) told (D.told drive.new) side.new }
+        → BeforeFrame b bank frame both
+        (drive_of (D.is_plain drive.old) told (D.told drive.old)) side.old
+        → AfterFrame b bank frame both
+        (drive_of (D.is_plain drive.old) told (D.told drive.new)) side.new }
     ensures stays { D.is_plain drive.new ≡ D.is_plain drive.old }
 {
     if is_last(&side.turn) {

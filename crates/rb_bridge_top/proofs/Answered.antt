@@ -4,7 +4,8 @@ use Rattle.rb_outside.specs.Causes.{Rose}
 use Rattle.rb_world_book.specs.declared.turn.Turn.{Turn}
 use Rattle.rb_bridge_document.specs.declared.bridge.Bridge.{Bridge as Kept}
 use Rattle.rb_bridge_document.specs.Acceptance.{as_bridge}
-use Rattle.rb_bridge.specs.Crossing.{WritesPart}
+use Rattle.rb_bridge.specs.Crossing.{WritesPart, run_of}
+use Rattle.rb_bridge.specs.Sides.{drive_of}
 use Rattle.rb_bridge_top.specs.declared.status.Status.{Status}
 use Rattle.rb_bridge_top.specs.declared.status.Status.TheVariants.{Done, Breach, Usage, Refused, TooLong, ReadFault, WriteFault, OutOfMemory}
 use Rattle.rb_bridge_top.specs.Answers.{Answers, IsCrossed}
@@ -36,8 +37,8 @@ none-answers both status left left' reads reads' held held' writes writes' lp lt
 -- where one was, and it was taken to its end
 pub report-answers : (both : Bool) (status : Status) (left left' : Option (List ℕ)) (reads reads' : ℕ) (held held' : Option (List ℕ)) (writes writes' : ℕ)
     (lp : Bool) (ltold lsince : Option (List Turn)) (rp : Bool) (rtold rsince : Option (List Turn)) (kept : Kept) → ReadsBridge left left' kept
-    → (HasEnded status → IsCrossed (as_bridge kept) both status lp ltold lsince rp rtold rsince held held')
-    → (status ≡ WriteFault → WritesPart (as_bridge kept) both lp ltold lsince rp rtold rsince held held')
+    → (HasEnded status → IsCrossed (run_of (as_bridge kept) both (drive_of lp ltold lsince) (drive_of rp rtold rsince)) status held held')
+    → (status ≡ WriteFault → WritesPart (run_of (as_bridge kept) both (drive_of lp ltold lsince) (drive_of rp rtold rsince)) held held')
     → (status ≡ WriteFault → Rose writes writes') → IsOfRun status
     → Answers both status left left' reads reads' held held' writes writes' lp ltold lsince rp rtold rsince
 report-answers both status left left' reads reads' held held' writes writes' lp ltold lsince rp rtold rsince kept reads-it ended part rose one_of = record {

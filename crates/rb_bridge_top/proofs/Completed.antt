@@ -8,7 +8,8 @@ use Rattle.rb_laws_bridge.proofs.Crossed.{words-cross}
 use Rattle.rb_bridge_document.specs.Acceptance.{IsBridgeAccepted}
 use Rattle.rb_run.specs.declared.ending.Ending.{Ending}
 use Rattle.rb_run.specs.declared.ending.Ending.TheVariants as ending
-use Rattle.rb_bridge.specs.Crossing.{EndsAs}
+use Rattle.rb_bridge.specs.Crossing.{EndsAs, run_of}
+use Rattle.rb_bridge.specs.Sides.{drive_of}
 use Rattle.rb_bridge_top.specs.declared.status.Status.{Status}
 use Rattle.rb_bridge_top.specs.declared.status.Status.TheVariants.{Done, Breach, Usage, Refused, TooLong, ReadFault, WriteFault, OutOfMemory}
 use Rattle.rb_bridge_top.specs.Answers.{Answers, Completes, Ends, FailsToWrite, NothingFails, Refuses}
@@ -19,7 +20,7 @@ use Rattle.rb_bridge_top.proofs.Accepted.{not-both, one-bridge}
 
 -- how a bridge with two plain drives ends
 ends-so : (b : Bridge) (lp : Bool) (ltold lsince : Option (List Turn)) (rp : Bool) (rtold rsince : Option (List Turn)) (e : Ending)
-    → EndsAs b true lp ltold lsince rp rtold rsince e → status_of e ≡ end_of b
+    → EndsAs (run_of b true (drive_of lp ltold lsince) (drive_of rp rtold rsince)) e → status_of e ≡ end_of b
 ends-so b lp ltold lsince rp rtold rsince ending.Ended is = sym (ap status_with (is.0 refl))
 ends-so b lp ltold lsince rp rtold rsince ending.Breach is = sym (ap status_with (is.1.0 refl))
 

@@ -7,7 +7,8 @@ use Rattle.rb_world_book.specs.declared.turn.Turn.{Turn}
 use Rattle.rb_run.specs.declared.ending.Ending.{Ending}
 use Rattle.rb_rules_bridge.specs.Bridges.{Bridge, IsBridge}
 use Rattle.rb_bridge_document.specs.Acceptance.{IsBridgeAccepted}
-use Rattle.rb_bridge.specs.Crossing.{WritesAll, WritesPart}
+use Rattle.rb_bridge.specs.Crossing.{ArePlain, BridgeRun, Drives, WritesAll, WritesPart, run_of}
+use Rattle.rb_bridge.specs.Sides.{drive_of}
 use Rattle.rb_bridge_top.specs.declared.form.Form.{Form}
 use Rattle.rb_bridge_top.specs.declared.form.Form.TheVariants.{Run}
 use Rattle.rb_bridge_top.specs.declared.status.Status.{Status}
@@ -29,21 +30,25 @@ pub record Untouched {S K D : Type 0} (words : List (String Global)) (status : S
   pub left_idle : (¬ AskFor words Run) ⊎ RunsNothing status → left' ≡ left
   pub right_idle : (¬ AskFor words Run) ⊎ RunsNothing status → right' ≡ right
 
--- Where `both` is true, both drives are plain. The drives gave turns of the bridge's runs, and with two plain ones its text was written: all of it, and
--- this is the answer
-pub record IsCrossed (b : Bridge) (both : Bool) (status : Status) (lp : Bool) (ltold lsince : Option (List Turn)) (rp : Bool) (rtold rsince : Option (List Turn)) (held held' : Option (List ℕ)) : Type 0 where
+-- the drives gave turns of the bridge's runs, and with two plain ones its text was written: all of it, and this is the answer
+pub record IsCrossed (x : BridgeRun) (status : Status) (held held' : Option (List ℕ)) : Type 0 where
   pub ending : Ending
   pub answer_is : status ≡ status_of ending
-  pub written : WritesAll b both lp ltold lsince rp rtold rsince held held' ending
+  pub written : WritesAll x held held' ending
 
--- the input has been read, and it says this bridge
+-- all that is said of a bridge was written, or where a write failed a first part
+pub record Reports (b : Bridge) (d : Drives) (status : Status) (held held' : Option (List ℕ)) : Type 0 where
+  pub ended : HasEnded status → (both : Bool) → ArePlain both d.left.is_plain d.right.is_plain → IsCrossed (run_of b both d.left d.right) status held held'
+  pub part : status ≡ answer.WriteFault → (both : Bool) → ArePlain both d.left.is_plain d.right.is_plain → WritesPart (run_of b both d.left d.right) held held'
+
+-- the input has been read, and it says this bridge. Where `both` is true, both drives are plain
 pub record Ends (both : Bool) (status : Status) (left left' held held' : Option (List ℕ)) (lp : Bool) (ltold lsince : Option (List Turn)) (rp : Bool) (rtold rsince : Option (List Turn)) : Type 0 where
   pub input : List ℕ
   pub bridge : Bridge
   pub read : ReadsToEnd left left' input
   pub accepted : IsBridgeAccepted input bridge
   pub is : IsBridge bridge
-  pub crossed : IsCrossed bridge both status lp ltold lsince rp rtold rsince held held'
+  pub crossed : IsCrossed (run_of bridge both (drive_of lp ltold lsince) (drive_of rp rtold rsince)) status held held'
 
 -- the input has been read and is refused, and the one line of the refusal is written
 abbrev pub Refuses : Option (List ℕ) → Option (List ℕ) → Option (List ℕ) → Option (List ℕ) → Type 0
@@ -55,7 +60,7 @@ pub record EndsPart (both : Bool) (left left' held held' : Option (List ℕ)) (f
   pub bridge : Bridge
   pub read : ReadsToEnd left left' input
   pub accepted : IsBridgeAccepted input bridge
-  pub written : WritesPart bridge both lp ltold lsince rp rtold rsince held held'
+  pub written : WritesPart (run_of bridge both (drive_of lp ltold lsince) (drive_of rp rtold rsince)) held held'
   pub rose : Rose faults faults'
 
 -- a write failed: the count of the sink's faults rose, and of the line of a refusal or of a bridge's text the first bytes are written

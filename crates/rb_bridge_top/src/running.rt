@@ -1,11 +1,11 @@
 //! A bridge that is opened, and taken to its end.
-ghost use Rattle.std.specs.Prelude.{◌≡◌, Bool};
+ghost use Rattle.std.specs.Prelude.{◌≡◌};
 ghost use Rattle.rb_outside.specs.Causes.{Rose};
 ghost use Rattle.rb_rules_bridge.specs.Bridges.{IsBridge};
 ghost use Rattle.rb_bridge_document.specs.Acceptance.{as_bridge};
-ghost use Rattle.rb_bridge.specs.Crossing.{ArePlain, WritesPart};
-ghost use Rattle.rb_bridge_top.specs.Answers.{IsCrossed};
-ghost use Rattle.rb_bridge_top.specs.Statuses.{HasEnded, IsOfRun, status_of};
+ghost use Rattle.rb_bridge.specs.Crossing.{drives_over};
+ghost use Rattle.rb_bridge_top.specs.Answers.{Reports};
+ghost use Rattle.rb_bridge_top.specs.Statuses.{IsOfRun, status_of};
 
 use crate::status::Status;
 use rb_base::OutOfMemory;
@@ -38,13 +38,8 @@ pub(crate) fn report<K: Sink, D: Drive>(
     right_drive: &mut D,
 ) -> Status
     requires { IsBridge (as_bridge bridge) }
-    ensures ended { HasEnded result → (both : Bool)
-        → ArePlain both (D.is_plain left_drive.old) (D.is_plain right_drive.old)
-        → IsCrossed (as_bridge bridge) both result (D.is_plain left_drive.old) (D.told left_drive.old) (D.told left_drive.new) (D.is_plain right_drive.old) (D.told right_drive.old) (D.told right_drive.new)
-        (K.held output.old) (K.held output.new) }
-    ensures part { result ≡ Status.WriteFault → (both : Bool)
-        → ArePlain both (D.is_plain left_drive.old) (D.is_plain right_drive.old)
-        → WritesPart (as_bridge bridge) both (D.is_plain left_drive.old) (D.told left_drive.old) (D.told left_drive.new) (D.is_plain right_drive.old) (D.told right_drive.old) (D.told right_drive.new)
+    ensures written { Reports (as_bridge bridge) (drives_over D.is_plain D.told
+        left_drive.old left_drive.new right_drive.old right_drive.new) result
         (K.held output.old) (K.held output.new) }
     ensures cause { result ≡ Status.WriteFault → Rose (K.faults output.old) (K.faults output.new) }
     ensures unopened { result ≡ Status.OutOfMemory

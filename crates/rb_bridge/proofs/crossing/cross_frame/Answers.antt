@@ -1,51 +1,58 @@
-use Rattle.std.proofs.Common.{false, option_map, sym, ap, ◌∙◌}
+use Rattle.std.proofs.Common.{false, option_map, sym, ap, ◌∙◌, rules}
 use Rattle.std.specs.Io.KnownBytes.{Appends}
 use Rattle.rb_base.proofs.Plain.{on_err}
 use Rattle.rb_outside.specs.Bytes.{AppendsPart}
 use Rattle.rb_rules_bridge.specs.declared.bank.Bank.TheVariants.{Left, Right}
 use Rattle.rb_bridge.proofs.Crossed.{breaks-off, crosses-part, goes-on, none-found, pairs-small, some-found, told-all}
-use Rattle.rb_bridge.specs.Crossing.{shown}
+use Rattle.rb_bridge.specs.Crossing.{run_after, shown}
 use Rattle.rb_bridge.proofs.SidesPassed.{on-its-way}
 use Rattle.rb_bridge.proofs.crossing.cross_frame.Goals as goal
 
 pub pass_both-breach-requires : goal.pass_both-breach-requires
 pass_both-breach-requires g c =
-    let r = c.requires in
+    let r = c.requires.run in
     record {
-      left = λ last. on-its-way r.b Left c.args.frame false _ r.ltold _ c.args.left.now r.ready.left last;
-      right = λ last. on-its-way r.b Right c.args.frame false _ r.rtold _ c.args.right.now r.ready.right last;
+      left = λ last. on-its-way r.b Left c.args.frame r.both _ r.left_told _ c.args.left.now r.ready.left last;
+      right = λ last. on-its-way r.b Right c.args.frame r.both _ r.right_told _ c.args.right.now r.ready.right last;
     }
 
 pub exchange-requires-clause-left : goal.exchange-requires-clause-left
-exchange-requires-clause-left g c = pairs-small c.requires.b Left c.args.pairs.now c.requires.bridge c.requires.pairs_are
+exchange-requires-clause-left g c = pairs-small c.requires.run.b Left c.args.pairs.now c.requires.run.bridge c.requires.pairs_are
 
 pub exchange-requires-clause-right : goal.exchange-requires-clause-right
-exchange-requires-clause-right g c = pairs-small c.requires.b Right c.args.pairs.now c.requires.bridge c.requires.pairs_are
+exchange-requires-clause-right g c = pairs-small c.requires.run.b Right c.args.pairs.now c.requires.run.bridge c.requires.pairs_are
 
-pub returns-in_err-tell-clause-part : goal.returns-in_err-tell-clause-part
-returns-in_err-tell-clause-part g c = λ b both ltold rtold bridge pairs below plain ready.
-    let is = c.pass_both-breach.ensures.through b both ltold rtold bridge below plain ready in
-    on_err _ (crosses-part b c.args.frame both _ ltold _ _ rtold _ c.pass_both-breach.new.left c.pass_both-breach.new.right c.pass_both-breach.result _ _ is
-    (told-all b c.args.frame both _ ltold _ _ rtold _ c.pass_both-breach.new.left c.pass_both-breach.new.right c.pass_both-breach.result
-    (AppendsPart (g.K.Sink.held c.args.output.now) (g.K.Sink.held c.tell.new.output)) below plain is (λ found. c.in_err-tell.ensures.part b found)))
+pub returns-in_err-tell-clause-crosses : goal.returns-in_err-tell-clause-crosses
+returns-in_err-tell-clause-crosses g c = λ x.
+    let is = c.pass_both-breach.ensures.through x.run in
+    record {
+      all = search rules;
+      part = on_err _ (crosses-part (run_after x.run) c.args.frame c.pass_both-breach.new.left c.pass_both-breach.new.right c.pass_both-breach.result _ _ is
+          (told-all (run_after x.run) c.args.frame c.pass_both-breach.new.left c.pass_both-breach.new.right c.pass_both-breach.result
+          (AppendsPart (g.K.Sink.held c.args.output.now) (g.K.Sink.held c.tell.new.output)) x.run.within x.run.plain is (λ found. c.in_err-tell.ensures.part x.run.b found)));
+    }
 
-pub returns-then-is_some-clause-all : goal.returns-then-is_some-clause-all
-returns-then-is_some-clause-all g c = λ b both ltold rtold bridge pairs below plain ready.
-    let is = c.pass_both-breach.ensures.through b both ltold rtold bridge below plain ready in
+pub returns-then-is_some-clause-crosses : goal.returns-then-is_some-clause-crosses
+returns-then-is_some-clause-crosses g c = λ x.
+    let is = c.pass_both-breach.ensures.through x.run in
     let found = some-found c.pass_both-breach.result (sym c.is_some.ensures ∙ c.if-is_some.true) in
-    breaks-off b c.args.frame both _ ltold _ _ rtold _ c.pass_both-breach.new.left c.pass_both-breach.new.right c.pass_both-breach.new.left c.pass_both-breach.new.right c.pass_both-breach.result found.0 _ _ is found.1
-    (told-all b c.args.frame both _ ltold _ _ rtold _ c.pass_both-breach.new.left c.pass_both-breach.new.right c.pass_both-breach.result
-    (Appends (g.K.Sink.held c.args.output.now) (g.K.Sink.held c.tell.new.output)) below plain is (λ found. c.in_ok-tell.ensures.all b found))
+    record {
+      all = breaks-off (run_after x.run) c.args.frame c.pass_both-breach.new.left c.pass_both-breach.new.right c.pass_both-breach.new.left c.pass_both-breach.new.right c.pass_both-breach.result found.0 _ _ is found.1
+          (told-all (run_after x.run) c.args.frame c.pass_both-breach.new.left c.pass_both-breach.new.right c.pass_both-breach.result
+          (Appends (g.K.Sink.held c.args.output.now) (g.K.Sink.held c.tell.new.output)) x.run.within x.run.plain is (λ found. c.in_ok-tell.ensures.all x.run.b found));
+      part = search rules;
+    }
 
-pub returns-clause-all : goal.returns-clause-all
-returns-clause-all g c = λ b both ltold rtold bridge pairs below plain ready.
-    let is = c.pass_both-breach.ensures.through b both ltold rtold bridge below plain ready in
+pub returns-clause-crosses : goal.returns-clause-crosses
+returns-clause-crosses g c = λ x.
+    let is = c.pass_both-breach.ensures.through x.run in
     let none = none-found c.pass_both-breach.result (sym c.is_some.ensures ∙ c.if-is_some.false) in
     let through = is.through (ap (option_map shown) none) in
-    goes-on b c.args.frame both _ ltold _ _ rtold _ c.pass_both-breach.new.left c.pass_both-breach.new.right c.exchange.new.left c.exchange.new.right c.pass_both-breach.result _ _ is none
-    (told-all b c.args.frame both _ ltold _ _ rtold _ c.pass_both-breach.new.left c.pass_both-breach.new.right c.pass_both-breach.result
-    (Appends (g.K.Sink.held c.args.output.now) (g.K.Sink.held c.tell.new.output)) below plain is (λ found. c.in_ok-tell.ensures.all b found))
-    (record {
-      left = c.exchange.ensures.left b c.args.frame both _ _ ltold _ rtold _ bridge pairs below plain.left plain.right (λ sure. through.unbroken) through.left through.right;
-      right = c.exchange.ensures.right b c.args.frame both _ _ ltold _ rtold _ bridge pairs below plain.left plain.right (λ sure. through.unbroken) through.left through.right;
-    })
+    record {
+      all = goes-on (run_after x.run) c.args.frame c.pass_both-breach.new.left c.pass_both-breach.new.right c.exchange.new.left c.exchange.new.right c.pass_both-breach.result _ _ is none
+          (told-all (run_after x.run) c.args.frame c.pass_both-breach.new.left c.pass_both-breach.new.right c.pass_both-breach.result
+          (Appends (g.K.Sink.held c.args.output.now) (g.K.Sink.held c.tell.new.output)) x.run.within x.run.plain is (λ found. c.in_ok-tell.ensures.all x.run.b found))
+          (c.exchange.ensures (run_after x.run) c.args.frame
+          (record { bridge = x.run.bridge; pairs_are = x.pairs_are; within = x.run.within; plain = x.run.plain; left = through.left; right = through.right; unbroken = λ sure. through.unbroken }));
+      part = search rules;
+    }

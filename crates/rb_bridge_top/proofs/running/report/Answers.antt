@@ -33,17 +33,22 @@ cross-requires g c = record {
       c.members_on-left_members.ensures c.members_on-right_members.ensures c.in-Ok.ensures c.in-Ok-open_side.ensures;
 }
 
-pub returns-in-Ok-cross-clause-ended : goal.returns-in-Ok-cross-clause-ended
-returns-in-Ok-cross-clause-ended g c h both plain = record {
-  ending = c.in-Ok-cross.ending;
-  answer_is = c.status_of.ensures;
-  written = c.in-Ok-cross.ensures.all (as_bridge c.args.bridge) both c.requires (sym c.as_slice-3.ensures.value) refl
-      (both-opened c.args.bridge c.as_slice.result.now c.as_slice-2.result.now _ _ _ _ c.as_slice.ensures.value c.as_slice-2.ensures.value
-      c.members_on-left_members.ensures c.members_on-right_members.ensures c.in-Ok.ensures c.in-Ok-open_side.ensures) plain;
+pub returns-in-Ok-cross-clause-written : goal.returns-in-Ok-cross-clause-written
+returns-in-Ok-cross-clause-written g c = record {
+  ended = λ h both plain. record {
+    ending = c.in-Ok-cross.ending;
+    answer_is = c.status_of.ensures;
+    written = (c.in-Ok-cross.ensures.written (record {
+      b = as_bridge c.args.bridge;
+      bridge = c.requires;
+      pairs_are = sym c.as_slice-3.ensures.value;
+      frames_are = refl;
+      opened = both-opened c.args.bridge c.as_slice.result.now c.as_slice-2.result.now _ _ _ _ c.as_slice.ensures.value c.as_slice-2.ensures.value
+          c.members_on-left_members.ensures c.members_on-right_members.ensures c.in-Ok.ensures c.in-Ok-open_side.ensures;
+    })).all both plain;
+  };
+  part = λ e. absurd (end-written c.in-Ok-cross.ending c.status_of.result c.status_of.ensures e);
 }
-
-pub returns-in-Ok-cross-clause-part : goal.returns-in-Ok-cross-clause-part
-returns-in-Ok-cross-clause-part g c e = absurd (end-written c.in-Ok-cross.ending c.status_of.result c.status_of.ensures e)
 
 pub returns-in-Ok-cross-clause-cause : goal.returns-in-Ok-cross-clause-cause
 returns-in-Ok-cross-clause-cause g c e = absurd (end-written c.in-Ok-cross.ending c.status_of.result c.status_of.ensures e)
@@ -54,7 +59,15 @@ returns-in-Ok-cross-clause-unopened g c e = absurd (end-opened c.in-Ok-cross.end
 pub returns-in-Ok-cross-clause-one_of : goal.returns-in-Ok-cross-clause-one_of
 returns-in-Ok-cross-clause-one_of g c = end-runs c.in-Ok-cross.ending c.status_of.result c.status_of.ensures
 
-pub returns-clause-part : goal.returns-clause-part
-returns-clause-part g c e both plain = c.in-Err-cross.ensures.part (as_bridge c.args.bridge) both c.requires (sym c.as_slice-3.ensures.value) refl
-    (both-opened c.args.bridge c.as_slice.result.now c.as_slice-2.result.now _ _ _ _ c.as_slice.ensures.value c.as_slice-2.ensures.value
-    c.members_on-left_members.ensures c.members_on-right_members.ensures c.in-Ok.ensures c.in-Ok-open_side.ensures) plain
+pub returns-clause-written : goal.returns-clause-written
+returns-clause-written g c = record {
+  ended = λ h. absurd h;
+  part = λ e both plain. (c.in-Err-cross.ensures.written (record {
+    b = as_bridge c.args.bridge;
+    bridge = c.requires;
+    pairs_are = sym c.as_slice-3.ensures.value;
+    frames_are = refl;
+    opened = both-opened c.args.bridge c.as_slice.result.now c.as_slice-2.result.now _ _ _ _ c.as_slice.ensures.value c.as_slice-2.ensures.value
+        c.members_on-left_members.ensures c.members_on-right_members.ensures c.in-Ok.ensures c.in-Ok-open_side.ensures;
+  })).part both plain;
+}

@@ -13,7 +13,7 @@ returns-in-Ok-clause-answers g c = λ both plain.
     (g.D.Drive.is_plain c.args.left.now) (g.D.Drive.told c.args.left.now) (g.D.Drive.told c.report.new.left_drive) (g.D.Drive.is_plain c.args.right.now) (g.D.Drive.told c.args.right.now) (g.D.Drive.told c.report.new.right_drive) in
     subst P c.in-Ok.ensures.unwritten
     (report-answers both c.report.result _ _ _ _ _ _ _ _ _ _ _ _ _ _ c.in-Ok.bridge c.in-Ok.ensures.bridge
-    (λ h. c.report.ensures.ended h both plain) (λ e. c.report.ensures.part e both plain) c.report.ensures.cause c.report.ensures.one_of)
+    (λ h. c.report.ensures.written.ended h both plain) (λ e. c.report.ensures.written.part e both plain) c.report.ensures.cause c.report.ensures.one_of)
 
 pub returns-in-Err-clause-answers : goal.returns-in-Err-clause-answers
 returns-in-Err-clause-answers g c = λ both plain. none-answers both c.in-Err.status _ _ _ _ _ _ _ _ _ _ _ _ c.in-Err.ensures.none
