@@ -6,7 +6,7 @@ use crate::line::{DeliveryLine, Line};
 use rb_base::Heard;
 
 /// What BIUs deliver in a slot.
-#[derive(Clone, Copy, Debug, PartialEq, Eq)]
+#[derive(Clone, Copy)]
 pub enum Outcome {
     /// All deliver one word.
     Agree,
@@ -18,7 +18,7 @@ pub enum Outcome {
 
 /// A slot of a frame in which something is delivered: a number for both, its owner, and what is
 /// delivered.
-#[derive(Clone, Copy, Debug, PartialEq, Eq)]
+#[derive(Clone, Copy)]
 pub struct Column {
     pub mark: u64,
     pub frame: u32,

@@ -19,7 +19,7 @@ use std::alloc::Global;
 
 /// The frame that is drawn: one more than its number, or 0 before the first, and what its lines
 /// say.
-#[derive(Clone, Copy, Debug, PartialEq, Eq)]
+#[derive(Clone, Copy)]
 pub struct Panel {
     pub mark: u64,
     pub frame: u32,
@@ -27,7 +27,7 @@ pub struct Panel {
 }
 
 /// The frame and the slot that are drawn.
-#[derive(Clone, Copy, Debug, PartialEq, Eq)]
+#[derive(Clone, Copy)]
 pub struct Stand {
     pub panel: Panel,
     pub column: Column,

@@ -8,7 +8,7 @@ use rb_base::{Biu, Heard, NodeId, NodeName, NodeSet};
 /// Frames, nodes, slots, and the greatest word and spread: what a picture has to have room for. Of
 /// the frames the first and the last, of the nodes of a kind one more than the greatest number, of
 /// the slots the lowest and one more than the highest.
-#[derive(Clone, Copy, Debug, PartialEq, Eq)]
+#[derive(Clone, Copy)]
 pub struct Extent {
     pub first: u32,
     pub last: u32,
@@ -21,7 +21,7 @@ pub struct Extent {
 }
 
 /// The first and the last time at which a good node begins a frame.
-#[derive(Clone, Copy, Debug, PartialEq, Eq)]
+#[derive(Clone, Copy)]
 pub struct Begins {
     pub frame: u32,
     pub least: u64,
@@ -49,7 +49,7 @@ pub(crate) fn is_asked(first: u32, last: u32, line: Line) -> bool
 }
 
 /// Nodes of both kinds, as masks.
-#[derive(Clone, Copy, Debug, PartialEq, Eq)]
+#[derive(Clone, Copy)]
 pub struct Nodes {
     pub biu: u16,
     pub rmu: u16,
@@ -57,7 +57,7 @@ pub struct Nodes {
 
 /// What the lines of a frame say: when it begins, whom any node holds convicted, and of which nodes
 /// they are.
-#[derive(Clone, Copy, Debug, PartialEq, Eq)]
+#[derive(Clone, Copy)]
 pub struct Facts {
     pub begins: Begins,
     pub convicted: Nodes,
@@ -66,7 +66,7 @@ pub struct Facts {
 
 /// The rows of the nodes of a kind: how many rows stand above them, how many they are, and which
 /// nodes are convicted and present.
-#[derive(Clone, Copy, Debug, PartialEq, Eq)]
+#[derive(Clone, Copy)]
 pub struct Rows {
     pub above: u16,
     pub count: u16,

@@ -6,7 +6,7 @@ use itoa::Buffer;
 use rb_base::OutOfMemory;
 
 /// Where a rectangle stands, and how large it is, in pixels.
-#[derive(Clone, Copy, Debug, PartialEq, Eq)]
+#[derive(Clone, Copy)]
 pub struct Area {
     pub x: u64,
     pub y: u64,

@@ -155,7 +155,7 @@ fn size_of(set: u16) -> u8
 
 /// Nodes of a kind whose names stand in a row: how many other names stand before theirs, and which
 /// they are.
-#[derive(Clone, Copy, Debug, PartialEq, Eq)]
+#[derive(Clone, Copy)]
 pub struct Newcomers {
     pub before: u8,
     pub set: u16,

@@ -22,7 +22,7 @@ use rb_rules::Cause;
 use std::alloc::Global;
 
 /// Why bytes are no report.
-#[derive(Clone, Copy, Debug, PartialEq, Eq)]
+#[derive(Clone, Copy)]
 pub enum Fault {
     /// What begins here is no line of a report.
     NoLine,
@@ -33,7 +33,7 @@ pub enum Fault {
 }
 
 /// Why there is no list of lines.
-#[derive(Clone, Copy, Debug, PartialEq, Eq)]
+#[derive(Clone, Copy)]
 pub enum Unreadable {
     /// The bytes are no report: the number of the line, from 1, and the cause.
     At(u64, Fault),
