@@ -1,6 +1,6 @@
 //! What the lines of the frames asked for span.
 ghost use Rattle.std.specs.Prelude.{◌≡◌};
-ghost use Rattle.rb_picture.specs.Extents.{begins_after, biu_rows, both, extent_after, extent_of, facts_after, facts_of, is_asked, is_between, mark_of, rmu_rows, spread_of, top_of, with_begin, with_convicted, with_frame, with_name, with_node, with_number, with_present, with_sets, with_slot, with_spread, with_word};
+ghost use Rattle.rb_picture.specs.Extents.{begins_after, both, extent_after, extent_of, facts_after, facts_of, is_asked, is_between, mark_of, top_of, with_begin, with_frame, with_name, with_node, with_number, with_present, with_sets, with_slot, with_word};
 
 use crate::line::Line;
 use rb_base::{Biu, Heard, NodeId, NodeName, NodeSet};
@@ -202,22 +202,18 @@ fn with_word(extent: Extent, value: Heard) -> Extent
     }
 }
 
-fn with_begins(extent: Extent, begins: Begins) -> Extent
-    ensures { result ≡ with_spread extent (spread_of begins) }
-{
-    Extent {
-        spread: extent
-            .spread
-            .max(begins.greatest.saturating_sub(begins.least)),
-        ..extent
-    }
-}
-
 fn extent_after(extent: Extent, begins: Begins, line: Line) -> Extent
     ensures { result ≡ extent_after extent begins line }
 {
     match line {
-        Line::Epoch(l) => with_begins(with_node(with_frame(extent, l.frame), l.node), begins),
+        Line::Epoch(l) => {
+            let extent = with_node(with_frame(extent, l.frame), l.node);
+            let spread = begins.greatest.saturating_sub(begins.least);
+            Extent {
+                spread: extent.spread.max(spread),
+                ..extent
+            }
+        }
         Line::Convicted(l) => with_sets(
             with_node(with_frame(extent, l.frame), l.node),
             l.biu,
@@ -311,16 +307,6 @@ fn with_present(facts: Facts, node: NodeName) -> Facts
     }
 }
 
-fn with_convicted(facts: Facts, biu: u16, rmu: u16) -> Facts
-    ensures { result ≡ with_convicted facts biu rmu }
-{
-    let convicted = Nodes {
-        biu: both(facts.convicted.biu, biu),
-        rmu: both(facts.convicted.rmu, rmu),
-    };
-    Facts { convicted, ..facts }
-}
-
 fn facts_after(facts: Facts, line: Line) -> Facts
     ensures { result ≡ facts_after facts line }
 {
@@ -329,7 +315,13 @@ fn facts_after(facts: Facts, line: Line) -> Facts
             let begins = with_begin(facts.begins, l.frame, l.time);
             with_present(Facts { begins, ..facts }, l.node)
         }
-        Line::Convicted(l) => with_present(with_convicted(facts, l.biu, l.rmu), l.node),
+        Line::Convicted(l) => {
+            let convicted = Nodes {
+                biu: both(facts.convicted.biu, l.biu),
+                rmu: both(facts.convicted.rmu, l.rmu),
+            };
+            with_present(Facts { convicted, ..facts }, l.node)
+        }
         Line::Port(l) => with_present(facts, NodeName::Biu(l.biu)),
         Line::Delivery(l) => with_present(facts, NodeName::Biu(l.receiver)),
         Line::End(_) | Line::Breach(_, _) => facts,
@@ -349,26 +341,4 @@ pub(crate) fn facts_of(mark: u64, lines: &[Line]) -> Facts
         facts = facts_after(facts, *line);
     }
     facts
-}
-
-pub(crate) fn biu_rows(extent: Extent, facts: Facts) -> Rows
-    ensures { result ≡ biu_rows extent facts }
-{
-    Rows {
-        above: 0,
-        count: extent.bius,
-        convicted: facts.convicted.biu,
-        present: facts.present.biu,
-    }
-}
-
-pub(crate) fn rmu_rows(extent: Extent, facts: Facts) -> Rows
-    ensures { result ≡ rmu_rows extent facts }
-{
-    Rows {
-        above: extent.bius,
-        count: extent.rmus,
-        convicted: facts.convicted.rmu,
-        present: facts.present.rmu,
-    }
 }

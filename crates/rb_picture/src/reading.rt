@@ -161,17 +161,14 @@ fn delivery_in(text: &str) -> Option<Line>
     )
 }
 
-fn end_of(frames: Option<u32>) -> Option<Line>
-    ensures { (n : ℕ) → frames ≡ Some n → result ≡ Some (Line.End n) }
-{
-    Some(Line::End(frames?))
-}
-
 fn end_in(text: &str) -> Option<Line>
     ensures { (frames : ℕ) → frames < 2 ^ 32 → text.now ≡ line_body (Line.End frames)
         → result ≡ Some (Line.End frames) }
 {
-    end_of(u32_in(second_field(text)))
+    match u32_in(second_field(text)) {
+        Some(frames) => Some(Line::End(frames)),
+        None => None,
+    }
 }
 
 fn breach_of(
