@@ -14,7 +14,7 @@ use Rattle.rb_picture.specs.declared.sheet.Sheet.{Sheet}
 use Rattle.rb_picture.specs.declared.sheet.View.{View}
 use Rattle.rb_picture.specs.declared.sheet.View.TheVariants.{Panels, Overview}
 use Rattle.rb_picture.specs.Headings.{with_frames, with_heading, with_key}
-use Rattle.rb_picture.specs.Overview.{is_numbered, newly, with_break, with_break_words, with_frame_number, with_newcomer, with_newcomers, with_newcomers_of, with_outcomes, with_row, with_signature, with_signs, with_slot_range, with_square}
+use Rattle.rb_picture.specs.Overview.{is_numbered, newly, with_break, with_break_words, with_frame_number, with_newcomer, with_newcomers, with_newcomers_of, with_outcomes, with_row, with_sign, with_signature, with_signs, with_slot_range, with_square}
 use Rattle.rb_picture.specs.Sheets.{sheet_height, sheet_width}
 use Rattle.rb_picture.specs.Content.{AddsContent}
 use Rattle.rb_picture.specs.Markup.{with_opening}
@@ -168,15 +168,18 @@ adds_break : (extent : Extent) (t : List ℕ) (place : Place) (cause : Cause) �
 unfolding with_break
 adds_break extent t place cause = adds_more (adds_break_words _ place cause) (adds_box _ _ _)
 
+adds_sign : (t : List ℕ) (x y : ℕ) (look meaning : List ℕ) → AddsContent t (with_sign t x y look meaning)
+unfolding with_sign
+adds_sign t x y look meaning = adds_more (adds_label _ _ _ _ _ _) (adds_box _ _ _)
+
 adds_outcomes : (t : List ℕ) → AddsContent t (with_outcomes t)
 unfolding with_outcomes
-adds_outcomes t =
-    adds_more (adds_label _ _ _ _ _ _) (adds_more (adds_box _ _ _) (adds_more (adds_label _ _ _ _ _ _) (adds_more (adds_box _ _ _) (adds_more (adds_label _ _ _ _ _ _) (adds_box _ _ _)))))
+adds_outcomes t = adds_more (adds_sign _ _ _ _ _) (adds_more (adds_sign _ _ _ _ _) (adds_sign _ _ _ _ _))
 
 adds_signs : (t : List ℕ) → AddsContent t (with_signs t)
 unfolding with_signs
 adds_signs t =
-    adds_more (adds_label _ _ _ _ _ _) (adds_more (adds_label _ _ _ _ _ _) (adds_more (adds_label _ _ _ _ _ _) (adds_more (adds_box _ _ _) (adds_more (adds_label _ _ _ _ _ _) (adds_box _ _ _)))))
+    adds_more (adds_label _ _ _ _ _ _) (adds_more (adds_label _ _ _ _ _ _) (adds_more (adds_sign _ _ _ _ _) (adds_sign _ _ _ _ _)))
 
 adds_slot_range : (extent : Extent) (t : List ℕ) → AddsContent t (with_slot_range extent t)
 unfolding with_slot_range

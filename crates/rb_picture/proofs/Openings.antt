@@ -11,7 +11,7 @@ use Rattle.rb_picture.specs.Markup.{escape, escaped, with_number, with_opening}
 use Rattle.rb_picture.proofs.WellFormed.{with_all_is}
 
 svg_parts : (o n x r aw ah v z w sp h q g t st sty cl c e nl : List ℕ)
-    → (((((((((((((o ++ (n ++ (x ++ r))) ++ (aw ++ (ah ++ []))) ++ (v ++ z)) ++ w) ++ sp) ++ h) ++ (q ++ g)) ++ t) ++ st) ++ sty) ++ cl) ++ c) ++ (e ++ nl))
+    → (((((((((((o ++ (n ++ (x ++ r))) ++ (aw ++ (ah ++ []))) ++ (v ++ z)) ++ w) ++ sp) ++ h) ++ (q ++ (g ++ (t ++ st)))) ++ sty) ++ cl) ++ c) ++ (e ++ nl))
     ≡ (o ++ (n ++ ((x ++ (r ++ (aw ++ (ah ++ ((v ++ ((z ++ (w ++ (sp ++ h))) ++ q)) ++ []))))) ++ (g ++ ((t ++ ((st ++ ((sty ++ []) ++ cl)) ++ c)) ++ e))))) ++ nl
 svg_parts o n x r aw ah v z w sp h q g t st sty cl c e nl = simp (append_assoc, append-nil)
 
@@ -33,7 +33,7 @@ svg_attributes w h =
 
 abbrev opening_after : List ℕ → ℕ → ℕ → List ℕ → List ℕ
 opening_after t w h style =
-    ((((((((t ++ codes " viewBox=\"0 0 ") ++ escaped (decimal w)) ++ codes " ") ++ escaped (decimal h)) ++ codes "\">") ++ codes "<title>A run of the bus</title>") ++ codes "<style>") ++ escaped style) ++ codes "</style>"
+    ((((((t ++ codes " viewBox=\"0 0 ") ++ escaped (decimal w)) ++ codes " ") ++ escaped (decimal h)) ++ codes "\"><title>A run of the bus</title><style>") ++ escaped style) ++ codes "</style>"
 
 abbrev start : List ℕ
 start = codes "<svg xmlns=\"http://www.w3.org/2000/svg\" role=\"img\""

@@ -2,6 +2,7 @@
 use Rattle.std.specs.Prelude.{ℕ, ◌+◌, ◌*◌, ◌==◌, Bool, true, false, if◌then◌else◌, List, [], ◌∷◌}
 use Rattle.rb_base.specs.declared.values.Heard.{Heard}
 use Rattle.rb_base.specs.declared.values.Heard.TheVariants.{Word, Fault}
+use Rattle.rb_rules.specs.Majority.{same_heard}
 use Rattle.rb_picture.specs.declared.line.DeliveryLine.{DeliveryLine}
 use Rattle.rb_picture.specs.declared.line.Line.{Line}
 use Rattle.rb_picture.specs.declared.line.Line.TheVariants as line
@@ -20,12 +21,6 @@ line_mark (line.Port l) = 0
 line_mark (line.Delivery l) = slot_mark l
 line_mark (line.End frames) = 0
 line_mark (line.Breach place cause) = 0
-
-abbrev pub same_heard : Heard → Heard → Bool
-same_heard (Word a) (Word b) = a == b
-same_heard (Word a) Fault = false
-same_heard Fault (Word b) = false
-same_heard Fault Fault = true
 
 -- whether the line is no delivery, or one of this
 abbrev pub brings : Heard → Line → Bool

@@ -39,7 +39,7 @@ word_look Fault = codes "nothing"
 -- a delivery: a rectangle in the sender's colour, and the word in it
 unfoldable pub with_cell : Extent → List ℕ → DeliveryLine → List ℕ
 with_cell extent text l =
-    with_label (with_box text (cell_area extent l) (cell_look l.sender l.value)) (column_left extent l.slot + cell_width extent / 2) (row_top extent l.frame l.receiver + 15) (word_look l.value) (heard_text l.value) []
+    with_label (with_box text (cell_area extent l) (cell_look l.sender l.value)) (column_left extent l.slot + cell_width extent / 2) (row_top extent l.frame l.receiver + 15) (word_look l.value) [] (heard_text l.value)
 
 -- a node begins a frame, so long after the first
 unfoldable pub with_tick : Extent → List ℕ → ℕ → NodeName → ℕ → List ℕ

@@ -32,7 +32,7 @@ with_label text x y look before after =
 -- how a picture begins: its size, and the colours of the looks
 unfoldable pub with_opening : List ℕ → ℕ → ℕ → List ℕ → List ℕ
 with_opening text width height style =
-    ((((((((with_number (with_number (text ++ codes "<svg xmlns=\"http://www.w3.org/2000/svg\" role=\"img\"") (codes "width") width) (codes "height") height ++ codes " viewBox=\"0 0 ") ++ escaped (decimal width)) ++ codes " ") ++ escaped (decimal height)) ++ codes "\">") ++ codes "<title>A run of the bus</title>") ++ codes "<style>") ++ escaped style) ++ codes "</style>"
+    ((((((with_number (with_number (text ++ codes "<svg xmlns=\"http://www.w3.org/2000/svg\" role=\"img\"") (codes "width") width) (codes "height") height ++ codes " viewBox=\"0 0 ") ++ escaped (decimal width)) ++ codes " ") ++ escaped (decimal height)) ++ codes "\"><title>A run of the bus</title><style>") ++ escaped style) ++ codes "</style>"
 
 -- something of each number below a count, in order
 unfoldable pub each_below : (List ℕ → ℕ → List ℕ) → ℕ → List ℕ → List ℕ

@@ -125,25 +125,25 @@ with_break_words text place cause =
 unfoldable pub with_break : Extent → List ℕ → Place → Cause → List ℕ
 with_break extent text place cause = with_break_words (with_box text (square_area extent place.frame place.slot) (codes "breach")) place cause
 
+-- a sign, and beside it what it means
+unfoldable pub with_sign : List ℕ → ℕ → ℕ → List ℕ → List ℕ → List ℕ
+with_sign text x y look meaning =
+    with_label (with_box text (record { x = x; y = y; width = 20; height = 12 }) look) (x + 26) (y + 10) (codes "note") meaning []
+
 -- what the cells mean
 unfoldable pub with_outcomes : List ℕ → List ℕ
 with_outcomes text =
-    with_label (with_box (with_label (with_box (with_label (with_box text
-    (record { x = 20; y = 40; width = 20; height = 12 }) (codes "agree"))
-    46 50 (codes "note") (codes "all deliver one word") [])
-    (record { x = 190; y = 40; width = 20; height = 12 }) (codes "silent"))
-    216 50 (codes "note") (codes "all deliver none") [])
-    (record { x = 340; y = 40; width = 20; height = 12 }) (codes "differ"))
-    366 50 (codes "note") (codes "not the same") []
+    with_sign (with_sign (with_sign text
+    20 40 (codes "agree") (codes "all deliver one word"))
+    190 40 (codes "silent") (codes "all deliver none"))
+    340 40 (codes "differ") (codes "not the same")
 
 -- what the other signs mean
 unfoldable pub with_signs : List ℕ → List ℕ
 with_signs text =
-    with_label (with_label (with_label (with_box (with_label (with_box text
-    (record { x = 20; y = 62; width = 20; height = 12 }) (codes "strip"))
-    46 72 (codes "note") (codes "nothing delivered") [])
-    (record { x = 190; y = 62; width = 20; height = 12 }) (codes "breach"))
-    216 72 (codes "note") (codes "breach") [])
+    with_label (with_label (with_sign (with_sign text
+    20 62 (codes "strip") (codes "nothing delivered"))
+    190 62 (codes "breach") (codes "breach"))
     340 72 (codes "newcomer") (codes "R2") [])
     366 72 (codes "note") (codes "convicted from this frame on") []
 

@@ -1,12 +1,12 @@
 //! What the deliveries in a slot of a frame say together.
 ghost use Rattle.std.specs.Prelude.{◌≡◌, ◌<◌, ◌^◌};
-ghost use Rattle.rb_picture.specs.Columns.{all_bring, brings, column_of, column_with, line_mark, outcome_of, same_heard, slot_mark};
+ghost use Rattle.rb_picture.specs.Columns.{all_bring, brings, column_of, column_with, line_mark, outcome_of, slot_mark};
 
 use crate::line::{DeliveryLine, Line};
 use rb_base::Heard;
 
 /// What BIUs deliver in a slot.
-#[derive(Clone, Copy, Debug, PartialEq, Eq)]
+#[derive(Clone, Copy)]
 pub enum Outcome {
     /// All deliver one word.
     Agree,
@@ -18,7 +18,7 @@ pub enum Outcome {
 
 /// A slot of a frame in which something is delivered: a number for both, its owner, and what is
 /// delivered.
-#[derive(Clone, Copy, Debug, PartialEq, Eq)]
+#[derive(Clone, Copy)]
 pub struct Column {
     pub mark: u64,
     pub frame: u32,
@@ -51,21 +51,15 @@ fn line_mark(line: Line) -> u64
     }
 }
 
-fn same_heard(first: Heard, second: Heard) -> bool
-    ensures { result ≡ same_heard first second }
-{
-    match (first, second) {
-        (Heard::Word(a), Heard::Word(b)) => a == b,
-        (Heard::Fault, Heard::Fault) => true,
-        (Heard::Word(_), Heard::Fault) | (Heard::Fault, Heard::Word(_)) => false,
-    }
-}
-
 fn brings(value: Heard, line: Line) -> bool
     ensures { result ≡ brings value line }
 {
     match line {
-        Line::Delivery(l) => same_heard(l.value, value),
+        Line::Delivery(l) => match (l.value, value) {
+            (Heard::Word(a), Heard::Word(b)) => a == b,
+            (Heard::Fault, Heard::Fault) => true,
+            (Heard::Word(_), Heard::Fault) | (Heard::Fault, Heard::Word(_)) => false,
+        },
         Line::Epoch(_) | Line::Convicted(_) | Line::Port(_) | Line::End(_) | Line::Breach(_, _) =>
             true,
     }

@@ -2,19 +2,18 @@
 ghost use Rattle.std.specs.Prelude.{◌≡◌, ◌≤◌, OnOk, slice_index_or, codes, length};
 ghost use Rattle.rb_report.specs.Report.{heard_text};
 ghost use Rattle.rb_picture.specs.Headings.{with_frames, with_heading};
-ghost use Rattle.rb_picture.specs.Drawing.{cause_words, follows, look_of, with_absence, with_breach, with_cell, with_cross, with_ending, with_ground, with_last_panel, with_legend, with_marks, with_name, with_names, with_names_of, with_owner, with_panel, with_sender, with_senders, with_slot_number, with_slots, with_state, with_states, with_states_of, with_strokes, with_tick};
+ghost use Rattle.rb_picture.specs.Drawing.{cause_words, look_of, with_absence, with_breach, with_cell, with_cross, with_ending, with_ground, with_last_panel, with_legend, with_marks, with_name, with_names_of, with_owner, with_panel, with_sender, with_senders, with_slot_number, with_slots, with_state, with_states, with_states_of, with_strokes};
 
 use crate::column::Column;
-use crate::extent::{Extent, Facts, Rows, biu_rows, rmu_rows};
+use crate::extent::{Extent, Facts, Rows};
 use crate::line::DeliveryLine;
-use crate::markup::{Area, push_box, push_label};
+use crate::markup::{Area, push_box, push_label, push_numbered};
 use crate::places::{
-    breach_area, cell_area, cell_width, column_left, grid_area, is_wide, names_left, panel_area,
-    panel_top, row_top, slots_of, strip_area, tick_area,
+    breach_area, cell_area, cell_width, column_left, grid_area, panel_area, panel_top, row_top,
+    slots_of, strip_area,
 };
 use crate::sheet::{Sheet, sheet_height, sheet_width};
-use itoa::Buffer;
-use rb_base::{Biu, Heard, NodeName, NodeSet, OutOfMemory, Place};
+use rb_base::{Biu, Heard, NodeSet, OutOfMemory, Place};
 use rb_rules::Cause;
 
 // The look of a sender's cells.
@@ -66,27 +65,13 @@ pub(crate) fn push_cell(
     match l.value {
         Heard::Word(word) => {
             push_box(out, area, look_of(u64::from(l.sender)))?;
-            push_label(out, x, y, "word", Buffer::new().format(word), "")
+            push_numbered(out, x, y, "word", "", word)
         }
         Heard::Fault => {
             push_box(out, area, "none")?;
-            push_label(out, x, y, "nothing", "none", "")
+            push_label(out, x, y, "nothing", "", "none")
         }
     }
-}
-
-/// The begin of a frame at a node, so long after the first.
-#[tactic(auto, unfolding(crate::specs::Drawing::with_tick))]
-pub(crate) fn push_tick(
-    out: &mut Vec<u8>,
-    extent: Extent,
-    frame: u32,
-    node: NodeName,
-    after: u64,
-) -> Result<(), OutOfMemory>
-    ensures { OnOk result (out.new.items ≡ with_tick extent out.old.items frame node after) }
-{
-    push_box(out, tick_area(extent, frame, node, after), "tick")
 }
 
 /// A breach in its place.
@@ -101,29 +86,9 @@ pub(crate) fn push_breach(
 {
     let y = panel_top(extent, place.frame) + 24;
     push_box(out, breach_area(extent, place), "breach")?;
-    push_label(
-        out,
-        112,
-        y,
-        "cause",
-        "breach in slot ",
-        Buffer::new().format(place.slot),
-    )?;
-    push_label(
-        out,
-        250,
-        y,
-        "cause",
-        "stage ",
-        Buffer::new().format(place.stage),
-    )?;
+    push_numbered(out, 112, y, "cause", "breach in slot ", place.slot)?;
+    push_numbered(out, 250, y, "cause", "stage ", place.stage)?;
     push_label(out, 306, y, "cause", cause_words(cause), "")
-}
-
-fn follows(extent: Extent, frames: u32) -> bool
-    ensures { result ≡ follows extent frames }
-{
-    frames == extent.last && extent.first <= extent.last
 }
 
 /// The run came to its end.
@@ -131,13 +96,13 @@ fn follows(extent: Extent, frames: u32) -> bool
 pub(crate) fn push_ending(out: &mut Vec<u8>, frames: u32) -> Result<(), OutOfMemory>
     ensures { OnOk result (out.new.items ≡ with_ending out.old.items frames) }
 {
-    push_label(
+    push_numbered(
         out,
         420,
         28,
         "note",
         "frames to the end of the run: ",
-        Buffer::new().format(frames),
+        frames,
     )
 }
 
@@ -150,7 +115,7 @@ pub(crate) fn push_last_panel(
 ) -> Result<(), OutOfMemory>
     ensures { OnOk result (out.new.items ≡ with_last_panel extent out.old.items frames) }
 {
-    if follows(extent, frames) {
+    if frames == extent.last && extent.first <= extent.last {
         let y = panel_top(extent, frames) + 24;
         let note = "the run is over: this is the frame that would follow";
         return push_label(out, 120, y, "note", note, "");
@@ -169,7 +134,7 @@ pub(crate) fn push_owner(
 {
     let x = column_left(extent, u32::from(column.slot)) + cell_width(extent) / 2;
     let y = panel_top(extent, column.frame) + 58;
-    push_label(out, x, y, "owner", "B", Buffer::new().format(column.sender))
+    push_numbered(out, x, y, "owner", "B", column.sender)
 }
 
 #[tactic(auto, unfolding(crate::specs::Drawing::with_name))]
@@ -186,10 +151,11 @@ fn push_name(
         ≡ with_name extent frame out.old.items letter.now row number) }
 {
     let y = row_top(extent, frame, row) + 15;
-    push_label(out, 20, y, "name", letter, Buffer::new().format(number))?;
-    if is_wide(extent) {
-        let x = names_left(extent);
-        return push_label(out, x, y, "name", letter, Buffer::new().format(number));
+    push_numbered(out, 20, y, "name", letter, number)?;
+    let slots = slots_of(extent);
+    if 12 < slots {
+        let x = 292 + cell_width(extent) * slots;
+        return push_numbered(out, x, y, "name", letter, number);
     }
     Ok(())
 }
@@ -213,14 +179,6 @@ fn push_names_of(
     Ok(())
 }
 
-#[tactic(auto, unfolding(crate::specs::Drawing::with_names))]
-fn push_names(out: &mut Vec<u8>, extent: Extent, frame: u32) -> Result<(), OutOfMemory>
-    ensures { OnOk result (out.new.items ≡ with_names extent frame out.old.items) }
-{
-    push_names_of(out, extent, frame, "B", 0, extent.bius)?;
-    push_names_of(out, extent, frame, "R", extent.bius, extent.rmus)
-}
-
 #[tactic(auto, unfolding(crate::specs::Drawing::with_slot_number))]
 fn push_slot_number(
     out: &mut Vec<u8>,
@@ -235,7 +193,7 @@ fn push_slot_number(
     let x = 284 + width * slot + width / 2;
     let y = panel_top(extent, frame) + 46;
     let number = u64::from(extent.low) + slot;
-    push_label(out, x, y, "slot", "", Buffer::new().format(number))
+    push_numbered(out, x, y, "slot", "", number)
 }
 
 #[tactic(auto, using(crate::proofs::Turns::each_turns), unfolding(crate::specs::Drawing::with_slots))]
@@ -311,8 +269,20 @@ fn push_states(
 ) -> Result<(), OutOfMemory>
     ensures { OnOk result (out.new.items ≡ with_states extent frame facts out.old.items) }
 {
-    push_states_of(out, extent, frame, biu_rows(extent, facts))?;
-    push_states_of(out, extent, frame, rmu_rows(extent, facts))
+    let bius = Rows {
+        above: 0,
+        count: extent.bius,
+        convicted: facts.convicted.biu,
+        present: facts.present.biu,
+    };
+    let rmus = Rows {
+        above: extent.bius,
+        count: extent.rmus,
+        convicted: facts.convicted.rmu,
+        present: facts.present.rmu,
+    };
+    push_states_of(out, extent, frame, bius)?;
+    push_states_of(out, extent, frame, rmus)
 }
 
 #[tactic(auto, unfolding(crate::specs::Drawing::with_ground))]
@@ -327,29 +297,15 @@ fn push_ground(
     let top = panel_top(extent, frame);
     let spread = facts.begins.greatest.saturating_sub(facts.begins.least);
     push_box(out, panel_area(extent, frame), "panel")?;
-    push_label(
-        out,
-        20,
-        top + 24,
-        "title",
-        "frame ",
-        Buffer::new().format(frame),
-    )?;
-    push_label(
-        out,
-        92,
-        top + 46,
-        "note",
-        "spread ",
-        Buffer::new().format(spread),
-    )?;
+    push_numbered(out, 20, top + 24, "title", "frame ", frame)?;
+    push_numbered(out, 92, top + 46, "note", "spread ", spread)?;
     push_label(out, 271, top + 46, "slot", "slot", "")?;
     push_box(out, strip_area(extent, frame), "strip")?;
     push_box(out, grid_area(extent, frame), "grid")
 }
 
 /// A frame without what is in its cells.
-#[tactic(auto, unfolding(crate::specs::Drawing::with_panel))]
+#[tactic(auto, unfolding(crate::specs::Drawing::with_panel, crate::specs::Drawing::with_names))]
 pub(crate) fn push_panel(
     out: &mut Vec<u8>,
     extent: Extent,
@@ -359,7 +315,8 @@ pub(crate) fn push_panel(
     ensures { OnOk result (out.new.items ≡ with_panel extent frame facts out.old.items) }
 {
     push_ground(out, extent, frame, facts)?;
-    push_names(out, extent, frame)?;
+    push_names_of(out, extent, frame, "B", 0, extent.bius)?;
+    push_names_of(out, extent, frame, "R", extent.bius, extent.rmus)?;
     push_slots(out, extent, frame)?;
     push_states(out, extent, frame, facts)
 }
@@ -368,21 +325,9 @@ pub(crate) fn push_panel(
 fn push_sender(out: &mut Vec<u8>, sender: u16) -> Result<(), OutOfMemory>
     ensures { OnOk result (out.new.items ≡ with_sender out.old.items sender) }
 {
-    let area = Area {
-        x: 20 + 60 * u64::from(sender),
-        y: 40,
-        width: 16,
-        height: 16,
-    };
-    push_box(out, area, look_of(u64::from(sender)))?;
-    push_label(
-        out,
-        42 + 60 * u64::from(sender),
-        53,
-        "name",
-        "B",
-        Buffer::new().format(sender),
-    )
+    let left = 60 * u64::from(sender);
+    push_box(out, area(20 + left, 40, 16, 16), look_of(u64::from(sender)))?;
+    push_numbered(out, 42 + left, 53, "name", "B", sender)
 }
 
 pub(crate) fn area(x: u64, y: u64, width: u64, height: u64) -> Area
@@ -445,22 +390,8 @@ fn push_frames(out: &mut Vec<u8>, extent: Extent) -> Result<(), OutOfMemory>
     if extent.last < extent.first {
         return push_label(out, 20, 28, "title", "no frame", "");
     }
-    push_label(
-        out,
-        20,
-        28,
-        "title",
-        "first frame ",
-        Buffer::new().format(extent.first),
-    )?;
-    push_label(
-        out,
-        220,
-        28,
-        "title",
-        "last frame ",
-        Buffer::new().format(extent.last),
-    )
+    push_numbered(out, 20, 28, "title", "first frame ", extent.first)?;
+    push_numbered(out, 220, 28, "title", "last frame ", extent.last)
 }
 
 /// The page, and which frames are drawn.

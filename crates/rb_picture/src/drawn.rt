@@ -6,12 +6,13 @@ ghost use Rattle.rb_picture.specs.Headings.{with_key};
 use crate::column::{Column, NO_COLUMN, column_with};
 use crate::drawing::{
     push_breach, push_cell, push_ending, push_heading, push_last_panel, push_legend, push_owner,
-    push_panel, push_tick,
+    push_panel,
 };
 use crate::extent::{Extent, Facts, NO_FACTS, facts_of, mark_of};
 use crate::line::Line;
-use crate::markup::{push, push_opening};
+use crate::markup::{push, push_box, push_opening};
 use crate::overview::{push_break, push_row, push_signature, push_square};
+use crate::places::tick_area;
 use crate::sheet::{Sheet, View, sheet_height, sheet_width};
 use crate::style::STYLE;
 use rb_base::OutOfMemory;
@@ -19,7 +20,7 @@ use std::alloc::Global;
 
 /// The frame that is drawn: one more than its number, or 0 before the first, and what its lines
 /// say.
-#[derive(Clone, Copy, Debug, PartialEq, Eq)]
+#[derive(Clone, Copy)]
 pub struct Panel {
     pub mark: u64,
     pub frame: u32,
@@ -27,7 +28,7 @@ pub struct Panel {
 }
 
 /// The frame and the slot that are drawn.
-#[derive(Clone, Copy, Debug, PartialEq, Eq)]
+#[derive(Clone, Copy)]
 pub struct Stand {
     pub panel: Panel,
     pub column: Column,
@@ -72,16 +73,6 @@ fn panel_with(panel: Panel, line: Line, lines: &[Line]) -> Panel
     }
 }
 
-// The stand at the first of these lines.
-fn stand_with(stand: Stand, line: Line, lines: &[Line]) -> Stand
-    ensures { result ≡ stand_with stand line lines.now }
-{
-    Stand {
-        panel: panel_with(stand.panel, line, lines),
-        column: column_with(stand.column, line, lines),
-    }
-}
-
 // The ground of another panel.
 fn push_ground_of(
     out: &mut Vec<u8>,
@@ -121,6 +112,7 @@ fn push_head_of(
 }
 
 // What a line shows in its panel.
+#[tactic(auto, unfolding(crate::specs::Drawing::with_tick))]
 fn push_in_panel(
     out: &mut Vec<u8>,
     extent: Extent,
@@ -134,7 +126,7 @@ fn push_in_panel(
     match line {
         Line::Epoch(l) => {
             let after = l.time.saturating_sub(facts.begins.least);
-            push_tick(out, extent, l.frame, l.node, after)
+            push_box(out, tick_area(extent, l.frame, l.node, after), "tick")
         }
         Line::Convicted(_) | Line::Port(_) => Ok(()),
         Line::Delivery(l) => push_cell(out, extent, l),
@@ -187,7 +179,10 @@ fn push_next(
     ensures { IfOk result (λ after. (after ≡ stand_with stand line lines.now)
         × (out.new.items ≡ with_pieces sheet out.old.items (pieces_at stand after line))) }
 {
-    let after = stand_with(stand, line, lines);
+    let after = Stand {
+        panel: panel_with(stand.panel, line, lines),
+        column: column_with(stand.column, line, lines),
+    };
     push_ground_of(out, sheet, stand.panel, after.panel)?;
     push_head_of(out, sheet, stand.column, after.column)?;
     push_line(out, sheet, after.panel.facts, line)?;

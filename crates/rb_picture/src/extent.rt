@@ -1,6 +1,6 @@
 //! What the lines of the frames asked for span.
 ghost use Rattle.std.specs.Prelude.{◌≡◌};
-ghost use Rattle.rb_picture.specs.Extents.{begins_after, biu_rows, both, extent_after, extent_of, facts_after, facts_of, is_asked, is_between, mark_of, rmu_rows, spread_of, top_of, with_begin, with_convicted, with_frame, with_name, with_node, with_number, with_present, with_sets, with_slot, with_spread, with_word};
+ghost use Rattle.rb_picture.specs.Extents.{begins_after, both, extent_after, extent_of, facts_after, facts_of, is_asked, is_between, mark_of, top_of, with_begin, with_frame, with_name, with_node, with_number, with_present, with_sets, with_slot, with_word};
 
 use crate::line::Line;
 use rb_base::{Biu, Heard, NodeId, NodeName, NodeSet};
@@ -8,7 +8,7 @@ use rb_base::{Biu, Heard, NodeId, NodeName, NodeSet};
 /// Frames, nodes, slots, and the greatest word and spread: what a picture has to have room for. Of
 /// the frames the first and the last, of the nodes of a kind one more than the greatest number, of
 /// the slots the lowest and one more than the highest.
-#[derive(Clone, Copy, Debug, PartialEq, Eq)]
+#[derive(Clone, Copy)]
 pub struct Extent {
     pub first: u32,
     pub last: u32,
@@ -21,7 +21,7 @@ pub struct Extent {
 }
 
 /// The first and the last time at which a good node begins a frame.
-#[derive(Clone, Copy, Debug, PartialEq, Eq)]
+#[derive(Clone, Copy)]
 pub struct Begins {
     pub frame: u32,
     pub least: u64,
@@ -49,7 +49,7 @@ pub(crate) fn is_asked(first: u32, last: u32, line: Line) -> bool
 }
 
 /// Nodes of both kinds, as masks.
-#[derive(Clone, Copy, Debug, PartialEq, Eq)]
+#[derive(Clone, Copy)]
 pub struct Nodes {
     pub biu: u16,
     pub rmu: u16,
@@ -57,7 +57,7 @@ pub struct Nodes {
 
 /// What the lines of a frame say: when it begins, whom any node holds convicted, and of which nodes
 /// they are.
-#[derive(Clone, Copy, Debug, PartialEq, Eq)]
+#[derive(Clone, Copy)]
 pub struct Facts {
     pub begins: Begins,
     pub convicted: Nodes,
@@ -66,7 +66,7 @@ pub struct Facts {
 
 /// The rows of the nodes of a kind: how many rows stand above them, how many they are, and which
 /// nodes are convicted and present.
-#[derive(Clone, Copy, Debug, PartialEq, Eq)]
+#[derive(Clone, Copy)]
 pub struct Rows {
     pub above: u16,
     pub count: u16,
@@ -202,22 +202,18 @@ fn with_word(extent: Extent, value: Heard) -> Extent
     }
 }
 
-fn with_begins(extent: Extent, begins: Begins) -> Extent
-    ensures { result ≡ with_spread extent (spread_of begins) }
-{
-    Extent {
-        spread: extent
-            .spread
-            .max(begins.greatest.saturating_sub(begins.least)),
-        ..extent
-    }
-}
-
 fn extent_after(extent: Extent, begins: Begins, line: Line) -> Extent
     ensures { result ≡ extent_after extent begins line }
 {
     match line {
-        Line::Epoch(l) => with_begins(with_node(with_frame(extent, l.frame), l.node), begins),
+        Line::Epoch(l) => {
+            let extent = with_node(with_frame(extent, l.frame), l.node);
+            let spread = begins.greatest.saturating_sub(begins.least);
+            Extent {
+                spread: extent.spread.max(spread),
+                ..extent
+            }
+        }
         Line::Convicted(l) => with_sets(
             with_node(with_frame(extent, l.frame), l.node),
             l.biu,
@@ -311,16 +307,6 @@ fn with_present(facts: Facts, node: NodeName) -> Facts
     }
 }
 
-fn with_convicted(facts: Facts, biu: u16, rmu: u16) -> Facts
-    ensures { result ≡ with_convicted facts biu rmu }
-{
-    let convicted = Nodes {
-        biu: both(facts.convicted.biu, biu),
-        rmu: both(facts.convicted.rmu, rmu),
-    };
-    Facts { convicted, ..facts }
-}
-
 fn facts_after(facts: Facts, line: Line) -> Facts
     ensures { result ≡ facts_after facts line }
 {
@@ -329,7 +315,13 @@ fn facts_after(facts: Facts, line: Line) -> Facts
             let begins = with_begin(facts.begins, l.frame, l.time);
             with_present(Facts { begins, ..facts }, l.node)
         }
-        Line::Convicted(l) => with_present(with_convicted(facts, l.biu, l.rmu), l.node),
+        Line::Convicted(l) => {
+            let convicted = Nodes {
+                biu: both(facts.convicted.biu, l.biu),
+                rmu: both(facts.convicted.rmu, l.rmu),
+            };
+            with_present(Facts { convicted, ..facts }, l.node)
+        }
         Line::Port(l) => with_present(facts, NodeName::Biu(l.biu)),
         Line::Delivery(l) => with_present(facts, NodeName::Biu(l.receiver)),
         Line::End(_) | Line::Breach(_, _) => facts,
@@ -349,26 +341,4 @@ pub(crate) fn facts_of(mark: u64, lines: &[Line]) -> Facts
         facts = facts_after(facts, *line);
     }
     facts
-}
-
-pub(crate) fn biu_rows(extent: Extent, facts: Facts) -> Rows
-    ensures { result ≡ biu_rows extent facts }
-{
-    Rows {
-        above: 0,
-        count: extent.bius,
-        convicted: facts.convicted.biu,
-        present: facts.present.biu,
-    }
-}
-
-pub(crate) fn rmu_rows(extent: Extent, facts: Facts) -> Rows
-    ensures { result ≡ rmu_rows extent facts }
-{
-    Rows {
-        above: extent.bius,
-        count: extent.rmus,
-        convicted: facts.convicted.rmu,
-        present: facts.present.rmu,
-    }
 }

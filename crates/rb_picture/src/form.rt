@@ -7,7 +7,7 @@ use itoa::Buffer;
 use rb_flags::{Flag, flag_in};
 
 /// The frames that are to be drawn.
-#[derive(Clone, Copy, Debug, PartialEq, Eq)]
+#[derive(Clone, Copy)]
 pub enum Frames {
     /// All of them.
     All,
@@ -16,7 +16,7 @@ pub enum Frames {
 }
 
 /// What is to be done.
-#[derive(Clone, Copy, Debug, PartialEq, Eq)]
+#[derive(Clone, Copy)]
 pub enum Form {
     /// To draw the report that is read.
     Draw(Frames),

@@ -8,7 +8,7 @@ use rb_report::{breach_line, convicted_line, delivery_line, end_line, epoch_line
 use rb_rules::Cause;
 
 /// A node begins a frame: its tick, and the time of that tick.
-#[derive(Clone, Copy, Debug, PartialEq, Eq)]
+#[derive(Clone, Copy)]
 pub struct EpochLine {
     pub frame: u32,
     pub node: NodeName,
@@ -17,7 +17,7 @@ pub struct EpochLine {
 }
 
 /// Whom a node holds convicted when it begins a frame, as masks.
-#[derive(Clone, Copy, Debug, PartialEq, Eq)]
+#[derive(Clone, Copy)]
 pub struct ConvictedLine {
     pub frame: u32,
     pub node: NodeName,
@@ -26,7 +26,7 @@ pub struct ConvictedLine {
 }
 
 /// The port of a BIU when it begins a frame.
-#[derive(Clone, Copy, Debug, PartialEq, Eq)]
+#[derive(Clone, Copy)]
 pub struct FramePort {
     pub frame: u32,
     pub biu: u8,
@@ -35,7 +35,7 @@ pub struct FramePort {
 }
 
 /// A delivery: what a BIU receives of the owner of a slot.
-#[derive(Clone, Copy, Debug, PartialEq, Eq)]
+#[derive(Clone, Copy)]
 pub struct DeliveryLine {
     pub frame: u32,
     pub slot: u16,
@@ -45,7 +45,7 @@ pub struct DeliveryLine {
 }
 
 /// A line of a report.
-#[derive(Clone, Copy, Debug, PartialEq, Eq)]
+#[derive(Clone, Copy)]
 pub enum Line {
     /// `e FRAME NODE TICK TIME`
     Epoch(EpochLine),

@@ -2,11 +2,11 @@
 ghost use Rattle.std.specs.Prelude.{◌≡◌, ◌++◌, OnOk, decimal};
 ghost use Rattle.rb_picture.specs.Markup.{escape, escaped, with_attribute, with_box, with_label, with_number, with_opening};
 
-use itoa::Buffer;
+use itoa::{Buffer, Integer};
 use rb_base::OutOfMemory;
 
 /// Where a rectangle stands, and how large it is, in pixels.
-#[derive(Clone, Copy, Debug, PartialEq, Eq)]
+#[derive(Clone, Copy)]
 pub struct Area {
     pub x: u64,
     pub y: u64,
@@ -103,6 +103,21 @@ pub(crate) fn push_label(
     push(out, "</text>\n")
 }
 
+/// A text of a look with a number behind it.
+pub(crate) fn push_numbered<I: Integer>(
+    out: &mut Vec<u8>,
+    x: u64,
+    y: u64,
+    look: &str,
+    before: &str,
+    number: I,
+) -> Result<(), OutOfMemory>
+    ensures { OnOk result (out.new.items
+        ≡ with_label out.old.items x y look.now before.now (I.text number)) }
+{
+    push_label(out, x, y, look, before, Buffer::new().format(number))
+}
+
 /// How a picture begins: its size, and the colours of the looks.
 #[tactic(auto, unfolding(crate::specs::Markup::with_opening))]
 pub(crate) fn push_opening(
@@ -123,9 +138,7 @@ pub(crate) fn push_opening(
     push_escaped(out, Buffer::new().format(width))?;
     push(out, " ")?;
     push_escaped(out, Buffer::new().format(height))?;
-    push(out, "\">")?;
-    push(out, "<title>A run of the bus</title>")?;
-    push(out, "<style>")?;
+    push(out, "\"><title>A run of the bus</title><style>")?;
     push_escaped(out, style)?;
     push(out, "</style>")
 }

@@ -1,14 +1,12 @@
 //! An overview: a row for each frame, a cell for each slot, in bands side by side.
 ghost use Rattle.std.specs.Prelude.{◌≡◌, ◌≤◌, ◌<◌, ◌^◌, OnOk};
-ghost use Rattle.rb_base.specs.Nodes.{size};
-ghost use Rattle.rb_picture.specs.Overview.{band_width, frame_left, frame_top, frames_of, is_numbered, newly, outcome_look, overview_height, overview_width, rank, row_area, row_end, row_height, slot_width, square_area, with_break, with_break_words, with_frame_number, with_newcomer, with_newcomers, with_newcomers_of, with_outcomes, with_row, with_signature, with_signs, with_slot_range, with_square};
+ghost use Rattle.rb_picture.specs.Overview.{band_width, frame_left, frame_top, frames_of, newly, outcome_look, overview_height, overview_width, rank, row_area, row_end, row_height, slot_width, square_area, with_break, with_break_words, with_frame_number, with_newcomer, with_newcomers, with_newcomers_of, with_outcomes, with_row, with_sign, with_signature, with_signs, with_square};
 
 use crate::column::{Column, Outcome};
 use crate::drawing::{area, cause_words};
 use crate::extent::{Extent, Nodes};
-use crate::markup::{Area, push_box, push_label};
+use crate::markup::{Area, push_box, push_label, push_numbered};
 use crate::places::slots_of;
-use itoa::Buffer;
 use rb_base::{Biu, NodeSet, OutOfMemory, Place};
 use rb_rules::Cause;
 
@@ -121,12 +119,6 @@ fn row_end(extent: Extent, frame: u32) -> u64
     frame_left(extent, frame) + 52 + slot_width(extent) * slots_of(extent)
 }
 
-fn is_numbered(extent: Extent, frame: u32) -> bool
-    ensures { result ≡ is_numbered extent frame }
-{
-    u64::from(frame) % (60 / row_height(extent)) == 0
-}
-
 fn newly(before: u16, after: u16) -> u16
     ensures { result ≡ newly before after }
 {
@@ -145,39 +137,25 @@ fn rank(set: u16, number: u8) -> u64
     u64::from(lower.count())
 }
 
-// How many nodes are in the set.
-fn size_of(set: u16) -> u8
-    ensures value { result ≡ size set }
-    ensures most { result ≤ 16 }
-{
-    NodeSet::<Biu>::from_bits(set).count()
-}
-
-/// Nodes of a kind whose names stand in a row: how many other names stand before theirs, and which
-/// they are.
-#[derive(Clone, Copy, Debug, PartialEq, Eq)]
-pub struct Newcomers {
-    pub before: u8,
-    pub set: u16,
-}
-
+// The name of this node, where it is in the set, behind so many others.
 #[tactic(auto, unfolding(crate::specs::Overview::with_newcomer))]
 fn push_newcomer(
     out: &mut Vec<u8>,
     extent: Extent,
     frame: u32,
     letter: &str,
-    who: Newcomers,
+    before: u8,
+    set: u16,
     number: u8,
 ) -> Result<(), OutOfMemory>
     requires { number ≤ 15 }
     ensures { OnOk result (out.new.items
-        ≡ with_newcomer extent frame letter.now who.before who.set out.old.items number) }
+        ≡ with_newcomer extent frame letter.now before set out.old.items number) }
 {
-    if NodeSet::<Biu>::from_bits(who.set).has(number) {
-        let x = row_end(extent, frame) + 24 * (u64::from(who.before) + rank(who.set, number));
+    if NodeSet::<Biu>::from_bits(set).has(number) {
+        let x = row_end(extent, frame) + 24 * (u64::from(before) + rank(set, number));
         let y = frame_top(extent, frame) + 10;
-        return push_label(out, x, y, "newcomer", letter, Buffer::new().format(number));
+        return push_numbered(out, x, y, "newcomer", letter, number);
     }
     Ok(())
 }
@@ -188,13 +166,14 @@ fn push_newcomers_of(
     extent: Extent,
     frame: u32,
     letter: &str,
-    who: Newcomers,
+    before: u8,
+    set: u16,
 ) -> Result<(), OutOfMemory>
     ensures { OnOk result (out.new.items
-        ≡ with_newcomers_of extent frame letter.now who.before who.set out.old.items) }
+        ≡ with_newcomers_of extent frame letter.now before set out.old.items) }
 {
     for number in 0..16 {
-        push_newcomer(out, extent, frame, letter, who, number)?;
+        push_newcomer(out, extent, frame, letter, before, set, number)?;
     }
     Ok(())
 }
@@ -211,26 +190,19 @@ fn push_newcomers(
 {
     let bius = newly(before.biu, after.biu);
     let rmus = newly(before.rmu, after.rmu);
-    let first = Newcomers {
-        before: 0,
-        set: bius,
-    };
-    let second = Newcomers {
-        before: size_of(bius),
-        set: rmus,
-    };
-    push_newcomers_of(out, extent, frame, "B", first)?;
-    push_newcomers_of(out, extent, frame, "R", second)
+    let many = NodeSet::<Biu>::from_bits(bius).count();
+    push_newcomers_of(out, extent, frame, "B", 0, bius)?;
+    push_newcomers_of(out, extent, frame, "R", many, rmus)
 }
 
 #[tactic(auto, unfolding(crate::specs::Overview::with_frame_number))]
 fn push_frame_number(out: &mut Vec<u8>, extent: Extent, frame: u32) -> Result<(), OutOfMemory>
     ensures { OnOk result (out.new.items ≡ with_frame_number extent out.old.items frame) }
 {
-    if is_numbered(extent, frame) {
+    if u64::from(frame) % (60 / row_height(extent)) == 0 {
         let x = frame_left(extent, frame);
         let y = frame_top(extent, frame) + 10;
-        return push_label(out, x, y, "note", "", Buffer::new().format(frame));
+        return push_numbered(out, x, y, "note", "", frame);
     }
     Ok(())
 }
@@ -279,30 +251,9 @@ pub(crate) fn push_square(
 fn push_break_words(out: &mut Vec<u8>, place: Place, cause: Cause) -> Result<(), OutOfMemory>
     ensures { OnOk result (out.new.items ≡ with_break_words out.old.items place cause) }
 {
-    push_label(
-        out,
-        20,
-        104,
-        "cause",
-        "breach in frame ",
-        Buffer::new().format(place.frame),
-    )?;
-    push_label(
-        out,
-        170,
-        104,
-        "cause",
-        "slot ",
-        Buffer::new().format(place.slot),
-    )?;
-    push_label(
-        out,
-        240,
-        104,
-        "cause",
-        "stage ",
-        Buffer::new().format(place.stage),
-    )?;
+    push_numbered(out, 20, 104, "cause", "breach in frame ", place.frame)?;
+    push_numbered(out, 170, 104, "cause", "slot ", place.slot)?;
+    push_numbered(out, 240, 104, "cause", "stage ", place.stage)?;
     push_label(out, 300, 104, "cause", cause_words(cause), "")
 }
 
@@ -320,58 +271,51 @@ pub(crate) fn push_break(
     push_break_words(out, place, cause)
 }
 
+// A sign, and beside it what it means.
+#[tactic(auto, unfolding(crate::specs::Overview::with_sign))]
+fn push_sign(
+    out: &mut Vec<u8>,
+    x: u64,
+    y: u64,
+    look: &str,
+    meaning: &str,
+) -> Result<(), OutOfMemory>
+    requires x { x ≤ 640 }
+    requires y { y ≤ 128 }
+    ensures { OnOk result (out.new.items ≡ with_sign out.old.items x y look.now meaning.now) }
+{
+    push_box(out, area(x, y, 20, 12), look)?;
+    push_label(out, x + 26, y + 10, "note", meaning, "")
+}
+
 #[tactic(auto, unfolding(crate::specs::Overview::with_outcomes))]
 fn push_outcomes(out: &mut Vec<u8>) -> Result<(), OutOfMemory>
     ensures { OnOk result (out.new.items ≡ with_outcomes out.old.items) }
 {
-    push_box(out, area(20, 40, 20, 12), "agree")?;
-    push_label(out, 46, 50, "note", "all deliver one word", "")?;
-    push_box(out, area(190, 40, 20, 12), "silent")?;
-    push_label(out, 216, 50, "note", "all deliver none", "")?;
-    push_box(out, area(340, 40, 20, 12), "differ")?;
-    push_label(out, 366, 50, "note", "not the same", "")
+    push_sign(out, 20, 40, "agree", "all deliver one word")?;
+    push_sign(out, 190, 40, "silent", "all deliver none")?;
+    push_sign(out, 340, 40, "differ", "not the same")
 }
 
 #[tactic(auto, unfolding(crate::specs::Overview::with_signs))]
 fn push_signs(out: &mut Vec<u8>) -> Result<(), OutOfMemory>
     ensures { OnOk result (out.new.items ≡ with_signs out.old.items) }
 {
-    push_box(out, area(20, 62, 20, 12), "strip")?;
-    push_label(out, 46, 72, "note", "nothing delivered", "")?;
-    push_box(out, area(190, 62, 20, 12), "breach")?;
-    push_label(out, 216, 72, "note", "breach", "")?;
+    push_sign(out, 20, 62, "strip", "nothing delivered")?;
+    push_sign(out, 190, 62, "breach", "breach")?;
     push_label(out, 340, 72, "newcomer", "R2", "")?;
     push_label(out, 366, 72, "note", "convicted from this frame on", "")
 }
 
-#[tactic(auto, unfolding(crate::specs::Overview::with_slot_range))]
-fn push_slot_range(out: &mut Vec<u8>, extent: Extent) -> Result<(), OutOfMemory>
-    ensures { OnOk result (out.new.items ≡ with_slot_range extent out.old.items) }
-{
-    push_label(
-        out,
-        20,
-        92,
-        "note",
-        "a row is a frame, a column a slot, from slot ",
-        Buffer::new().format(extent.low),
-    )?;
-    push_label(
-        out,
-        340,
-        92,
-        "note",
-        "to slot ",
-        Buffer::new().format(extent.high.saturating_sub(1)),
-    )
-}
-
 /// What colours and signs mean.
-#[tactic(auto, unfolding(crate::specs::Overview::with_signature))]
+#[tactic(auto, unfolding(crate::specs::Overview::with_signature, crate::specs::Overview::with_slot_range))]
 pub(crate) fn push_signature(out: &mut Vec<u8>, extent: Extent) -> Result<(), OutOfMemory>
     ensures { OnOk result (out.new.items ≡ with_signature extent out.old.items) }
 {
     push_outcomes(out)?;
     push_signs(out)?;
-    push_slot_range(out, extent)
+    let rows = "a row is a frame, a column a slot, from slot ";
+    let highest = extent.high.saturating_sub(1);
+    push_numbered(out, 20, 92, "note", rows, extent.low)?;
+    push_numbered(out, 340, 92, "note", "to slot ", highest)
 }

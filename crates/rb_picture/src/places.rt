@@ -1,6 +1,6 @@
 //! Where things stand in a picture.
 ghost use Rattle.std.specs.Prelude.{◌≡◌, ◌^◌, ◌<◌, ◌≤◌};
-ghost use Rattle.rb_picture.specs.Places.{breach_area, cell_area, cell_width, column_left, grid_area, is_wide, names_left, panel_area, panel_height, panel_top, picture_height, picture_width, row_of, row_top, rows_of, scale_of, slots_of, strip_area, tick_area};
+ghost use Rattle.rb_picture.specs.Places.{breach_area, cell_area, cell_width, column_left, grid_area, panel_area, panel_height, panel_top, picture_height, picture_width, row_of, row_top, rows_of, slots_of, strip_area, tick_area};
 
 use crate::extent::Extent;
 use crate::line::DeliveryLine;
@@ -76,18 +76,6 @@ pub(crate) fn column_left(extent: Extent, slot: u32) -> u64
     284 + cell_width(extent) * u64::from(slot.saturating_sub(u32::from(extent.low)))
 }
 
-pub(crate) fn is_wide(extent: Extent) -> bool
-    ensures { result ≡ is_wide extent }
-{
-    12 < slots_of(extent)
-}
-
-pub(crate) fn names_left(extent: Extent) -> u64
-    ensures { result ≡ names_left extent }
-{
-    292 + cell_width(extent) * slots_of(extent)
-}
-
 pub(crate) fn picture_width(extent: Extent) -> u64
     ensures value { result ≡ picture_width extent }
     ensures least { 640 ≤ result }
@@ -102,13 +90,6 @@ pub(crate) fn picture_height(extent: Extent) -> u64
 {
     let panels = (u64::from(extent.last) + 1).saturating_sub(u64::from(extent.first));
     92 + panel_height(extent) * panels
-}
-
-fn scale_of(extent: Extent) -> u64
-    ensures value { result ≡ scale_of extent }
-    ensures least { 1 ≤ result }
-{
-    extent.spread / 160 + 1
 }
 
 pub(crate) fn panel_area(extent: Extent, frame: u32) -> Area
@@ -148,7 +129,7 @@ pub(crate) fn tick_area(extent: Extent, frame: u32, node: NodeName, after: u64) 
     ensures { result ≡ tick_area extent frame node after }
 {
     Area {
-        x: 94 + (after / scale_of(extent)).min(160),
+        x: 94 + (after / (extent.spread / 160 + 1)).min(160),
         y: row_top(extent, frame, row_of(extent, node)) + 3,
         width: 4,
         height: 14,

@@ -22,7 +22,7 @@ use rb_rules::Cause;
 use std::alloc::Global;
 
 /// Why bytes are no report.
-#[derive(Clone, Copy, Debug, PartialEq, Eq)]
+#[derive(Clone, Copy)]
 pub enum Fault {
     /// What begins here is no line of a report.
     NoLine,
@@ -33,7 +33,7 @@ pub enum Fault {
 }
 
 /// Why there is no list of lines.
-#[derive(Clone, Copy, Debug, PartialEq, Eq)]
+#[derive(Clone, Copy)]
 pub enum Unreadable {
     /// The bytes are no report: the number of the line, from 1, and the cause.
     At(u64, Fault),
@@ -161,17 +161,14 @@ fn delivery_in(text: &str) -> Option<Line>
     )
 }
 
-fn end_of(frames: Option<u32>) -> Option<Line>
-    ensures { (n : ℕ) → frames ≡ Some n → result ≡ Some (Line.End n) }
-{
-    Some(Line::End(frames?))
-}
-
 fn end_in(text: &str) -> Option<Line>
     ensures { (frames : ℕ) → frames < 2 ^ 32 → text.now ≡ line_body (Line.End frames)
         → result ≡ Some (Line.End frames) }
 {
-    end_of(u32_in(second_field(text)))
+    match u32_in(second_field(text)) {
+        Some(frames) => Some(Line::End(frames)),
+        None => None,
+    }
 }
 
 fn breach_of(

@@ -9,7 +9,7 @@ use crate::overview::{overview_height, overview_width};
 use crate::places::{picture_height, picture_width};
 
 /// How frames are drawn.
-#[derive(Clone, Copy, Debug, PartialEq, Eq)]
+#[derive(Clone, Copy)]
 pub enum View {
     /// Each in a panel with its nodes and its words.
     Panels,
@@ -18,7 +18,7 @@ pub enum View {
 }
 
 /// How frames are drawn, and what there has to be room for.
-#[derive(Clone, Copy, Debug, PartialEq, Eq)]
+#[derive(Clone, Copy)]
 pub struct Sheet {
     pub view: View,
     pub extent: Extent,
