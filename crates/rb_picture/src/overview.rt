@@ -137,23 +137,30 @@ fn rank(set: u16, number: u8) -> u64
     u64::from(lower.count())
 }
 
-// The name of this node, where it is in the set, behind so many others.
+// Nodes of a kind whose names stand in a row: how many other names stand before theirs, and which
+// they are.
+#[derive(Clone, Copy)]
+struct Newcomers {
+    before: u8,
+    set: u16,
+}
+
+// The name of this node, where it is one of these.
 #[tactic(auto, unfolding(crate::specs::Overview::with_newcomer))]
 fn push_newcomer(
     out: &mut Vec<u8>,
     extent: Extent,
     frame: u32,
     letter: &str,
-    before: u8,
-    set: u16,
+    who: Newcomers,
     number: u8,
 ) -> Result<(), OutOfMemory>
     requires { number ≤ 15 }
     ensures { OnOk result (out.new.items
-        ≡ with_newcomer extent frame letter.now before set out.old.items number) }
+        ≡ with_newcomer extent frame letter.now who.before who.set out.old.items number) }
 {
-    if NodeSet::<Biu>::from_bits(set).has(number) {
-        let x = row_end(extent, frame) + 24 * (u64::from(before) + rank(set, number));
+    if NodeSet::<Biu>::from_bits(who.set).has(number) {
+        let x = row_end(extent, frame) + 24 * (u64::from(who.before) + rank(who.set, number));
         let y = frame_top(extent, frame) + 10;
         return push_numbered(out, x, y, "newcomer", letter, number);
     }
@@ -166,14 +173,13 @@ fn push_newcomers_of(
     extent: Extent,
     frame: u32,
     letter: &str,
-    before: u8,
-    set: u16,
+    who: Newcomers,
 ) -> Result<(), OutOfMemory>
     ensures { OnOk result (out.new.items
-        ≡ with_newcomers_of extent frame letter.now before set out.old.items) }
+        ≡ with_newcomers_of extent frame letter.now who.before who.set out.old.items) }
 {
     for number in 0..16 {
-        push_newcomer(out, extent, frame, letter, before, set, number)?;
+        push_newcomer(out, extent, frame, letter, who, number)?;
     }
     Ok(())
 }
@@ -190,9 +196,16 @@ fn push_newcomers(
 {
     let bius = newly(before.biu, after.biu);
     let rmus = newly(before.rmu, after.rmu);
-    let many = NodeSet::<Biu>::from_bits(bius).count();
-    push_newcomers_of(out, extent, frame, "B", 0, bius)?;
-    push_newcomers_of(out, extent, frame, "R", many, rmus)
+    let first = Newcomers {
+        before: 0,
+        set: bius,
+    };
+    let second = Newcomers {
+        before: NodeSet::<Biu>::from_bits(bius).count(),
+        set: rmus,
+    };
+    push_newcomers_of(out, extent, frame, "B", first)?;
+    push_newcomers_of(out, extent, frame, "R", second)
 }
 
 #[tactic(auto, unfolding(crate::specs::Overview::with_frame_number))]
