@@ -14,19 +14,29 @@ ghost use Rattle.rb_test_rules.specs.Lies.{asymmetric_sender, two_sided};
 ghost use Rattle.rb_test_rules.specs.Ordinary.{greatest_drift, ordinary_use, smallest_bus};
 ghost use Rattle.rb_test_rules.specs.Parts.{biu, plan, rmu, sizes};
 
-/// The schedule stands with the last schedule slot, and stays. Where each BIU asks for one slot,
-/// the last four are idle.
-pub fn slots_of_the_bus()
+/// Slots and frames of the bus, at the edges of both.
+pub fn slots_and_frames_of_the_bus()
+    // The schedule stands with the last schedule slot, and stays. Where each BIU asks for one slot,
+    // the last four are idle.
     ensures owners { map (λ bus. bus.owners) (at_first ∷ scheduled ∷ bus_after_slot sizes Fault scheduled ∷ [])
         ≡ ([] ∷ (0 ∷ 1 ∷ 2 ∷ 3 ∷ 0 ∷ 1 ∷ 2 ∷ 3 ∷ []) ∷ (0 ∷ 1 ∷ 2 ∷ 3 ∷ 0 ∷ 1 ∷ 2 ∷ 3 ∷ []) ∷ []) }
     ensures slots { map (λ bus. bus.slot) (at_first ∷ scheduled ∷ at_the_end ∷ [])
         ≡ (0 ∷ 4 ∷ 19 ∷ []) }
     ensures senders { map (sender_on sizes) (at_first ∷ scheduled ∷ record half_scheduled { slot = 8 } ∷ at_the_end ∷ [])
         ≡ (Node 0 ∷ Node 0 ∷ Nobody ∷ EachTrusted ∷ []) }
-{}
-
-/// The diagnosis slots of a frame convict, by those whom the bus trusts in it.
-pub fn frames_of_the_bus()
+    // What is delivered in a data slot: the value, at the BIUs that are good there.
+    ensures delivered_to_all { map (λ line. line.receiver) (lines_on ordinary_use 0 4 (Node 0) (Word 10))
+        ≡ (0 ∷ 1 ∷ 2 ∷ 3 ∷ []) }
+    ensures delivered_to_the_good { map (λ line. line.receiver) (lines_on asymmetric_sender 0 5 (Node 1) Fault)
+        ≡ (0 ∷ 2 ∷ 3 ∷ []) }
+    ensures delivered_in_an_idle_slot { lines_on ordinary_use 0 4 Nobody Fault ≡ [] }
+    // Which slots are complete: all of a frame without a breach, so that the next one is reached,
+    // and those before a breach.
+    ensures last_of_a_frame { IsComplete smallest_bus [] 0 4 }
+    ensures next_frame { IsReached smallest_bus [] 1 }
+    ensures before_the_breach { IsComplete two_sided [] 0 5 }
+    ensures at_the_breach { (after_slot two_sided [] 0 6).book.ended ≡ true }
+    // The diagnosis slots of a frame convict, by those whom the bus trusts in it.
     ensures bius { (bus_after_frame sizes 9170000 at_the_end).bius ≡ 13 }
     ensures rmus { (bus_after_frame sizes 9170000 at_the_end).rmus ≡ 3 }
     ensures anew { map (λ bus. bus.owners) (bus_after_frame sizes 9170000 at_the_end ∷ [])
@@ -34,9 +44,10 @@ pub fn frames_of_the_bus()
     ensures next { (bus_after_frame sizes 9170000 at_the_end).frame ≡ 1 }
 {}
 
-/// Steps of the bus: a good BIU's request and its word, an idle slot, and the step to the next
-/// frame, which takes 908 of the shortest ticks at least.
+/// Which steps the bus takes, and which it cannot.
 pub fn steps_of_the_bus()
+    // Steps of the bus: a good BIU's request and its word, an idle slot, and the step to the next
+    // frame, which takes 908 of the shortest ticks at least.
     ensures request { IsStep ordinary_use offered at_first
         (bus_after_slot sizes (Word 2) at_first) }
     ensures word { IsStep ordinary_use offered scheduled
@@ -46,11 +57,8 @@ pub fn steps_of_the_bus()
         (bus_after_frame sizes 9079092 at_a_quiet_end) }
     ensures run { IsRun ordinary_use offered 2 first_slots }
     ensures counted { map (steps_to sizes 1) (0 ∷ 19 ∷ []) ≡ (20 ∷ 39 ∷ []) }
-{}
-
-/// Values that a slot cannot have: Fault, or another word than it is offered, where its sender is
-/// good, and a word where it is idle.
-pub fn values_that_cannot_be()
+    // Values that a slot cannot have: Fault, or another word than it is offered, where its sender
+    // is good, and a word where it is idle.
     ensures fault_of_a_good_sender { ¬ MayHave ordinary_use scheduled (offered 0 4) (Data 0)
         (Node 0) Fault }
     ensures another_word { ¬ MayHave ordinary_use scheduled (offered 0 4) (Data 0) (Node 0)
@@ -61,18 +69,17 @@ pub fn values_that_cannot_be()
         (Word 10) }
 {}
 
-/// The bands of the bus at their edges: BIU 0, which starts as late and ticks as slowly as the plan
-/// allows, and all others. One unit later at the start, or one unit less a tick, is out of them.
-pub fn bands_of_the_bus()
+/// What nodes have in common with the bus.
+pub fn nodes_of_the_bus()
+    // The bands of the bus at their edges: BIU 0, which starts as late and ticks as slowly as the
+    // plan allows, and all others. One unit later at the start, or one unit less a tick, is out of
+    // them.
     ensures latest { IsInBand greatest_drift at_first Biu 0 biu 855 }
     ensures earliest { IsInBand greatest_drift at_first Biu 1 biu 855 }
     ensures at_the_begin { IsInBand greatest_drift at_first Rmu 0 rmu 0 }
     ensures too_late { ¬ IsInBand out_of_bands at_first Biu 0 biu 855 }
     ensures too_early { ¬ IsInBand out_of_bands at_first Biu 1 biu 855 }
-{}
-
-/// Nodes that hold the bus's sets, votes and next epochs.
-pub fn nodes_of_the_bus()
+    // Nodes that hold the bus's sets, votes and next epochs.
     ensures trusted_by_a_biu { HoldsTrusted scheduled Biu biu }
     ensures trusted_by_an_rmu { HoldsTrusted scheduled Rmu rmu }
     ensures owners { HoldsOwners ordinary_use scheduled biu_with_owners }
@@ -82,22 +89,4 @@ pub fn nodes_of_the_bus()
     ensures next_epoch_of_a_biu { FrameTakes sizes plan Biu (record biu { k2 = Some 878 }) }
     ensures next_epoch_of_an_rmu { FrameTakes sizes plan Rmu (record rmu { k3 = Some 897 }) }
     ensures low { IsLow ordinary_use [] 0 0 }
-{}
-
-/// What is delivered in a data slot: the value, at the BIUs that are good there.
-pub fn lines_of_the_bus()
-    ensures all { map (λ line. line.receiver) (lines_on ordinary_use 0 4 (Node 0) (Word 10))
-        ≡ (0 ∷ 1 ∷ 2 ∷ 3 ∷ []) }
-    ensures good { map (λ line. line.receiver) (lines_on asymmetric_sender 0 5 (Node 1) Fault)
-        ≡ (0 ∷ 2 ∷ 3 ∷ []) }
-    ensures idle { lines_on ordinary_use 0 4 Nobody Fault ≡ [] }
-{}
-
-/// Which slots are complete: all of a frame without a breach, so that the next one is reached, and
-/// those before a breach.
-pub fn complete_slots()
-    ensures last_of_a_frame { IsComplete smallest_bus [] 0 4 }
-    ensures next_frame { IsReached smallest_bus [] 1 }
-    ensures before_the_breach { IsComplete two_sided [] 0 5 }
-    ensures at_the_breach { (after_slot two_sided [] 0 6).book.ended ≡ true }
 {}

@@ -7,44 +7,35 @@ ghost use Rattle.rb_rules.specs.Standing.{standing_at_end, vector_of};
 ghost use Rattle.rb_test_rules.specs.Accusing.{after_noise_in_the_tail, after_stage_1, calm_for, next_but_one_frame, next_frame, sender_of_unlike, with_a_convict};
 ghost use Rattle.rb_test_rules.specs.Parts.{convicted};
 
-/// A vector names those accused nodes alone that are trusted.
-pub fn vector_without_convicts()
-    ensures { vector_of with_a_convict ≡ 4 }
-{}
-
-/// Frames without evidence are counted up to 4096, which is the longest probation.
-pub fn longest_probation()
-    ensures last_but_one { (standing_at_end 4096 (calm_for 4094)).direct ≡ 1 }
-    ensures last { (standing_at_end 4096 (calm_for 4095)).direct ≡ 0 }
-    ensures counted_no_further { slice_index (standing_at_end 0 (calm_for 4096)).calm 0 ≡ 4096 }
-{}
-
-/// A sender compares the relays with what it sent, and not with its vote, which is Fault here: two
-/// RMUs differ.
-pub fn sender_among_unlike_relays()
-    ensures kept_after_stage_1 { after_stage_1.sent ≡ Some (Word 2) }
-    ensures voted { take 1 sender_of_unlike.votes ≡ (Fault ∷ []) }
-    ensures accused { sender_of_unlike.far.mismatch ≡ 3 }
-    ensures forgotten_after_stage_2 { sender_of_unlike.sent ≡ None }
-{}
-
-/// Who speaks in the tail is accused.
-pub fn noise_in_the_tail()
-    ensures { after_noise_in_the_tail.far.direct ≡ 1 }
-{}
-
-/// A vector with a bit past the nodes counts for nothing, whether it would name a node or spare it.
-pub fn invalid_vectors()
+/// Whom vectors convict.
+pub fn convictions()
+    // A vector names those accused nodes alone that are trusted.
+    ensures vector_without_convicts { vector_of with_a_convict ≡ 4 }
+    // A vector with a bit past the nodes counts for nothing, whether it would name a node or spare
+    // it.
     ensures naming { convicted 7 (Word 10 ∷ Word 2 ∷ Word 0 ∷ []) ≡ 0 }
     ensures sparing { convicted 7 (Word 8 ∷ Word 2 ∷ Fault ∷ []) ≡ 2 }
-{}
-
-/// Nodes of both kinds are convicted at once, by the trusted sets of the frame that ends: the
-/// vector of RMU 2, which is convicted too, is needed to convict BIU 1. In the frame after, the
-/// vectors of both count no more.
-pub fn convictions_of_both_kinds()
+    // Nodes of both kinds are convicted at once, by the trusted sets of the frame that ends: the
+    // vector of RMU 2, which is convicted too, is needed to convict BIU 1. In the frame after, the
+    // vectors of both count no more.
     ensures bius { next_frame.near ≡ 13 }
     ensures rmus { next_frame.far.trusted ≡ 3 }
     ensures bius_later { next_but_one_frame.near ≡ 13 }
     ensures rmus_later { next_but_one_frame.far.trusted ≡ 3 }
+{}
+
+/// Whom nodes accuse, and for how long.
+pub fn accusations()
+    // Frames without evidence are counted up to 4096, which is the longest probation.
+    ensures last_but_one { (standing_at_end 4096 (calm_for 4094)).direct ≡ 1 }
+    ensures last { (standing_at_end 4096 (calm_for 4095)).direct ≡ 0 }
+    ensures counted_no_further { slice_index (standing_at_end 0 (calm_for 4096)).calm 0 ≡ 4096 }
+    // A sender compares the relays with what it sent, and not with its vote, which is Fault here:
+    // two RMUs differ.
+    ensures kept_after_stage_1 { after_stage_1.sent ≡ Some (Word 2) }
+    ensures voted { take 1 sender_of_unlike.votes ≡ (Fault ∷ []) }
+    ensures accused { sender_of_unlike.far.mismatch ≡ 3 }
+    ensures forgotten_after_stage_2 { sender_of_unlike.sent ≡ None }
+    // Who speaks in the tail is accused.
+    ensures noise_in_the_tail { after_noise_in_the_tail.far.direct ≡ 1 }
 {}

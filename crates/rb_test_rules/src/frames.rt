@@ -5,42 +5,29 @@ ghost use Rattle.std.specs.Prelude.{◌≡◌, []};
 ghost use Rattle.rb_rules.specs.Rounds.{records_of};
 ghost use Rattle.rb_test_rules.specs.Frames.{late_onset, late_onset_records, probation_passed, probation_passed_records, no_probation, no_probation_records, message_of_another_bus, message_of_another_bus_records, message_of_the_bus, message_of_the_bus_records, state_handed_in, state_handed_in_records, hand_ins, convicted_rmu, convicted_rmu_records};
 
-/// A BIU falls silent in the fourth frame: its word comes in the frames before, none after, and all
-/// convict it.
-pub fn late_onset()
-    ensures { records_of late_onset [] ≡ late_onset_records }
+/// Runs of two frames and more.
+pub fn several_frames()
+    // A BIU falls silent in the fourth frame: its word comes in the frames before, none after, and
+    // all convict it.
+    ensures late_onset { records_of late_onset [] ≡ late_onset_records }
+    // A BIU that one RMU accuses has no slot in the frame after, and after a probation of one frame
+    // has it again.
+    ensures probation_passed { records_of probation_passed [] ≡ probation_passed_records }
+    // Without a probation it is convicted.
+    ensures no_probation { records_of no_probation [] ≡ no_probation_records }
+    // A state is handed to the port of BIU 0 at the begin of frame 1: it is what the BIU sends from
+    // then on.
+    ensures state_handed_in { records_of state_handed_in hand_ins ≡ state_handed_in_records }
+    // An RMU that is convicted with frame 0 stays so in frame 1: what it says counts no more, also
+    // beside a BIU that lies.
+    ensures convicted_rmu { records_of convicted_rmu [] ≡ convicted_rmu_records }
 {}
 
-/// A BIU that one RMU accuses has no slot in the frame after, and after a probation of one frame
-/// has it again.
-pub fn probation_passed()
-    ensures { records_of probation_passed [] ≡ probation_passed_records }
-{}
-
-/// Without a probation it is convicted.
-pub fn no_probation()
-    ensures { records_of no_probation [] ≡ no_probation_records }
-{}
-
-/// Two RMUs send messages of another bus: nothing is taken of them, and the words come all the
-/// same.
-pub fn message_of_another_bus()
-    ensures { records_of message_of_another_bus [] ≡ message_of_another_bus_records }
-{}
-
-/// The same messages of the bus itself are taken, and the run ends with the breach.
-pub fn message_of_the_bus()
-    ensures { records_of message_of_the_bus [] ≡ message_of_the_bus_records }
-{}
-
-/// A state is handed to the port of BIU 0 at the begin of frame 1: it is what the BIU sends from
-/// then on.
-pub fn state_handed_in()
-    ensures { records_of state_handed_in hand_ins ≡ state_handed_in_records }
-{}
-
-/// An RMU that is convicted with frame 0 stays so in frame 1: what it says counts no more, also
-/// beside a BIU that lies.
-pub fn convicted_rmu()
-    ensures { records_of convicted_rmu [] ≡ convicted_rmu_records }
+/// Messages with the number of a bus.
+pub fn buses_by_their_number()
+    // Two RMUs send messages of another bus: nothing is taken of them, and the words come all the
+    // same.
+    ensures message_of_another_bus { records_of message_of_another_bus [] ≡ message_of_another_bus_records }
+    // The same messages of the bus itself are taken, and the run ends with the breach.
+    ensures message_of_the_bus { records_of message_of_the_bus [] ≡ message_of_the_bus_records }
 {}

@@ -7,19 +7,26 @@ ghost use Rattle.rb_rules.specs.declared.cause.Cause.TheVariants.{FewGoodBiu, Fe
 ghost use Rattle.rb_rules.specs.Judging.{are_few_good, cause_of, classes_of, verdict_of};
 ghost use Rattle.rb_test_rules.specs.Judged.{calls_at, silence, word_of, word_of_for_one};
 
-/// Symmetric and asymmetric nodes both count against the good, benign ones do not, and a tie is too
-/// few.
-pub fn few_good_nodes()
+/// Which causes a breach has.
+pub fn causes()
+    // Symmetric and asymmetric nodes both count against the good, benign ones do not, and a tie is
+    // too few.
     ensures against_asymmetric { are_few_good (record { good = 1; benign = 0; symmetric = 0; asymmetric = 6 }) ≡ true }
     ensures against_symmetric { are_few_good (record { good = 1; benign = 0; symmetric = 6; asymmetric = 0 }) ≡ true }
     ensures against_both { are_few_good (record { good = 7; benign = 0; symmetric = 24; asymmetric = 32 }) ≡ true }
     ensures more_good { are_few_good (record { good = 15; benign = 0; symmetric = 48; asymmetric = 64 }) ≡ false }
     ensures against_benign { are_few_good (record { good = 1; benign = 6; symmetric = 0; asymmetric = 0 }) ≡ false }
+    // The BIUs come first, then the RMUs, then asymmetric nodes of both kinds.
+    ensures bius { cause_of (record { good = 0; benign = 0; symmetric = 0; asymmetric = 1 }) (record { good = 0; benign = 0; symmetric = 0; asymmetric = 1 }) ≡ Some FewGoodBiu }
+    ensures rmus { cause_of (record { good = 6; benign = 0; symmetric = 0; asymmetric = 1 }) (record { good = 0; benign = 0; symmetric = 0; asymmetric = 1 }) ≡ Some FewGoodRmu }
+    ensures both { cause_of (record { good = 6; benign = 0; symmetric = 0; asymmetric = 1 }) (record { good = 6; benign = 0; symmetric = 0; asymmetric = 1 }) ≡ Some TwoSided }
+    ensures one_kind { cause_of (record { good = 6; benign = 0; symmetric = 0; asymmetric = 1 }) (record { good = 6; benign = 0; symmetric = 1; asymmetric = 0 }) ≡ None }
 {}
 
-/// What was taken and what was seen unlike in any stage of the frame counts: two BIUs lie, each in
-/// a stage of its own.
-pub fn lies_of_earlier_stages()
+/// Of which class a node is, by what others saw and took of it.
+pub fn classes()
+    // What was taken and what was seen unlike in any stage of the frame counts: two BIUs lie, each
+    // in a stage of its own.
     ensures one_lies { verdict_of (word_of 2 ∷ []) ≡ None }
     ensures both_lie { verdict_of (word_of 2 ∷ word_of 3 ∷ []) ≡ Some FewGoodBiu }
     ensures long_ago { verdict_of (silence ∷ word_of 2 ∷ silence ∷ word_of 3 ∷ [])
@@ -27,19 +34,8 @@ pub fn lies_of_earlier_stages()
     ensures symmetric { (classes_of Biu (silence ∷ word_of 2 ∷ [])).symmetric ≡ 4 }
     ensures asymmetric { (classes_of Biu (word_of 2 ∷ word_of_for_one 2 ∷ [])).asymmetric ≡ 4 }
     ensures benign { (classes_of Biu (word_of 2 ∷ [])).benign ≡ 8 }
-{}
-
-/// Times of one message may lie as far apart as the delays of a link, and no further, whichever
-/// comes first.
-pub fn times_of_one_call()
+    // Times of one message may lie as far apart as the delays of a link, and no further, whichever
+    // comes first.
     ensures as_far { map (λ s. (classes_of Biu (s ∷ [])).asymmetric) (calls_at 100 110 ∷ calls_at 110 100 ∷ []) ≡ (0 ∷ 0 ∷ []) }
     ensures further { map (λ s. (classes_of Biu (s ∷ [])).asymmetric) (calls_at 100 111 ∷ calls_at 111 100 ∷ []) ≡ (4 ∷ 4 ∷ []) }
-{}
-
-/// The BIUs come first, then the RMUs, then asymmetric nodes of both kinds.
-pub fn first_cause()
-    ensures bius { cause_of (record { good = 0; benign = 0; symmetric = 0; asymmetric = 1 }) (record { good = 0; benign = 0; symmetric = 0; asymmetric = 1 }) ≡ Some FewGoodBiu }
-    ensures rmus { cause_of (record { good = 6; benign = 0; symmetric = 0; asymmetric = 1 }) (record { good = 0; benign = 0; symmetric = 0; asymmetric = 1 }) ≡ Some FewGoodRmu }
-    ensures both { cause_of (record { good = 6; benign = 0; symmetric = 0; asymmetric = 1 }) (record { good = 6; benign = 0; symmetric = 0; asymmetric = 1 }) ≡ Some TwoSided }
-    ensures one_kind { cause_of (record { good = 6; benign = 0; symmetric = 0; asymmetric = 1 }) (record { good = 6; benign = 0; symmetric = 1; asymmetric = 0 }) ≡ None }
 {}

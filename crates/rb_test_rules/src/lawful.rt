@@ -10,35 +10,21 @@ ghost use Rattle.rb_test_rules.specs.Lies.{two_sided};
 ghost use Rattle.rb_test_rules.specs.Ordinary.{greatest_drift, ordinary_use, smallest_bus};
 ghost use Rattle.rb_test_rules.specs.Resynchronisation.{apart_in_time};
 
-/// Four BIUs and three RMUs, all good.
-pub fn ordinary_use_is_lawful()
-    ensures { IsLawful ordinary_use }
-{}
-
-/// One BIU, one RMU and one data slot.
-pub fn smallest_bus_is_lawful()
-    ensures { IsLawful smallest_bus }
-{}
-
-/// Clocks that drift as far as the plan allows.
-pub fn greatest_drift_is_lawful()
-    ensures { IsLawful greatest_drift }
-{}
-
-/// Lies of both kinds, which break the fault premise in a data slot.
-pub fn two_sided_is_lawful()
-    ensures { IsLawful two_sided }
-{}
-
-/// Lies that break it in the sync slot.
-pub fn apart_in_time_is_lawful()
-    ensures { IsLawful apart_in_time }
-{}
-
-/// An RMU calls as early and as late as may be, and fills the tail's last offset with as many bytes
-/// as a message may have.
-pub fn lies_at_the_edge_are_lawful()
-    ensures { IsLawful lies_at_the_edge }
+/// Scenarios that are lawful.
+pub fn lawful_scenarios()
+    // Four BIUs and three RMUs, all good.
+    ensures ordinary_use { IsLawful ordinary_use }
+    // One BIU, one RMU and one data slot.
+    ensures smallest_bus { IsLawful smallest_bus }
+    // Clocks that drift as far as the plan allows.
+    ensures greatest_drift { IsLawful greatest_drift }
+    // Lies of both kinds, which break the fault premise in a data slot.
+    ensures two_sided { IsLawful two_sided }
+    // Lies that break it in the sync slot.
+    ensures apart_in_time { IsLawful apart_in_time }
+    // An RMU calls as early and as late as may be, and fills the tail's last offset with as many
+    // bytes as a message may have.
+    ensures lies_at_the_edge { IsLawful lies_at_the_edge }
 {}
 
 /// Beyond each edge nothing is lawful: a tick early or more, after the window's last tick, early or

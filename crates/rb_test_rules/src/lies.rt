@@ -5,65 +5,40 @@ ghost use Rattle.std.specs.Prelude.{◌≡◌, []};
 ghost use Rattle.rb_rules.specs.Rounds.{records_of};
 ghost use Rattle.rb_test_rules.specs.Lies.{silent_rmu, silent_rmu_records, symmetric_rmu, symmetric_rmu_records, asymmetric_sender, asymmetric_sender_records, no_majority, no_majority_records, two_sided, two_sided_records, too_few_good, too_few_good_records, message_in_time, message_in_time_records, message_too_late, message_too_late_records, ill_formed_messages, ill_formed_messages_records, greedy_biu, greedy_biu_records, nobody_good, nobody_good_records};
 
-/// An RMU is silent: the words come all the same, and all convict it.
-pub fn silent_rmu()
-    ensures { records_of silent_rmu [] ≡ silent_rmu_records }
+/// One node is silent or lies.
+pub fn one_faulty_node()
+    // An RMU is silent: the words come all the same, and all convict it.
+    ensures silent_rmu { records_of silent_rmu [] ≡ silent_rmu_records }
+    // An RMU relays a wrong word alike to all: the words come all the same, each sender accuses it,
+    // and all convict it.
+    ensures symmetric_rmu { records_of symmetric_rmu [] ≡ symmetric_rmu_records }
+    // A BIU says another word to one RMU in its data slot: all good BIUs deliver what the other
+    // RMUs relay, and all convict it.
+    ensures asymmetric_sender { records_of asymmetric_sender [] ≡ asymmetric_sender_records }
+    // It says three different words: all good BIUs deliver none.
+    ensures no_majority { records_of no_majority [] ≡ no_majority_records }
+    // An RMU of which all else is right relays a request in the last tick of the window: nobody
+    // accuses it.
+    ensures message_in_time { records_of message_in_time [] ≡ message_in_time_records }
+    // The relay comes in that tick at one BIU, and one tick later at the three others: these accuse
+    // the RMU, and all convict it.
+    ensures message_too_late { records_of message_too_late [] ≡ message_too_late_records }
+    // A BIU asks for more slots than there are, and falls silent: the others have their slots, and
+    // deliver none in those of the greedy one.
+    ensures greedy_biu { records_of greedy_biu [] ≡ greedy_biu_records }
 {}
 
-/// An RMU relays a wrong word alike to all: the words come all the same, each sender accuses it,
-/// and all convict it.
-pub fn symmetric_rmu()
-    ensures { records_of symmetric_rmu [] ≡ symmetric_rmu_records }
-{}
-
-/// A BIU says another word to one RMU in its data slot: all good BIUs deliver what the other RMUs
-/// relay, and all convict it.
-pub fn asymmetric_sender()
-    ensures { records_of asymmetric_sender [] ≡ asymmetric_sender_records }
-{}
-
-/// It says three different words: all good BIUs deliver none.
-pub fn no_majority()
-    ensures { records_of no_majority [] ≡ no_majority_records }
-{}
-
-/// A BIU and then an RMU lie unlike: the run ends with the breach of the fault premise.
-pub fn two_sided()
-    ensures { records_of two_sided [] ≡ two_sided_records }
-{}
-
-/// Two of three RMUs lie: the run ends with the breach, in the stage in which something is taken of
-/// them.
-pub fn too_few_good()
-    ensures { records_of too_few_good [] ≡ too_few_good_records }
-{}
-
-/// An RMU of which all else is right relays a request in the last tick of the window: nobody
-/// accuses it.
-pub fn message_in_time()
-    ensures { records_of message_in_time [] ≡ message_in_time_records }
-{}
-
-/// The relay comes in that tick at one BIU, and one tick later at the three others: these accuse
-/// the RMU, and all convict it.
-pub fn message_too_late()
-    ensures { records_of message_too_late [] ≡ message_too_late_records }
-{}
-
-/// Of two faulty RMUs one is silent, and the other sends two messages, too few bytes, a wrong check
-/// and a Fault with a value: if one BIU took any of it, the good RMU would not outnumber it, and
-/// the run would end there. All convict both.
-pub fn ill_formed_messages()
-    ensures { records_of ill_formed_messages [] ≡ ill_formed_messages_records }
-{}
-
-/// A BIU asks for more slots than there are, and falls silent: the others have their slots, and
-/// deliver none in those of the greedy one.
-pub fn greedy_biu()
-    ensures { records_of greedy_biu [] ≡ greedy_biu_records }
-{}
-
-/// No node is good: the run ends at once.
-pub fn nobody_good()
-    ensures { records_of nobody_good [] ≡ nobody_good_records }
+/// Several nodes are silent or lie.
+pub fn several_faulty_nodes()
+    // A BIU and then an RMU lie unlike: the run ends with the breach of the fault premise.
+    ensures two_sided { records_of two_sided [] ≡ two_sided_records }
+    // Two of three RMUs lie: the run ends with the breach, in the stage in which something is taken
+    // of them.
+    ensures too_few_good { records_of too_few_good [] ≡ too_few_good_records }
+    // Of two faulty RMUs one is silent, and the other sends two messages, too few bytes, a wrong
+    // check and a Fault with a value: if one BIU took any of it, the good RMU would not outnumber
+    // it, and the run would end there. All convict both.
+    ensures ill_formed_messages { records_of ill_formed_messages [] ≡ ill_formed_messages_records }
+    // No node is good: the run ends at once.
+    ensures nobody_good { records_of nobody_good [] ≡ nobody_good_records }
 {}

@@ -13,8 +13,9 @@ ghost use Rattle.rb_rules.specs.Spelling.{message_in};
 ghost use Rattle.rb_rules.specs.SyncStage.{call_of};
 ghost use Rattle.rb_test_rules.specs.Parts.{expected, in_frame_65537, sizes, word_10};
 
-/// Bytes that are no message of version One, each by one thing that is wrong.
-pub fn bytes_without_a_message()
+/// Bytes and messages of which nothing is taken.
+pub fn what_is_not_taken()
+    // Bytes that are no message of version One, each by one thing that is wrong.
     ensures fault_with_a_value { message_in version.One
         (2 ∷ 0 ∷ 0 ∷ 0 ∷ 0 ∷ 2 ∷ 0 ∷ 0 ∷ 0 ∷ 1 ∷ 1 ∷ []) ≡ None }
     ensures call_with_a_value { message_in version.One (3 ∷ 0 ∷ 0 ∷ 0 ∷ 19 ∷ 2 ∷ 0 ∷ 0 ∷ 0 ∷ 1 ∷ 19 ∷ []) ≡ None }
@@ -30,10 +31,7 @@ pub fn bytes_without_a_message()
         ≡ None }
     ensures too_long { message_in version.One (1 ∷ 0 ∷ 0 ∷ 0 ∷ 4 ∷ 1 ∷ 0 ∷ 0 ∷ 0 ∷ 10 ∷ 14 ∷ 0 ∷ [])
         ≡ None }
-{}
-
-/// Messages for another window, and a message whose check leaves out the bus.
-pub fn messages_for_another_window()
+    // Messages for another window, and a message whose check leaves out the bus.
     ensures of_another_frame { sense_of (record expected { frame = 2 }) (word_10 70 5 10 ∷ [])
         ≡ Bad }
     ensures of_another_slot { sense_of (record expected { slot = 5 }) (word_10 70 5 10 ∷ []) ≡ Bad }

@@ -20,31 +20,18 @@ ghost use Rattle.rb_rules.specs.Spelling.{spelling_of};
 ghost use Rattle.rb_rules.specs.SyncStage.{calls, close_sync, send_tick_of, new_epoch_of};
 ghost use Rattle.rb_test_rules.specs.Parts.{sizes, plan, biu, rmu, expected, word_10, accused, two_frames_later, accused_anew, comes, that_heard, that_heard_nothing, relayed_by, relays, sender, bystander, that_voted, that_scheduled, in_data_slot, in_idle_slot, called, rmu_after, biu_after, convicted};
 
-/// Messages as bytes, in both versions.
-pub fn messages_are_spelled()
+/// Messages of one source.
+pub fn messages_of_a_source()
+    // Messages as bytes, in both versions.
     ensures a_word { spelling_of version.One (record { tag = tag.Word; frame = 1; slot = 4; stage = 1; value = 10 }) ≡ (1 ∷ 0 ∷ 1 ∷ 0 ∷ 4 ∷ 1 ∷ 0 ∷ 0 ∷ 0 ∷ 10 ∷ 15 ∷ []) }
     ensures a_call { spelling_of version.One (record { tag = tag.Sync; frame = 0; slot = 19; stage = 2; value = 0 }) ≡ (3 ∷ 0 ∷ 0 ∷ 0 ∷ 19 ∷ 2 ∷ 0 ∷ 0 ∷ 0 ∷ 0 ∷ 18 ∷ []) }
     ensures a_fault { spelling_of version.One (record { tag = tag.Fault; frame = 65535; slot = 5; stage = 3; value = 0 }) ≡ (2 ∷ 255 ∷ 255 ∷ 0 ∷ 5 ∷ 3 ∷ 0 ∷ 0 ∷ 0 ∷ 0 ∷ 4 ∷ []) }
     ensures on_bus_5 { spelling_of (version.Two 5) (record { tag = tag.Word; frame = 1; slot = 4; stage = 1; value = 10 }) ≡ (1 ∷ 0 ∷ 1 ∷ 0 ∷ 4 ∷ 1 ∷ 0 ∷ 0 ∷ 0 ∷ 10 ∷ 5 ∷ 10 ∷ []) }
-{}
-
-/// Middles of stamps: a BIU that calls early, an RMU that calls at the first or the last tick of
-/// the window.
-pub fn middles_of_stamps()
-    ensures early_first { middle_of (861 ∷ 862 ∷ 862 ∷ 862 ∷ []) ≡ Some 862 }
-    ensures early_last { middle_of (894 ∷ 897 ∷ 897 ∷ 897 ∷ []) ≡ Some 897 }
-    ensures at_the_first_tick { middle_of (870 ∷ 878 ∷ 878 ∷ []) ≡ Some 878 }
-    ensures at_the_last_tick { middle_of (878 ∷ 887 ∷ 878 ∷ []) ≡ Some 878 }
-    ensures of_four { middle_of (4 ∷ 1 ∷ 3 ∷ 2 ∷ []) ≡ Some 2 }
-    ensures of_none { middle_of [] ≡ None }
-{}
-
-/// What the arrivals of one source are worth.
-pub fn arrivals_of_a_source()
-    ensures none { sense_of expected [] ≡ Silent }
-    ensures one { sense_of expected (word_10 70 5 10 ∷ [])
+    // What the arrivals of one source are worth.
+    ensures no_arrival { sense_of expected [] ≡ Silent }
+    ensures one_arrival { sense_of expected (word_10 70 5 10 ∷ [])
         ≡ One 70 (record { tag = tag.Word; frame = 1; slot = 4; stage = 1; value = 10 }) }
-    ensures two { sense_of expected (word_10 70 5 10 ∷ word_10 71 5 10 ∷ []) ≡ Bad }
+    ensures two_arrivals { sense_of expected (word_10 70 5 10 ∷ word_10 71 5 10 ∷ []) ≡ Bad }
     ensures of_another_bus { sense_of expected (word_10 70 6 9 ∷ []) ≡ Bad }
     ensures of_another_stage { sense_of (record expected { stage = 2 }) (word_10 70 5 10 ∷ [])
         ≡ Bad }
@@ -52,30 +39,34 @@ pub fn arrivals_of_a_source()
         (word_10 70 5 10 ∷ []) ≡ Bad }
 {}
 
-/// Whom a node trusts, accuses and takes of.
+/// Nodes that are accused and convicted.
 pub fn accused_nodes()
+    // Whom a node trusts, accuses and takes of.
     ensures sets { (accused.trusted ∷ accused.direct ∷ accused.mismatch ∷ accused.fresh ∷ [])
         ≡ (7 ∷ 2 ∷ 4 ∷ 2 ∷ []) }
     ensures vector { vector_of accused ≡ 6 }
     ensures eligible { map (is_eligible accused) (0 ∷ 1 ∷ 2 ∷ 3 ∷ [])
         ≡ (true ∷ false ∷ true ∷ false ∷ []) }
-{}
-
-/// With a probation of one frame an accusation stands at the end of its own frame and lapses at the
-/// end of the next; with two, new evidence begins the count anew.
-pub fn probation_passes()
+    // With a probation of one frame an accusation stands at the end of its own frame and lapses at
+    // the end of the next; with two, new evidence begins the count anew.
     ensures own_frame { (standing_at_end 1 accused).direct ≡ 2 }
     ensures next_frame { (standing_at_end 1 (standing_at_end 1 accused)).direct ≡ 0 }
     ensures mismatch_stays { (standing_at_end 1 (standing_at_end 1 accused)).mismatch ≡ 4 }
     ensures after_two { (two_frames_later accused).direct ≡ 2 }
     ensures after_three { (standing_at_end 2 (two_frames_later accused)).direct ≡ 0 }
     ensures counted_anew { (two_frames_later (accused_anew (two_frames_later accused))).direct ≡ 2 }
+    // Of four senders three must name a node: a tie convicts nobody. A vector of a convicted
+    // sender, one that names a node that there is not, and a Fault count for nothing.
+    ensures most { convicted 15 (Word 2 ∷ Word 2 ∷ Word 0 ∷ Word 2 ∷ []) ≡ 2 }
+    ensures tie { convicted 15 (Word 2 ∷ Word 2 ∷ Word 0 ∷ Word 0 ∷ []) ≡ 0 }
+    ensures only_valid { convicted 14 (Word 0 ∷ Word 8 ∷ Word 2 ∷ Fault ∷ []) ≡ 2 }
 {}
 
-/// What slots are for, and who sends in them. BIU 1 and RMU 2 are convicted, and the data slots 0
-/// and 1 are those of BIUs 0 and 3. A diagnosis slot goes by the trust in its own sender: RMU 1 and
-/// BIU 2 have theirs.
-pub fn roles_and_senders()
+/// Slots, with those who send in them.
+pub fn slots_and_senders()
+    // What slots are for, and who sends in them. BIU 1 and RMU 2 are convicted, and the data slots
+    // 0 and 1 are those of BIUs 0 and 3. A diagnosis slot goes by the trust in its own sender: RMU
+    // 1 and BIU 2 have theirs.
     ensures roles { map (role_of sizes) (0 ∷ 3 ∷ 4 ∷ 11 ∷ 12 ∷ 15 ∷ 16 ∷ 18 ∷ 19 ∷ [])
         ≡ (Schedule 0 ∷ Schedule 3 ∷ Data 0 ∷ Data 7 ∷ DiagBiu 0 ∷ DiagBiu 3 ∷ DiagRmu 0 ∷ DiagRmu 2 ∷ Sync ∷ []) }
     ensures senders { map (sender_in 13 3 (0 ∷ 3 ∷ []))
@@ -83,10 +74,7 @@ pub fn roles_and_senders()
         ≡ (Node 0 ∷ Nobody ∷ Node 3 ∷ Nobody ∷ EachTrusted ∷ []) }
     ensures diagnosis { map (sender_in 13 3 []) (DiagBiu 1 ∷ DiagBiu 2 ∷ DiagRmu 1 ∷ DiagRmu 2 ∷ [])
         ≡ (Nobody ∷ Node 2 ∷ Node 1 ∷ Nobody ∷ []) }
-{}
-
-/// Whom the nodes of a kind expect in the stages of a slot, where BIU 1 is convicted.
-pub fn expected_sources()
+    // Whom the nodes of a kind expect in the stages of a slot, where BIU 1 is convicted.
     ensures schedule_slot_at_rmus { map (λ stage. set_of (expects Rmu (Schedule 2) (Node 2) 13 stage)) (1 ∷ 2 ∷ 3 ∷ []) ≡ (4 ∷ 0 ∷ 13 ∷ []) }
     ensures schedule_slot_at_bius { map (λ stage. set_of (expects Biu (Schedule 2) (Node 2) 7 stage)) (1 ∷ 2 ∷ 3 ∷ []) ≡ (0 ∷ 7 ∷ 0 ∷ []) }
     ensures data_slot_at_rmus { map (λ stage. set_of (expects Rmu (Data 0) (Node 2) 13 stage))
@@ -97,11 +85,8 @@ pub fn expected_sources()
         (1 ∷ 2 ∷ 3 ∷ 4 ∷ []) ≡ (0 ∷ 7 ∷ 0 ∷ 0 ∷ []) }
     ensures stage_1_by_slot { map (λ slot. expected_by sizes Rmu slot 1 (0 ∷ 3 ∷ 2 ∷ []) 13 7)
         (1 ∷ 5 ∷ 6 ∷ 19 ∷ []) ≡ (0 ∷ 8 ∷ 4 ∷ 13 ∷ []) }
-{}
-
-/// Owners of eight data slots: two are left over; one BIU asks for more than there are; BIU 0 is
-/// convicted and the request of BIU 3 is not known.
-pub fn owners_by_requests()
+    // Owners of eight data slots: two are left over; one BIU asks for more than there are; BIU 0 is
+    // convicted and the request of BIU 3 is not known.
     ensures few { owners_of sizes 15 (Word 3 ∷ Word 1 ∷ Word 0 ∷ Word 2 ∷ [])
         ≡ (0 ∷ 1 ∷ 3 ∷ 0 ∷ 3 ∷ 0 ∷ []) }
     ensures greedy { owners_of sizes 15 (Word 1 ∷ Word 1 ∷ Word 4294967295 ∷ Word 1 ∷ [])
@@ -110,18 +95,17 @@ pub fn owners_by_requests()
         ≡ (1 ∷ 2 ∷ 1 ∷ []) }
 {}
 
-/// Stage 1: the sender alone says its request, and keeps it.
-pub fn request_is_sent()
-    ensures said { says sizes Biu 0 biu 0 1 2 ≡ Some (Word 2) }
+/// The stages of schedule and data slots.
+pub fn stages_of_a_slot()
+    // Stage 1: the sender alone says its request, and keeps it.
+    ensures request_is_said { says sizes Biu 0 biu 0 1 2 ≡ Some (Word 2) }
     ensures kept { (keep_sent sizes Biu 0 biu 0 1 2).sent ≡ Some (Word 2) }
     ensures others { (says sizes Biu 1 biu 0 1 2 ∷ says sizes Rmu 0 rmu 0 1 2 ∷ [])
         ≡ (None ∷ None ∷ []) }
-{}
-
-/// An RMU relays what it took; one that took nothing accuses the sender and relays Fault. A sender
-/// that is accused by mismatch alone is relayed as ever, one that is accused directly is not.
-pub fn request_is_relayed()
-    ensures said { map (λ st. says sizes Rmu 0 st 0 2 0) (that_heard ∷ that_heard_nothing ∷ [])
+    // An RMU relays what it took; one that took nothing accuses the sender and relays Fault. A
+    // sender that is accused by mismatch alone is relayed as ever, one that is accused directly is
+    // not.
+    ensures request_is_relayed { map (λ st. says sizes Rmu 0 st 0 2 0) (that_heard ∷ that_heard_nothing ∷ [])
         ≡ (Some (Word 2) ∷ Some Fault ∷ []) }
     ensures silence_is_accused { map (λ st. st.far.direct) (that_heard ∷ that_heard_nothing ∷ [])
         ≡ (0 ∷ 1 ∷ []) }
@@ -129,11 +113,8 @@ pub fn request_is_relayed()
         ≡ Some (Word 2) }
     ensures after_direct { relayed_by (record rmu { far = record rmu.far { direct = 1 } })
         ≡ Some Fault }
-{}
-
-/// Stages 2 and 3: BIUs, then RMUs vote; who differs from the vote, or from what the sender sent,
-/// is accused by mismatch.
-pub fn request_is_voted()
+    // Stages 2 and 3: BIUs, then RMUs vote; who differs from the vote, or from what the sender
+    // sent, is accused by mismatch.
     ensures repeated { map (λ st. says sizes Biu 3 st 0 3 0) (sender ∷ bystander ∷ [])
         ≡ (Some (Word 2) ∷ Some (Word 2) ∷ []) }
     ensures accused_by_the_sender { map (λ st. st.far.mismatch) (sender ∷ bystander ∷ [])
@@ -142,20 +123,18 @@ pub fn request_is_voted()
     ensures voted_by_rmus { take 2 that_voted.votes ≡ (Word 2 ∷ Fault ∷ []) }
     ensures accused_by_rmus { that_voted.far.mismatch ≡ 4 }
     ensures schedule_stands { that_scheduled.owners ≡ (0 ∷ 1 ∷ 3 ∷ 0 ∷ 3 ∷ 0 ∷ []) }
-{}
-
-/// Data slots: the vote is delivered, and who was silent is accused; in an idle slot nothing is
-/// delivered, and who spoke is accused.
-pub fn word_is_delivered()
+    // Data slots: the vote is delivered, and who was silent is accused; in an idle slot nothing is
+    // delivered, and who spoke is accused.
     ensures delivered { in_data_slot.closed.delivered
         ≡ Some (record { frame = 0; slot = 5; sender = 1; value = Word 20 }) }
-    ensures silence_is_accused { in_data_slot.state.far.direct ≡ 4 }
+    ensures silent_relay_is_accused { in_data_slot.state.far.direct ≡ 4 }
     ensures idle { in_idle_slot.closed.delivered ≡ None }
     ensures speaking_is_accused { in_idle_slot.state.far.direct ≡ 3 }
 {}
 
-/// Who calls in the stages of the sync slot, and when.
-pub fn calls_in_the_sync_slot()
+/// The sync slot.
+pub fn sync_slot()
+    // Who calls in the stages of the sync slot, and when.
     ensures of_bius { map (λ stage. is_some (calls sizes Biu biu stage)) (1 ∷ 2 ∷ 3 ∷ 4 ∷ [])
         ≡ (true ∷ false ∷ true ∷ false ∷ []) }
     ensures of_rmus { map (λ stage. is_some (calls sizes Rmu rmu stage)) (1 ∷ 2 ∷ 3 ∷ 4 ∷ [])
@@ -163,29 +142,23 @@ pub fn calls_in_the_sync_slot()
     ensures ticks { map (send_tick_of sizes plan (record rmu { k1 = Some 862 }) 19) (1 ∷ 2 ∷ 3 ∷ [])
         ≡ (Some 861 ∷ Some 877 ∷ None ∷ []) }
     ensures below_the_sync_slot { send_tick_of sizes plan rmu 5 2 ≡ Some 246 }
-{}
-
-/// Middles: of four stamps the second least; where nothing is taken the window's first tick; who
-/// does not listen takes none.
-pub fn middles_in_the_sync_slot()
+    // Middles of stamps: a BIU that calls early, an RMU that calls at the first or the last tick of
+    // the window.
+    ensures early_first { middle_of (861 ∷ 862 ∷ 862 ∷ 862 ∷ []) ≡ Some 862 }
+    ensures early_last { middle_of (894 ∷ 897 ∷ 897 ∷ 897 ∷ []) ≡ Some 897 }
+    ensures at_the_first_tick { middle_of (870 ∷ 878 ∷ 878 ∷ []) ≡ Some 878 }
+    ensures at_the_last_tick { middle_of (878 ∷ 887 ∷ 878 ∷ []) ≡ Some 878 }
+    ensures of_four_stamps { middle_of (4 ∷ 1 ∷ 3 ∷ 2 ∷ []) ≡ Some 2 }
+    ensures of_no_stamp { middle_of [] ≡ None }
+    // Middles: of four stamps the second least; where nothing is taken the window's first tick; who
+    // does not listen takes none.
     ensures of_four { (rmu_after (864 ∷ 861 ∷ 870 ∷ 862 ∷ [])).k1 ≡ Some 862 }
     ensures silence_is_accused { (rmu_after (864 ∷ 861 ∷ 870 ∷ [])).far.direct ≡ 8 }
     ensures of_none { (close_sync sizes Biu biu 2 870 (called 2 [])).state.k2 ≡ Some 870 }
     ensures not_listening { (biu_after (864 ∷ [])).k1 ≡ None }
     ensures speaking_is_accused { (biu_after (864 ∷ [])).far.direct ≡ 1 }
-{}
-
-/// Where each call is stamped one tick after it is sent, the middles are 862, 878 and 897, and the
-/// next epochs are one.
-pub fn next_epochs()
+    // Where each call is stamped one tick after it is sent, the middles are 862, 878 and 897, and
+    // the next epochs are one.
     ensures at_a_biu { new_epoch_of plan Biu (record biu { k2 = Some 878 }) ≡ Some 917 }
     ensures at_an_rmu { new_epoch_of plan Rmu (record rmu { k3 = Some 897 }) ≡ Some 917 }
-{}
-
-/// Of four senders three must name a node: a tie convicts nobody. A vector of a convicted sender,
-/// one that names a node that there is not, and a Fault count for nothing.
-pub fn vectors_convict()
-    ensures most { convicted 15 (Word 2 ∷ Word 2 ∷ Word 0 ∷ Word 2 ∷ []) ≡ 2 }
-    ensures tie { convicted 15 (Word 2 ∷ Word 2 ∷ Word 0 ∷ Word 0 ∷ []) ≡ 0 }
-    ensures only_valid { convicted 14 (Word 0 ∷ Word 8 ∷ Word 2 ∷ Fault ∷ []) ≡ 2 }
 {}

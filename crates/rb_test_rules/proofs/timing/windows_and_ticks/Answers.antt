@@ -1,7 +1,7 @@
 use Rattle.std.proofs.Common.{ℕ, zero, suc, ◌≤◌, lit≤, arith}
 use Rattle.rb_rules.specs.Clock.{time_of}
 use Rattle.rb_test_rules.specs.Timing.{quick_then_slow}
-use Rattle.rb_test_rules.proofs.timing.ticks_of_a_clock.Goals as goal
+use Rattle.rb_test_rules.proofs.timing.windows_and_ticks.Goals as goal
 
 pub returns-clause-comes_before : goal.returns-clause-comes_before
 returns-clause-comes_before c = record { tick = 3; in_time = lit≤ tt; come = lit≤ tt }

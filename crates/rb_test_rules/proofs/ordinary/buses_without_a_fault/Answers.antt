@@ -9,8 +9,8 @@ use Rattle.rb_rules.specs.Links.{delay_of}
 use Rattle.rb_rules.specs.Rounds.{sent_in, close_on, go_through, results_of, after_window, begin_frame, step}
 use Rattle.rb_rules.specs.Spelling.{message_in}
 use Rattle.rb_rules.specs.SyncStage.{close_sync, sync_outcome_of}
-use Rattle.rb_test_rules.proofs.ordinary.slow_calls.Goals as goal
+use Rattle.rb_test_rules.proofs.ordinary.buses_without_a_fault.Goals as goal
 
-pub returns : goal.returns
+pub returns-clause-slow_calls : goal.returns-clause-slow_calls
 unfolding set_of set_below message_in close_exact outcome_of close_sync sync_outcome_of turn convicted_by classes_of verdict_of size delay_of with_stage with_frame sending heard_from row_of sent_in close_on go_through results_of after_window begin_frame step
-returns c = refl
+returns-clause-slow_calls c = refl
