@@ -5,16 +5,32 @@
 //! Words of robus_bridge stand behind `bridge`, and those of robus_picture behind `picture`. There
 //! may be several steps with `then` between them, of which each is given what the one before it
 //! wrote. Some change bytes: `cut N` leaves the first N, `put PLACE BYTE` sets the byte at a place,
-//! or adds it at the end, and `hex` spells them in digits. A line that begins with `#` says what
-//! the lines below it try.
+//! or adds it at the end, `hex` spells them in digits, and `spaces N` takes N spaces in their place.
+//! A line that begins with `#` says what the lines below it try.
+//!
+//! Three prefixes say how robus is called, and what is counted then stands in brackets behind the
+//! status. With `failing R W` the read and the write with these numbers fail, from 1 on, and the
+//! writes are counted. With `pieces N R` no read or write moves more than N bytes, the read with
+//! number R fails, and the writes are counted. With `keeping N 0` a drive keeps the first N records,
+//! of which those that it keeps are counted, and with `keeping N 1` it hides what was delivered.
+//!
+//! Of a document `last` and `seeded SEED` say how many records its run has, if they are the same
+//! whether the first event that is due is taken or the last one, or one that is drawn; and `numbers`
+//! says its four numbers. `events N` takes N events, each the first that is due, and says of each
+//! how many were due, which it is, and the number of the frame whose record comes with it. `hand N`
+//! hands B0 the state N as frame 1 begins, and says which records are others then, behind their
+//! numbers.
 #![tactic(auto)]
 
 mod answers;
+mod choices;
+mod events;
 mod steps;
 
-use answers::Answerer;
+use answers::{Answerer, End};
 use rb_group::voters;
 use rb_port::applications;
+use std::alloc::{AllocError, Global};
 use std::io::Write;
 use std::{fs, io};
 use steps::{Step, changed, step_of};
@@ -27,6 +43,14 @@ fn input_in(rt: &HostRuntime, file: &str) -> io::Result<Option<Vec<u8>>> {
     Ok(Some(fs::read(rt, file)?))
 }
 
+// How a call ended, behind a space.
+fn end_text(alloc: Global, (status, counted): End) -> Result<String, AllocError> {
+    match counted {
+        Some(count) => format!(in alloc; " {status} ({count})"),
+        None => format!(in alloc; " {status}"),
+    }
+}
+
 // Takes the steps with the input in the file.
 fn try_steps(rt: &HostRuntime, answerer: &Answerer, steps: &str, file: &str) -> anyhow::Result<()> {
     let alloc = rt.alloc();
@@ -34,12 +58,15 @@ fn try_steps(rt: &HostRuntime, answerer: &Answerer, steps: &str, file: &str) -> 
     let mut statuses = String::new(alloc);
     for text in steps.split(" then ") {
         let written = match step_of(text) {
-            Step::Call(program, words) => {
-                let answer = answerer.answer(alloc, program, words, input)?;
-                statuses.push_str(&format!(in alloc; " {}", answer.status)?)?;
+            Step::Call(way, words) => {
+                let answer = answerer.answer(alloc, way, words, input)?;
+                statuses.push_str(&end_text(alloc, answer.end)?)?;
                 answer.bytes
             }
-            change => changed(alloc, input.unwrap_or(Vec::new(alloc)), change)?,
+            change => {
+                let bytes = input.unwrap_or(Vec::new(alloc));
+                changed(alloc, &answerer.apps, bytes, change)?
+            }
         };
         input = Some(written);
     }

@@ -1,9 +1,30 @@
 //! Nodes by themselves, to which anything comes.
-use crate::documents::ORDINARY;
-use rb_base::{Biu, Kind, Rmu};
+use rb_base::{Biu, Kind, Rmu, Shape};
 use rb_node::Node;
-use rb_scenario::read;
+use rb_plan::Feasible;
+use rb_rules::{Plan, Version};
 use std::test::Fail;
+
+// The plan of a document that says nothing of it.
+const PLAN: Plan = Plan {
+    u: 10000,
+    r: 1,
+    dmin: 5000,
+    dmax: 15000,
+    l: 15,
+    h: 6,
+    v: 18,
+    z: 20,
+    c: 1,
+    p: 60200,
+    version: Version::One,
+    probation: 0,
+};
+
+// Four BIUs, three RMUs and eight data slots.
+fn bus() -> Option<Feasible> {
+    Feasible::new(&Shape::new(4, 3, 8)?, &PLAN).ok()
+}
 
 // These bytes of this source come to a node, and then it has a tick.
 fn come_before_a_tick<K: Kind>(node: &mut Node<K>, from: u8, bytes: &[u8]) {
@@ -26,12 +47,11 @@ fn ticks_between_arrivals<K: Kind>(node: &mut Node<K>) -> u64 {
 // Any bytes of any source may come at any time.
 #[test]
 fn any_bytes(rt: HostRuntime) -> Result<(), Fail> {
-    let Ok(scenario) = read(rt.alloc(), ORDINARY.as_bytes()) else {
-        return Err("refused".into());
+    let Some(bus) = bus() else {
+        return Err("not feasible".into());
     };
-    let mut biu: Node<Biu> = Node::new(&scenario.plan, 0);
-    let mut rmu: Node<Rmu> = Node::new(&scenario.plan, 0);
-    assert_eq!(rt; ticks_between_arrivals(&mut biu), 10496);
-    assert_eq!(rt; ticks_between_arrivals(&mut rmu), 10496);
+    let of_biu = ticks_between_arrivals::<Biu>(&mut Node::new(&bus, 0));
+    let of_rmu = ticks_between_arrivals::<Rmu>(&mut Node::new(&bus, 0));
+    assert_eq!(rt; (of_biu, of_rmu), (10496, 10496));
     Ok(())
 }
