@@ -3,13 +3,11 @@
 
 pub use inbox::Inbox;
 pub use rb_rules::{Expect, Sense};
-pub use sheet::Sheet;
 pub use standing::{Standing, with_node_if};
 pub use taking::{Taking, is_quiet, take_with_evidence};
 
 pub mod inbox;
 pub mod reading;
-pub mod sheet;
 pub mod standing;
 pub mod taking;
 mod words;

@@ -1,7 +1,6 @@
 //! What the bytes of an arrival say, in a window.
 ghost use Rattle.std.specs.Prelude.{◌≡◌, ◌≤◌, ◌+◌, ◌*◌, ◌/◌, ◌%◌, ◌^◌, ℕ, IfSome, IsTrue, Some, ◌<◌, drop, length, slice_index, take, true};
 ghost use Rattle.std.specs.Int.{from_le_bytes, w32, w64};
-ghost use Rattle.rb_rules.specs.ExactStage.{see_value};
 ghost use Rattle.rb_rules.specs.Sense.{is_one, sense_of_one, suits, tag_suits, value_in, value_of};
 ghost use Rattle.rb_rules.specs.Spelling.{message_in};
 ghost use Rattle.rb_base.specs.declared.values.Heard.{Heard};
@@ -10,7 +9,7 @@ ghost use Rattle.rb_eligible.specs.Readings.{Says, StartsAsWord, bytes_of};
 
 use crate::words::{has_form, message_in, value_in as value_at};
 use byteorder::{ByteOrder, LittleEndian};
-use rb_base::{Heard, See};
+use rb_base::Heard;
 use rb_frame::{Message, Tag};
 use rb_rules::{Expect, Sense};
 
@@ -102,16 +101,6 @@ pub(crate) fn said_of(sole: &Sole, expect: &Expect) -> Said
             value: Some(Heard::Word(word)),
         },
         None => words_of(sole, expect),
-    }
-}
-
-// What is shown of a source, by the value that was taken of it.
-pub(crate) fn see_value(taken: Option<Heard>) -> See
-    ensures { result ≡ see_value taken }
-{
-    match taken {
-        Some(value) => See::Value(value),
-        None => See::Nothing,
     }
 }
 

@@ -1,7 +1,7 @@
 //! What a node takes in a window, and whom it accuses for what came.
-ghost use Rattle.std.specs.Prelude.{◌≡◌, ℕ, ◌<◌, ◌*◌, ◌^◌, ◌&&◌, ◌||◌, ◌⊎◌, None, true, if◌then◌else◌, length, map, replicate, slice_set, IfSome, IsNone, IsSome, IsTrue};
+ghost use Rattle.std.specs.Prelude.{◌≡◌, ℕ, ◌<◌, ◌*◌, ◌^◌, ◌&&◌, ◌||◌, ◌⊎◌, None, true, if◌then◌else◌, length, replicate, slice_set, IfSome, IsNone, IsSome, IsTrue};
 ghost use Rattle.rb_base.specs.Nodes.{has, set_of, size};
-ghost use Rattle.rb_rules.specs.ExactStage.{present, see_value};
+ghost use Rattle.rb_rules.specs.ExactStage.{present};
 ghost use Rattle.rb_rules.specs.Majority.{majority_of};
 ghost use Rattle.rb_rules.specs.Standing.{is_eligible};
 ghost use Rattle.rb_eligible.specs.Inboxes.{is_sole, sole_at};
@@ -9,10 +9,9 @@ ghost use Rattle.rb_eligible.specs.Standings.{standing_of};
 ghost use Rattle.rb_eligible.specs.Takings.{AccusesBy, AreOnesOf, AreTakenOf, AreValuesOf, IsPartial, IsRun};
 
 use crate::inbox::Inbox;
-use crate::reading::{Sole, said_of, see_value, word_of};
-use crate::sheet::Sheet;
+use crate::reading::{Sole, said_of, word_of};
 use crate::standing::Standing;
-use rb_base::{Heard, NodeId, NodeSet, See};
+use rb_base::{Heard, NodeId, NodeSet};
 use rb_rules::Expect;
 
 /// What was taken in a window: of which sources exactly one message came that is meant for it.
@@ -44,19 +43,11 @@ fn first_of<K: Copy>(left: NodeSet<K>) -> Option<NodeId<K>>
 
 // Writes down what was taken of the source.
 #[inline(always)]
-fn put<K: Copy>(
-    source: NodeId<K>,
-    value: Option<Heard>,
-    taken: &mut [Option<Heard>; 16],
-    sees: &mut [See; 16],
-)
+fn put<K: Copy>(source: NodeId<K>, value: Option<Heard>, taken: &mut [Option<Heard>; 16])
     ensures small { source < 16 }
     ensures taken { taken.new ≡ slice_set taken.old source value }
-    ensures sees { sees.new ≡ slice_set sees.old source (see_value value) }
 {
-    let at = usize::from(source.index());
-    taken[at] = value;
-    sees[at] = see_value(value);
+    taken[usize::from(source.index())] = value;
 }
 
 // Takes the value of the first source that is left, and of those after it up to the first one that
@@ -68,28 +59,25 @@ fn take_run<K: Copy>(
     first: NodeId<K>,
     value: Option<Heard>,
     taken: &mut [Option<Heard>; 16],
-    sees: &mut [See; 16],
 ) -> NodeSet<K>
     requires inside { has left first ≡ true }
     requires all { length taken.old ≡ 16 }
-    requires shown { sees.old ≡ map see_value taken.old }
     ensures run { IsRun inbox.now left result (sole_at inbox.now.soles first) value taken.old
         taken.new }
     ensures fewer { size result < size left }
     ensures all { length taken.new ≡ 16 }
-    ensures shown { sees.new ≡ map see_value taken.new }
 {
     let Sole { low, tail, .. } = *inbox.sole_at(first);
     let mut rest = left;
     rest.remove(first);
-    put(first, value, taken, sees);
+    put(first, value, taken);
     while let Some(source) = first_of(rest) {
         let sole = inbox.sole_at(source);
         if sole.low != low || sole.tail != tail {
             return rest;
         }
         rest.remove(source);
-        put(source, value, taken, sees);
+        put(source, value, taken);
     }
     rest
 }
@@ -177,18 +165,15 @@ fn take_runs<K: Copy>(
     start: Partial<K>,
     expect: &Expect,
     taken: &mut [Option<Heard>; 16],
-    sees: &mut [See; 16],
 ) -> Taking<K>
     requires due { (j : ℕ) → j < 16 → has due j ≡ true → is_sole inbox.now j ≡ true }
     requires start { IsPartial inbox.now expect.now due start.left start.ones start.lead.sources
         start.lead.value taken.old }
     requires all { length taken.old ≡ 16 }
-    requires shown { sees.old ≡ map see_value taken.old }
     ensures ones { AreOnesOf inbox.now expect.now (has due) result.ones }
     ensures taken { AreValuesOf inbox.now expect.now due taken.new }
     ensures alike { IsTrue result.alike → majority_of (present taken.new) ≡ result.value }
     ensures all { length taken.new ≡ 16 }
-    ensures shown { sees.new ≡ map see_value taken.new }
 {
     let Partial {
         mut left,
@@ -197,7 +182,7 @@ fn take_runs<K: Copy>(
     } = start;
     while let Some(first) = first_of(left) {
         let said = said_of(inbox.sole_at(first), expect);
-        let rest = take_run(inbox, left, first, said.value, taken, sees);
+        let rest = take_run(inbox, left, first, said.value, taken);
         let run = left.difference(rest);
         ones = with_ones(ones, run, said.one);
         lead = with_run(lead, run, said.value);
@@ -219,27 +204,24 @@ fn take_due<K: Copy>(
     due: NodeSet<K>,
     expect: &Expect,
     taken: &mut [Option<Heard>; 16],
-    sees: &mut [See; 16],
 ) -> Taking<K>
     requires fits { due < 2 ^ 16 }
     requires due { (j : ℕ) → j < 16 → has due j ≡ true → is_sole inbox.now j ≡ true }
     requires blank { taken.old ≡ replicate 16 None }
-    requires shown { sees.old ≡ map see_value taken.old }
     ensures ones { AreOnesOf inbox.now expect.now (has due) result.ones }
     ensures taken { AreValuesOf inbox.now expect.now due taken.new }
     ensures alike { IsTrue result.alike → majority_of (present taken.new) ≡ result.value }
     ensures all { length taken.new ≡ 16 }
-    ensures shown { sees.new ≡ map see_value taken.new }
 {
     let Some(first) = first_of(due) else {
-        return take_runs(inbox, due, nothing_of(due), expect, taken, sees);
+        return take_runs(inbox, due, nothing_of(due), expect, taken);
     };
     let sole = inbox.sole_at(first);
     let Some(word) = word_of(sole.low, sole.tail, expect) else {
-        return take_runs(inbox, due, nothing_of(due), expect, taken, sees);
+        return take_runs(inbox, due, nothing_of(due), expect, taken);
     };
     let value = Heard::Word(word);
-    let rest = take_run(inbox, due, first, Some(value), taken, sees);
+    let rest = take_run(inbox, due, first, Some(value), taken);
     if rest.is_empty() {
         return Taking {
             ones: due,
@@ -257,7 +239,7 @@ fn take_due<K: Copy>(
         ones: run,
         lead,
     };
-    take_runs(inbox, due, begun, expect, taken, sees)
+    take_runs(inbox, due, begun, expect, taken)
 }
 
 // The sources of the set of which exactly one message came that is meant for the window.
@@ -267,8 +249,7 @@ fn ones_among<K: Copy>(inbox: &Inbox<K>, set: NodeSet<K>, expect: &Expect) -> No
 {
     let due = set.intersection(inbox.soles());
     let mut taken = [None; 16];
-    let mut sees = [See::Nothing; 16];
-    take_due(inbox, due, expect, &mut taken, &mut sees).ones
+    take_due(inbox, due, expect, &mut taken).ones
 }
 
 // The same of the sources that are expected and accused already.
@@ -316,32 +297,28 @@ fn due_of<K: Copy>(inbox: &Inbox<K>, standing: &Standing<K>, expected: NodeSet<K
 }
 
 /// Takes what came in a window of each source that is expected and eligible, if exactly one message
-/// came and it is meant for the window: on the sheet stands by source the value of that message,
-/// which a call to resynchronise has not, and what is shown of it. Then each trusted source is
-/// accused that was expected and of which not exactly that came, or that wasn't expected and of
-/// which something came. What was taken and shown of an earlier window is written over.
+/// came and it is meant for the window: `taken` then has by source the value of that message, which
+/// a call to resynchronise has not. Then each trusted source is accused that was expected and of
+/// which not exactly that came, or that wasn't expected and of which something came. What was taken
+/// in an earlier window is written over.
 #[inline(always)]
 pub fn take_with_evidence<K: Copy>(
     inbox: &Inbox<K>,
     standing: &mut Standing<K>,
     expect: &Expect,
     expected: NodeSet<K>,
-    sheet: &mut Sheet,
+    taken: &mut [Option<Heard>; 16],
 ) -> Taking<K>
     ensures ones { AreOnesOf inbox.now expect.now (λ j. has expected j
         && is_eligible (standing_of standing.old) j) result.ones }
-    ensures taken { AreTakenOf inbox.now (standing_of standing.old) expect.now expected
-        sheet.new.closing.taken }
+    ensures taken { AreTakenOf inbox.now (standing_of standing.old) expect.now expected taken.new }
     ensures accused { AccusesBy inbox.now (standing_of standing.old) expect.now expected
         (standing_of standing.new) }
-    ensures alike { IsTrue result.alike
-        → majority_of (present sheet.new.closing.taken) ≡ result.value }
-    ensures shown { sheet.new.closed.sees ≡ map see_value sheet.new.closing.taken }
+    ensures alike { IsTrue result.alike → majority_of (present taken.new) ≡ result.value }
 {
     let due = due_of(inbox, standing, expected);
-    sheet.wipe();
-    let taken = &mut sheet.closing.taken;
-    let taking = take_due(inbox, due, expect, taken, &mut sheet.closed.sees);
+    *taken = [None; 16];
+    let taking = take_due(inbox, due, expect, taken);
     accuse_by(inbox, standing, expect, expected, taking.ones);
     taking
 }

@@ -11,7 +11,7 @@ use crate::ahead::{Ahead, bounds, look_ahead};
 use crate::parts::{close_at, epoch_at, nothing, turn_at};
 use rb_base::{Biu, MOST_TICKS, NodeId, NodeSet, Rmu};
 use rb_eligible::Inbox;
-use rb_node::{Closed, Step};
+use rb_node::Step;
 use rb_plan::Feasible;
 use rb_slot::{Engine, Shown};
 use std::marker::Model;
@@ -90,10 +90,10 @@ impl Follower {
 
     /// What the listener showed of the window that it closed last, the tail among them. Before its
     /// first close nothing is in it.
-    pub fn shown(&self) -> &Closed
+    pub fn shown(&self) -> &Shown
         ensures { result.now ≡ self.now.shown }
     {
-        self.shown.closed()
+        &self.shown
     }
 
     /// The number of the first tick from the next on that isn't quiet: a frame begins with it, or

@@ -71,7 +71,7 @@ fn delivered_in(closed: bool, follower: &Follower) -> Option<Delivery>
     ensures { result ≡ (if closed then follower.now.shown.delivered else None) }
 {
     if closed {
-        follower.shown().delivered
+        follower.shown().delivered()
     } else {
         None
     }

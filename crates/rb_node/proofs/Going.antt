@@ -14,7 +14,6 @@ use Rattle.rb_rules.specs.Hearing.{tail_at}
 use Rattle.rb_rules.specs.Plan.{IsPlan}
 use Rattle.rb_rules.specs.Windows.{window_at}
 use Rattle.rb_rules.proofs.Slots.{few_slots}
-use Rattle.rb_slot.specs.Closable.{IsOfFrame}
 use Rattle.rb_slot.specs.Engines.{IsSameFrame, Seated}
 use Rattle.rb_slot.proofs.Fitting.{IsPlaced, placed}
 use Rattle.rb_node.specs.Aheads.{IsEnded, IsWindowOf, following}

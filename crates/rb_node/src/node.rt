@@ -26,7 +26,7 @@ use rb_base::{Kind, MOST_TICKS, NodeId};
 use rb_eligible::Inbox;
 use rb_frame::Spelling;
 use rb_plan::Feasible;
-use rb_rules::{Closed, Message};
+use rb_rules::Message;
 use rb_slot::{Engine, Shown};
 use std::marker::Model;
 
@@ -102,10 +102,10 @@ impl<K: Kind> Node<K> {
 
     /// What the node showed of the window that it closed last, the tail among them. Before its
     /// first close nothing is in it.
-    pub fn shown(&self) -> &Closed
+    pub fn shown(&self) -> &Shown
         ensures { result.now ≡ self.now.shown }
     {
-        self.shown.closed()
+        &self.shown
     }
 
     /// The tick with which the next frame begins. None exactly until the close in this frame that
@@ -299,7 +299,7 @@ impl<K: Kind> Node<K> {
     {
         let version = self.engine.plan().plan().version;
         let step = self.step(word);
-        let closed = if_closed(step.closed, self.shown.closed());
+        let closed = if_closed(step.closed, &self.shown);
         Act {
             send: bytes_of(version, step.message),
             delivered: delivered_in(&closed),

@@ -170,10 +170,10 @@ pub(crate) fn span_at(frame: u32, epoch: u64, window: &Window, now: u64) -> Opti
 }
 
 // What is shown, if a window was closed.
-pub(crate) fn if_closed(closed: bool, shown: &Closed) -> Option<Closed>
+pub(crate) fn if_closed(closed: bool, shown: &Shown) -> Option<Closed>
     ensures { result ≡ (if closed then Some shown.now else None) }
 {
-    if closed { Some(*shown) } else { None }
+    if closed { Some(shown.closed()) } else { None }
 }
 
 // What is delivered in it.

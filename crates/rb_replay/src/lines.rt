@@ -11,7 +11,7 @@ ghost use Rattle.rb_rules.specs.Core.{Act};
 use arrayvec::ArrayString;
 use rb_base::{Delivery, NodeName};
 use rb_listen::Heed;
-use rb_node::{Closed, Epoch, Step};
+use rb_node::{Epoch, Shown, Step};
 use rb_outside::{Failed, Sink, write_line};
 use rb_report::{convicted_line, delivery_line, epoch_line};
 
@@ -58,11 +58,11 @@ fn number_of(node: NodeName) -> u8
 #[inline(always)]
 fn write_delivery<S: Sink>(
     node: NodeName,
-    delivered: &Option<Delivery>,
+    delivered: Option<Delivery>,
     output: &mut S,
 ) -> Result<(), Failed>
     ensures { Writes S.held
-        S.faults output.old output.new result (delivery_lines node delivered.now) }
+        S.faults output.old output.new result (delivery_lines node delivered) }
 {
     match delivered {
         Some(d) => write_line(
@@ -80,7 +80,7 @@ fn write_delivery<S: Sink>(
 pub(crate) fn write_step<S: Sink>(
     node: NodeName,
     step: &Step,
-    shown: &Closed,
+    shown: &Shown,
     output: &mut S,
 ) -> Result<(), Failed>
     ensures writes { (x : Act) → IsAct shown.now step.now x
@@ -89,7 +89,7 @@ pub(crate) fn write_step<S: Sink>(
 {
     write_epoch(node, step.epoch, output)?;
     if step.closed {
-        write_delivery(node, &shown.delivered, output)
+        write_delivery(node, shown.delivered(), output)
     } else {
         Ok(())
     }
@@ -112,7 +112,7 @@ pub(crate) fn write_heed<S: Sink>(node: NodeName, heed: Heed, output: &mut S) ->
     ensures { Writes S.held S.faults output.old output.new result (heed_lines node heed) }
 {
     write_epoch(node, heed.epoch, output)?;
-    write_delivery(node, &heed.delivered, output)
+    write_delivery(node, heed.delivered, output)
 }
 
 /// How many frames begin: 1 or none.

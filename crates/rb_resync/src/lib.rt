@@ -13,7 +13,7 @@ ghost use Rattle.rb_rules.specs.SyncStage.{new_epoch_of, sync_closing_of};
 
 use arrayvec::ArrayVec;
 use rb_base::{NodeId, NodeSet};
-use rb_eligible::{Inbox, Sheet, Standing, take_with_evidence};
+use rb_eligible::{Inbox, Standing, take_with_evidence};
 use rb_mid::middle;
 use rb_plan::Feasible;
 use rb_rules::Expect;
@@ -67,8 +67,8 @@ pub fn close_sync<K: Copy>(
         (standing_of standing.new) }
     ensures soon { (n : ℕ) → StampsUpTo n inbox.now → first ≤ n → result.middle ≤ n }
 {
-    let mut sheet = Sheet::new();
-    let taking = take_with_evidence(inbox, standing, expect, expected, &mut sheet);
+    let mut values = [None; 16];
+    let taking = take_with_evidence(inbox, standing, expect, expected, &mut values);
     let takers = taking.ones.intersection(inbox.soles());
     let mut taken_of = [None; 16];
     let mut stamps = ArrayVec::new();

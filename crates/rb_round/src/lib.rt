@@ -1,18 +1,18 @@
 //! A stage below the sync slot: what a node makes of what came in it.
 #![tactic(auto)]
 
-ghost use Rattle.std.specs.Prelude.{◌≡◌, ◌<◌, map, unwrap_or, IsTrue};
+ghost use Rattle.std.specs.Prelude.{◌≡◌, ◌<◌, unwrap_or, IsTrue};
 ghost use Rattle.rb_base.specs.declared.values.Heard.{Heard};
 ghost use Rattle.rb_eligible.specs.Standings.{standing_of};
 ghost use Rattle.rb_eligible.specs.Takings.{AccusesBy};
 ghost use Rattle.rb_round.specs.Closes.{ClosesBy};
-ghost use Rattle.rb_rules.specs.ExactStage.{at_source, present, see_value, with_unlike};
+ghost use Rattle.rb_rules.specs.ExactStage.{at_source, present, with_unlike};
 ghost use Rattle.rb_rules.specs.Majority.{majority_of};
 ghost use Rattle.rb_rules.specs.Standing.{is_unlike};
 
-pub use close::close_on_sheet;
+pub use close::close_in_place;
 use rb_base::{Heard, NodeSet};
-use rb_eligible::{Inbox, Sheet, Standing, take_with_evidence, with_node_if};
+use rb_eligible::{Inbox, Standing, take_with_evidence, with_node_if};
 pub use rb_rules::Closing;
 use rb_rules::Expect;
 use rb_vote::majority_taken;
@@ -48,9 +48,12 @@ pub fn close_stage<K: Copy>(
     ensures accused { AccusesBy inbox.now (standing_of standing.old) expect.now expected
         (standing_of standing.new) }
 {
-    let mut sheet = Sheet::new();
-    close_on_sheet(inbox, standing, expect, expected, &mut sheet);
-    sheet.closing
+    let mut closing = Closing {
+        taken: [None; 16],
+        voted: Heard::Fault,
+    };
+    close_in_place(inbox, standing, expect, expected, &mut closing);
+    closing
 }
 
 // The close of a stage in which something came or somebody is expected.
@@ -60,16 +63,15 @@ fn close_busy<K: Copy>(
     standing: &mut Standing<K>,
     expect: &Expect,
     expected: NodeSet<K>,
-    sheet: &mut Sheet,
+    closing: &mut Closing,
 )
     ensures closing { ClosesBy inbox.now (standing_of standing.old) expect.now expected
-        sheet.new.closing }
+        closing.new }
     ensures accused { AccusesBy inbox.now (standing_of standing.old) expect.now expected
         (standing_of standing.new) }
-    ensures shown { sheet.new.closed.sees ≡ map see_value sheet.new.closing.taken }
 {
-    let taking = take_with_evidence(inbox, standing, expect, expected, sheet);
-    sheet.closing.voted = vote(&sheet.closing.taken, taking.alike, taking.value);
+    let taking = take_with_evidence(inbox, standing, expect, expected, &mut closing.taken);
+    closing.voted = vote(&closing.taken, taking.alike, taking.value);
 }
 
 // Whether something other than the value was taken.

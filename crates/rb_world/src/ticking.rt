@@ -127,7 +127,7 @@ fn close<K: Kind>(
         bus,
         apps,
         number_of(node),
-        closed.delivered,
+        closed.delivered(),
         &mut scene.ports,
     );
 }

@@ -1,15 +1,12 @@
 -- What is kept of some sources.
 use Rattle.std.proofs.Common.{◌≡◌, ◌≢◌, ℕ, ◌+◌, ◌<◌, ◌==◌, ◌&&◌, not, if◌then◌else◌, Bool, true, false, List, length, get_or, set, refl, sym, ap, ◌∙◌, subst, arith, inl, inr}
 use Rattle.std.proofs.lemmas.Bool.{cases_eq}
-use Rattle.std.proofs.lemmas.List.{ext_get_or, get_or_default, get_or-set_same, get_or-set_other}
+use Rattle.std.proofs.lemmas.List.{ext_get_or, get_or-set_same, get_or-set_other}
 use Rattle.std.proofs.lemmas.List.FromFn.{get_or-map-range_with_len}
 use Rattle.rb_base.specs.Nodes.{has, set_of}
 use Rattle.rb_base.proofs.Sets.{eq_other, has-is, has_none}
-use Rattle.rb_base.specs.declared.values.See.{See}
-use Rattle.rb_base.specs.declared.values.See.TheVariants.{Nothing}
 use Rattle.rb_base.proofs.Plain.{and-not_true, eq_self}
-use Rattle.rb_rules.specs.Hearing.{judged_see}
-use Rattle.rb_world_book.specs.Telling.{kept_of, timed_in}
+use Rattle.rb_world_book.specs.Telling.{kept_of}
 
 -- of each of the sources that are not left what is new
 abbrev pub kept_but : {X : Type 0} → ℕ → ℕ → X → (ℕ → X) → List X → ℕ → X
@@ -77,9 +74,3 @@ kept-all counted left d new before kept long none so_far =
     so_far j small
     ∙ ap (λ b. if has counted j && not b then new j else get_or before j d) (ap (λ s. has s j) none ∙ has_none j)
     ∙ ap (λ b. if b then new j else get_or before j d) (but-none (has counted j)) ∙ sym (kept-at counted d new before j small))
-
--- what was seen of one source, by any items for those that are not there
-pub timed-at : (seen : List See) (times : List ℕ) (k : ℕ) (d : See) (t : ℕ) → k < length seen → k < length times
-    → judged_see (get_or times k t) (get_or seen k d) ≡ timed_in seen times k
-timed-at seen times k d t within timed =
-    ap (judged_see (get_or times k t)) (get_or_default seen k d Nothing within) ∙ ap (λ n. judged_see n (get_or seen k Nothing)) (get_or_default times k t 0 timed)

@@ -26,7 +26,8 @@ use crate::walks::{add_node_lines, first_trusted, port_lines, slot_lines};
 use arrayvec::ArrayVec;
 use rb_base::{Biu, NodeName, NodeSet, Place, Rmu, Shape};
 use rb_judge::Judge;
-use rb_rules::{Closed, NodeLine, PortLine, SlotLine};
+use rb_rules::{NodeLine, PortLine, SlotLine};
+use rb_slot::Shown;
 use rb_world_onset::Onsets;
 
 /// What the nodes of a run have told last, and what is settled by it. It takes no memory.
@@ -254,7 +255,7 @@ impl Book {
     pub fn close(
         &mut self,
         node: NodeName,
-        closed: &Closed,
+        closed: &Shown,
         times: &[u64; 16],
         biu: NodeSet<Biu>,
         rmu: NodeSet<Rmu>,
@@ -266,11 +267,11 @@ impl Book {
             → Holds sc self.new (changed_at node (with_row closed.now.place.stage (row_shown (number_in node) closed.now times.now biu rmu)) w) }
         ensures shape { self.new.shape ≡ self.old.shape }
     {
-        if closed.place.stage == 4 {
+        if closed.place().stage == 4 {
             return;
         }
         let trusted = TrustedNodes { biu, rmu };
-        if is_at(self.upcoming, closed.place) {
+        if is_at(self.upcoming, closed.place()) {
             self.close_upcoming(node, closed, times, trusted);
         } else {
             self.close_other(node, closed, times, trusted);
@@ -339,7 +340,7 @@ impl Book {
     fn close_upcoming(
         &mut self,
         node: NodeName,
-        closed: &Closed,
+        closed: &Shown,
         times: &[u64; 16],
         trusted: TrustedNodes,
     )
@@ -371,7 +372,7 @@ impl Book {
     fn close_other(
         &mut self,
         node: NodeName,
-        closed: &Closed,
+        closed: &Shown,
         times: &[u64; 16],
         trusted: TrustedNodes,
     )

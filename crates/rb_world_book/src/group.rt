@@ -12,7 +12,7 @@ use crate::told::{Begin, Told, TrustedNodes};
 use crate::walks::{sights_of, waiting_for, with_or_without};
 use rb_base::NodeSet;
 use rb_judge::StageSets;
-use rb_rules::Closed;
+use rb_slot::Shown;
 
 /// What the nodes of one kind have told, and of whom more is to come.
 #[derive(Clone, Copy)]
@@ -107,7 +107,7 @@ impl<K: Copy> Group<K> {
     pub(crate) fn close<S: Copy>(
         &mut self,
         node: u8,
-        closed: &Closed,
+        closed: &Shown,
         times: &[u64; 16],
         counted: NodeSet<S>,
         trusted: TrustedNodes,
@@ -127,7 +127,7 @@ impl<K: Copy> Group<K> {
     pub(crate) fn close_upcoming<S: Copy>(
         &mut self,
         node: u8,
-        closed: &Closed,
+        closed: &Shown,
         times: &[u64; 16],
         counted: NodeSet<S>,
         trusted: TrustedNodes,

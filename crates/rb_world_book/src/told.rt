@@ -8,7 +8,8 @@ ghost use Rattle.rb_world_book.specs.Telling.{fresh_told, has_told, kept_of, see
 
 use crate::milestone::Milestone;
 use rb_base::{Biu, Delivery, NodeSet, Place, Rmu, See};
-use rb_rules::{Closed, NodeLine, PortLine, SlotLine};
+use rb_rules::{NodeLine, PortLine, SlotLine};
+use rb_slot::Shown;
 
 /// What a node told of a frame that it began.
 #[derive(Clone, Copy)]
@@ -60,27 +61,22 @@ fn timed(see: See, time: u64) -> See
 
 // What was seen of one source is kept.
 #[inline(always)]
-fn keep_one(at: usize, seen: &[See; 16], times: &[u64; 16], sees: &mut [See; 16])
-    requires { at < 16 }
-    ensures { sees.new ≡ slice_set sees.old at (timed_in seen.now times.now at) }
+fn keep_one(source: u8, shown: &Shown, times: &[u64; 16], sees: &mut [See; 16])
+    requires { source < 16 }
+    ensures { sees.new ≡ slice_set sees.old source (timed_in shown.now.sees times.now source) }
 {
-    sees[at] = timed(seen[at], times[at]);
+    let at = usize::from(source);
+    sees[at] = timed(shown.see(source), times[at]);
 }
 
 // What was seen of each of these sources is kept, with its reference time. Of the others what was
 // kept stays.
-fn keep_seen<S: Copy>(
-    counted: NodeSet<S>,
-    seen: &[See; 16],
-    times: &[u64; 16],
-    sees: &mut [See; 16],
-)
-    ensures { sees.new ≡ kept_of counted Nothing (timed_in seen.now times.now) sees.old }
+fn keep_seen<S: Copy>(counted: NodeSet<S>, shown: &Shown, times: &[u64; 16], sees: &mut [See; 16])
+    ensures { sees.new ≡ kept_of counted Nothing (timed_in shown.now.sees times.now) sees.old }
 {
     let mut left = counted;
     while let Some(source) = left.pop_first() {
-        let at = usize::from(source.index());
-        keep_one(at, seen, times, sees);
+        keep_one(source.index(), shown, times, sees);
     }
 }
 
@@ -128,7 +124,7 @@ impl Told {
     pub(crate) fn close<S: Copy>(
         &mut self,
         i: u8,
-        closed: &Closed,
+        closed: &Shown,
         times: &[u64; 16],
         counted: NodeSet<S>,
         trusted: TrustedNodes,
@@ -137,11 +133,11 @@ impl Told {
             (line_from i closed.now.delivered) self.old }
     {
         self.has_closed = true;
-        self.place = closed.place;
-        keep_seen(counted, &closed.sees, times, &mut self.sees);
+        self.place = closed.place();
+        keep_seen(counted, closed, times, &mut self.sees);
         self.biu = trusted.biu.bits();
         self.rmu = trusted.rmu.bits();
-        keep_line(i, closed.delivered, &mut self.line);
+        keep_line(i, closed.delivered(), &mut self.line);
     }
 
     /// It begins a frame.

@@ -8,6 +8,6 @@ use Rattle.rb_round.proofs.close_busy.Goals as goal
 
 pub returns-clause-closing : goal.returns-clause-closing
 returns-clause-closing g c = λ received shown.
-    let taken = c.take_with_evidence-taking.new.sheet.closing.taken in
-    closing_is (standing_of c.args.standing.now) (has c.args.expected) (sense_in c.args.expect.now received) taken (present taken) c.vote-sheet.result
-    (c.take_with_evidence-taking.ensures.taken received shown) refl c.vote-sheet.ensures
+    let taken = c.take_with_evidence-taking.new.taken in
+    closing_is (standing_of c.args.standing.now) (has c.args.expected) (sense_in c.args.expect.now received) taken (present taken) c.vote-closing.result
+    (c.take_with_evidence-taking.ensures.taken received shown) refl c.vote-closing.ensures

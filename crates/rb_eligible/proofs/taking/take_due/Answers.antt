@@ -1,4 +1,4 @@
-use Rattle.std.proofs.Common.{◌≡◌, ◌<◌, ◌*◌, ◌&&◌, not, Some, arith}
+use Rattle.std.proofs.Common.{◌≡◌, ◌<◌, ◌*◌, ◌&&◌, not, arith}
 use Rattle.rb_base.specs.Nodes.{has, size}
 use Rattle.rb_base.specs.declared.values.Heard.TheVariants.{Word}
 use Rattle.rb_base.proofs.Sets.{has-is, set_of-lt}

@@ -1,11 +1,9 @@
-use Rattle.std.proofs.Common.{◌≡◌, true, false, ◌&&◌, ◌==◌, not, length, set, refl, sym, ◌∙◌, ap, arith}
+use Rattle.std.proofs.Common.{◌≡◌, true, false, ◌&&◌, ◌==◌, not, refl, ◌∙◌, ap, arith}
 use Rattle.std.proofs.Math.ListN.{length-set}
-use Rattle.std.proofs.lemmas.List.{map-set}
 use Rattle.rb_base.specs.Nodes.{has, size}
 use Rattle.rb_base.proofs.Plain.{eq_self}
 use Rattle.rb_base.proofs.Sets.{has-is}
 use Rattle.rb_base.proofs.SetSizes.{size_less}
-use Rattle.rb_rules.specs.ExactStage.{see_value}
 use Rattle.rb_eligible.specs.Inboxes.{sole_at}
 use Rattle.rb_eligible.proofs.Runs.{run_fewer, run_next, run_none}
 use Rattle.rb_eligible.proofs.taking.take_run.Goals as goal
@@ -19,9 +17,8 @@ loop-source-init g c =
     let v = c.args.value in
     let below = c.put.ensures.small in
     let taken = c.args.taken.now in
-    rw (c.put.ensures.taken, c.put.ensures.sees) (record {
+    rw c.put.ensures.taken (record {
       all = length-set taken k v ∙ c.requires.all;
-      shown = ap (λ s. set s k (see_value v)) c.requires.shown ∙ sym (map-set see_value taken k v);
       passed =
           has-is after k (λ i. has left i && not (i == k)) c.remove.ensures below ∙ ap (λ b. has left k && not b) (eq_self k)
           ∙ elim (has left k) as (λ b. (b && false) ≡ false) [ true ↦ refl | false ↦ refl ];
@@ -43,9 +40,8 @@ loop-source-preserved g c =
     let below = c.put-in-Some.ensures.small in
     let taken = c.loop-source.taken in
     let inv = c.loop-source.invariant in
-    rw (c.put-in-Some.ensures.taken, c.put-in-Some.ensures.sees) (record {
+    rw c.put-in-Some.ensures.taken (record {
       all = length-set taken k v ∙ inv.all;
-      shown = ap (λ s. set s k (see_value v)) inv.shown ∙ sym (map-set see_value taken k v);
       passed =
           has-is after c.args.first (λ i. has rest i && not (i == k)) c.remove-in-Some.ensures c.put.ensures.small
           ∙ ap (λ b. b && not (c.args.first == k)) inv.passed;
@@ -64,9 +60,6 @@ returns-then-sole-low-clause-fewer g c =
 pub returns-then-sole-low-clause-all : goal.returns-then-sole-low-clause-all
 returns-then-sole-low-clause-all g c = c.loop-source.invariant.all
 
-pub returns-then-sole-low-clause-shown : goal.returns-then-sole-low-clause-shown
-returns-then-sole-low-clause-shown g c = c.loop-source.invariant.shown
-
 pub returns-clause-run : goal.returns-clause-run
 returns-clause-run g c = c.loop-source.invariant.run
 
@@ -77,6 +70,3 @@ returns-clause-fewer g c =
 
 pub returns-clause-all : goal.returns-clause-all
 returns-clause-all g c = c.loop-source.invariant.all
-
-pub returns-clause-shown : goal.returns-clause-shown
-returns-clause-shown g c = c.loop-source.invariant.shown

@@ -1,6 +1,5 @@
-use Rattle.std.proofs.Common.{◌≡◌, false, length, map}
+use Rattle.std.proofs.Common.{◌≡◌, false, length}
 use Rattle.rb_base.specs.Nodes.{has, size}
-use Rattle.rb_rules.specs.ExactStage.{see_value}
 use Rattle.rb_eligible.specs.Inboxes.{sole_at}
 use Rattle.rb_eligible.specs.Takings.{IsRun}
 use Rattle.rb_eligible.proofs.taking.take_run.Given as goal
@@ -9,7 +8,6 @@ use Rattle.rb_eligible.proofs.taking.take_run.Given as goal
 abbrev pub invariant-loop-source : goal.invariant-loop-source
 invariant-loop-source g l = record {
   all : length l.taken ≡ 16;
-  shown : l.sees ≡ map see_value l.taken;
   passed : has l.rest l.fn.first ≡ false;
   run : IsRun l.inbox l.fn.left l.rest (sole_at l.inbox.soles l.fn.first) l.value l.fn.taken l.taken;
 }

@@ -4,7 +4,7 @@ use Rattle.rb_eligible.proofs.Runs.{more_fit, more_led, more_ones, partial_next,
 use Rattle.rb_eligible.proofs.taking.take_runs.Goals as goal
 
 pub loop-first-init : goal.loop-first-init
-loop-first-init g c = record { partial = c.requires.start; all = c.requires.all; shown = c.requires.shown }
+loop-first-init g c = record { partial = c.requires.start; all = c.requires.all }
 
 pub loop-first-preserved : goal.loop-first-preserved
 loop-first-preserved g c =
@@ -28,7 +28,6 @@ loop-first-preserved g c =
           (more_ones l.left rest run l.ones ones said.one c.difference-run.ensures c.with_ones-ones.ensures)
           (more_led l.left rest run l.lead.sources lead.sources said.value l.lead.value lead.value c.difference-run.ensures c.with_run-lead.ensures) inv.partial;
       all = c.take_run-rest.ensures.all;
-      shown = c.take_run-rest.ensures.shown;
     }
 
 pub returns-clause-ones : goal.returns-clause-ones
@@ -50,6 +49,3 @@ returns-clause-alike g c = λ is.
 
 pub returns-clause-all : goal.returns-clause-all
 returns-clause-all g c = c.loop-first.invariant.all
-
-pub returns-clause-shown : goal.returns-clause-shown
-returns-clause-shown g c = c.loop-first.invariant.shown

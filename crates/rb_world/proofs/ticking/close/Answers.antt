@@ -21,4 +21,4 @@ returns-clause-around g c =
     (c.shown-closed.ensures ∙ ap (λ (n : Running). n.shown) c.node.ensures) c.times.ensures
     (c.trusted_biu.ensures ∙ ap (λ (v : Seated). trusted_of me Biu v.state) engine) (c.trusted_rmu.ensures ∙ ap (λ (v : Seated). trusted_of me Rmu v.state) engine) refl refl refl
     (c.close.ensures.noted sc w is.book)
-    (subst (λ n. HoldsPorts sc c.deliver.new.ports.items (with_delivery sc n d.delivered w.ports)) c.number_of.ensures (c.deliver.ensures w.ports is.ports)) is
+    (subst (λ n. HoldsPorts sc c.deliver.new.ports.items (with_delivery sc n d.delivered w.ports)) c.number_of.ensures (rw c.delivered.ensures at (c.deliver.ensures w.ports is.ports))) is

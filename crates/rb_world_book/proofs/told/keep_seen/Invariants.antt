@@ -9,7 +9,7 @@ abbrev pub invariant-loop-source : goal.invariant-loop-source
 invariant-loop-source g l = record {
   long : length l.sees ≡ 16;
   within : (j : ℕ) → j < 16 → has l.left j ≡ true → has l.fn.counted j ≡ true;
-  so_far : (j : ℕ) → j < 16 → get_or l.sees j Nothing ≡ kept_but l.fn.counted l.left Nothing (timed_in l.seen l.times) l.fn.sees j;
+  so_far : (j : ℕ) → j < 16 → get_or l.sees j Nothing ≡ kept_but l.fn.counted l.left Nothing (timed_in l.shown.sees l.times) l.fn.sees j;
 }
 
 abbrev pub decreases-loop-source : goal.decreases-loop-source

@@ -1,17 +1,16 @@
-use Rattle.std.proofs.Common.{sym, ◌∙◌}
+use Rattle.std.proofs.Common.{sym}
 use Rattle.rb_base.specs.Nodes.{has}
 use Rattle.rb_eligible.specs.Inboxes.{sense_in}
 use Rattle.rb_eligible.specs.Standings.{standing_of}
 use Rattle.rb_eligible.proofs.Quiet.{quiet_accuses, quiet_takes}
 use Rattle.rb_round.proofs.Closings.{nothing_closing}
-use Rattle.rb_round.proofs.close.close_on_sheet.Goals as goal
+use Rattle.rb_round.proofs.close.close_in_place.Goals as goal
 
 pub returns-then-is_quiet-clause-closing : goal.returns-then-is_quiet-clause-closing
 returns-then-is_quiet-clause-closing g c = λ received shown.
     let s = standing_of c.args.standing.now in
     let sense = sense_in c.args.expect.now received in
-    c.wipe.ensures.closing
-    ∙ nothing_closing s (has c.args.expected) sense (quiet_takes s c.args.expected sense (c.is_quiet.ensures.nobody c.if-is_quiet.true))
+    nothing_closing s (has c.args.expected) sense (quiet_takes s c.args.expected sense (c.is_quiet.ensures.nobody c.if-is_quiet.true))
 
 pub returns-then-is_quiet-clause-accused : goal.returns-then-is_quiet-clause-accused
 returns-then-is_quiet-clause-accused g c = λ received shown.
