@@ -11,4 +11,3 @@ pub mod Numbering
 pub mod Going
 pub mod Ending
 pub mod Alone
-pub mod Within

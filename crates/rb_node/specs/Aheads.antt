@@ -119,22 +119,6 @@ is_alone me v w b =
     (b.stage == 0) && nat_lt w.slot (sync_slot_of v.sizes) && (v.state.epoch + w.last == b.tick) && nat_lt b.tick (2 ^ 31)
     && not (is_tick (new_epoch_of v.plan me v.state) b.tick)
 
--- the tick lies within the window, which is one of a slot before the sync slot: later than the first of the frame and sooner than the
--- window's last, which a node can have. When the next frame begins is not known yet
-abbrev pub is_within : Side → Seated → Window → ℕ → Bool
-is_within me v w k =
-    nat_lt v.state.epoch k && nat_lt k (v.state.epoch + w.last) && nat_lt (v.state.epoch + w.last) (2 ^ 31)
-    && nat_lt w.slot (sync_slot_of v.sizes) && not (is_some (new_epoch_of v.plan me v.state))
-
--- what is ahead where that is the window's end alone
-abbrev pub ahead_of_end : Seated → Window → Ahead
-ahead_of_end v w = record {
-  busy = record { tick = v.state.epoch + w.last; stage = 0 };
-  window = w;
-  want = want.Nothing;
-  alone = true;
-}
-
 -- what is kept is so for a node that has had so many ticks
 pub record LooksAhead (me : Side) (v : Seated) (had : ℕ) (a : Ahead) : Type 0 where
   pub next : IsNextBusy me v had a.busy.tick

@@ -1,13 +1,11 @@
--- Busy ticks at which one thing alone happens: a window ends, or a message is said.
-use Rattle.std.specs.Prelude.{ℕ, ◌≡◌, Bool, true, false, IsTrue, IfSome, Option, None, Some, is_some}
+-- Busy ticks at which a window ends, and nothing else happens.
+use Rattle.std.specs.Prelude.{ℕ, ◌≡◌, Bool, true, false, IsTrue, None, Some}
 use Rattle.rb_base.specs.Nodes.{Side}
-use Rattle.rb_rules.specs.declared.message.Message.{Message}
 use Rattle.rb_rules.specs.Core.{Core, is_tick, pass_to}
 use Rattle.rb_rules.specs.SyncStage.{new_epoch_of}
-use Rattle.rb_rules.specs.WorldStep.{span_from}
-use Rattle.rb_node.specs.Acts.{IsAct, IsSendable}
+use Rattle.rb_node.specs.Acts.{IsAct}
 use Rattle.rb_node.specs.Cores.{IsCore, IsSameNode, Running, next_of, tick_of}
-use Rattle.rb_node.specs.Ends.{EndsExactWindow, IsWithinExactWindow}
+use Rattle.rb_node.specs.Ends.{EndsExactWindow}
 
 -- the answer is true exactly where the node's next busy tick ends a window of a slot before the sync slot, and no frame begins with it
 pub record TellsExactEnd (me : Side) (n : Running) (answer : Bool) : Type 0 where
@@ -33,21 +31,4 @@ pub record EndsWindow (me : Side) (before after : Running) (ended : Bool) : Type
       → EndsExactWindow before.seat.sizes before.seat.plan me c.state k
       → (tick_of me before (pass_to k c) 0).message ≡ None → IsTrue ended
   pub stays : ended ≡ false → after ≡ before
-  pub same : IsSameNode before after
-
--- a message is said exactly where the node's next busy tick lies within a window of a slot before the sync slot. Then the node has its
--- quiet ticks and that tick with this word, at which nothing else happens, and no window begins with the tick after it
-pub record SaysAlone (me : Side) (word : ℕ) (before after : Running) (said : Option Message) : Type 0 where
-  pub core : is_some said ≡ true → (c : Core) (k : ℕ) → IsCore before c → next_of me before c ≡ Some k
-      → IsCore after (tick_of me before (pass_to k c) word).core
-  pub act : is_some said ≡ true → (c : Core) (k : ℕ) → IsCore before c → next_of me before c ≡ Some k
-      → IsAct after.shown (record { epoch = None; message = said; closed = false }) (tick_of me before (pass_to k c) word)
-  pub only : is_some said ≡ true → (c : Core) → IsCore before c
-      → (k : ℕ) × ((next_of me before c ≡ Some k) × IsWithinExactWindow before.seat.sizes before.seat.plan me c.state k)
-  pub otherwise : (c : Core) (k : ℕ) → IsCore before c → next_of me before c ≡ Some k
-      → IsWithinExactWindow before.seat.sizes before.seat.plan me c.state k → is_some said ≡ true
-  pub inside : is_some said ≡ true → span_from after.seat.sizes after.seat.plan me after.seat.state after.had ≡ None
-  pub stays : is_some said ≡ false → after ≡ before
-  pub shown : after.shown ≡ before.shown
-  pub message : IfSome said IsSendable
   pub same : IsSameNode before after

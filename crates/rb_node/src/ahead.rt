@@ -6,7 +6,7 @@ ghost use Rattle.rb_rules.specs.Core.{is_tick};
 ghost use Rattle.rb_rules.specs.Hearing.{tail_at};
 ghost use Rattle.rb_rules.specs.Plan.{IsFeasible, IsPlan, tail_start_of};
 ghost use Rattle.rb_rules.specs.SyncStage.{send_tick_of};
-ghost use Rattle.rb_node.specs.Aheads.{IsChosen, IsExactUntil, IsNextBusy, IsSaidNext, IsSooner, IsWindowOf, LooksAhead, SaysIn, ahead_of_end, following, is_alone, is_within, tick_said, want_ahead, want_at, window_of_tick};
+ghost use Rattle.rb_node.specs.Aheads.{IsChosen, IsExactUntil, IsNextBusy, IsSaidNext, IsSooner, IsWindowOf, LooksAhead, SaysIn, following, is_alone, tick_said, want_ahead, want_at, window_of_tick};
 ghost use Rattle.rb_node.specs.Wants.{slot_of_words, want_for};
 
 use crate::act::Want;
@@ -322,36 +322,6 @@ fn is_alone<K: Kind>(engine: &Engine<K>, window: &Window, busy: Busy) -> bool
         && !is_tick(engine.new_epoch(), busy.tick)
 }
 
-// Whether this tick of the window lies after the first of the frame and before the window's last,
-// which a node can have, the window being one of a slot before the sync slot, and the tick of the
-// next epoch is not known yet. Then a message is all that can happen.
-#[inline(always)]
-pub(crate) fn is_within<K: Kind>(engine: &Engine<K>, window: &Window, tick: u64) -> bool
-    requires { engine.now.state.epoch + window.now.last < 2 ^ 64 }
-    ensures { result ≡ is_within (side_of K.CODE) engine.now window.now tick }
-{
-    let last = engine.epoch() + window.last;
-    engine.epoch() < tick
-        && tick < last
-        && last < MOST_TICKS
-        && window.slot < engine.plan().shape().sync_slot()
-        && engine.new_epoch().is_none()
-}
-
-// After a message within the window only the window's end is ahead.
-#[inline(always)]
-pub(crate) fn look_to_end<K: Kind>(engine: &Engine<K>, ahead: &mut Ahead)
-    requires { engine.now.state.epoch + ahead.old.window.last < 2 ^ 64 }
-    ensures { ahead.new ≡ ahead_of_end engine.now ahead.old.window }
-{
-    ahead.want = Want::Nothing;
-    ahead.alone = true;
-    ahead.busy = Busy {
-        tick: engine.epoch() + ahead.window.last,
-        stage: 0,
-    };
-}
-
 // What is ahead of a node that has had so many ticks, the window being that of its next.
 #[inline(always)]
 pub(crate) fn look_ahead<K: Kind>(engine: &Engine<K>, ahead: &mut Ahead, had: u64)
@@ -406,7 +376,7 @@ fn word_or_end<K: Kind>(engine: &Engine<K>, window: &Window, had: u64, last: u64
 
 // The same as `look_ahead` once the first tick of the frame is over. Before the sync slot only what
 // is said in the window, and its end, can be next. Were all looked for, a frame of the generated
-// run with seed 7 would cost 1,410,100 instructions in place of 1,321,400.
+// run with seed 7 would cost 1,489,900 instructions in place of 1,383,200.
 #[inline(always)]
 pub(crate) fn look_on<K: Kind>(engine: &Engine<K>, ahead: &mut Ahead, had: u64)
     requires index { engine.now.index < 16 }

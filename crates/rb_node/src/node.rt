@@ -8,15 +8,14 @@ ghost use Rattle.rb_rules.specs.SyncStage.{new_epoch_of};
 ghost use Rattle.rb_rules.specs.WorldStep.{span_from};
 ghost use Rattle.rb_slot.specs.Engines.{nothing_shown};
 ghost use Rattle.rb_node.specs.Acts.{IsAct, IsSendable, IsWholeAct, span_in};
-ghost use Rattle.rb_node.specs.Alone.{EndsWindow, SaysAlone, TellsExactEnd};
+ghost use Rattle.rb_node.specs.Alone.{EndsWindow, TellsExactEnd};
 ghost use Rattle.rb_node.specs.Cores.{IsCore, IsSameNode, Running, arrive_of, next_of, passing_end, tick_of, ticks_of};
 ghost use Rattle.rb_node.specs.Events.{EventsComeInParts};
 ghost use Rattle.rb_node.specs.Wants.{want_of, want_then};
 
 use crate::act::{Act, Span, Step, Want};
 use crate::ahead::{
-    Ahead, bounds, following, go_on, is_tick, is_within, look_ahead, look_on, look_to_end,
-    not_looked, window_of,
+    Ahead, bounds, following, go_on, is_tick, look_ahead, look_on, not_looked, window_of,
 };
 use crate::parts::{
     bytes_of, close_at, delivered_in, epoch_at, first_window, if_closed, nothing, others, say_at,
@@ -135,7 +134,7 @@ impl<K: Kind> Node<K> {
 
     /// Whether its next tick that isn't quiet is the last of a window of a slot before the sync
     /// slot, and no frame begins with it. Mostly that is known beforehand: without what is known a
-    /// frame of the generated run with seed 7 costs 1,352,800 instructions in place of 1,321,400.
+    /// frame of the generated run with seed 7 costs 1,406,600 instructions in place of 1,383,200.
     #[inline(always)]
     pub fn ends_exact_window(&self) -> bool
         ensures { TellsExactEnd (side_of K.CODE) self.now result }
@@ -327,26 +326,6 @@ impl<K: Kind> Node<K> {
         self.ahead.window = following(self.engine.plan().plan(), &self.ahead.window);
         look_on(&self.engine, &mut self.ahead, self.had);
         true
-    }
-
-    /// If its next tick that isn't quiet lies within a window of a slot before the sync slot, all
-    /// that happens at it is that the node says a message. Then the node has its quiet ticks and
-    /// that tick with this word, and the result is the message. Else nothing changes, and it is
-    /// None.
-    #[inline(always)]
-    pub fn say_alone(&mut self, word: u32) -> Option<Message>
-        ensures { SaysAlone (side_of K.CODE) word self.old self.new result }
-    {
-        if !is_within(&self.engine, &self.ahead.window, self.ahead.busy.tick) {
-            return None;
-        }
-        bounds(&self.engine);
-        let (tick, stage) = (self.ahead.busy.tick, self.ahead.busy.stage);
-        self.had = tick + 1;
-        let slot = self.ahead.window.slot;
-        let message = say_at(&mut self.engine, slot, stage, tick, word);
-        look_to_end(&self.engine, &mut self.ahead);
-        message
     }
 
     /// So many quiet ticks pass, at once: at most up to the tick that `next_tick` gives, which is

@@ -310,7 +310,7 @@ impl Lane {
 
     /// Drops the arrivals that are due before this time, and nothing else. The others stay in the order
     /// of pushing. Mostly there are none, or all come before: without a look for that a frame of
-    /// the generated run with seed 7 costs 1,382,700 instructions in place of 1,321,400.
+    /// the generated run with seed 7 costs 1,469,700 instructions in place of 1,383,200.
     #[inline(always)]
     pub fn drop_before(&mut self, until: u64)
         ensures { self.new ≡ without_before until self.old }

@@ -20,8 +20,8 @@ use rb_vote::majority_taken;
 pub mod close;
 
 // The vote over what was taken. Where more than half of it is known to be alike, it is that value.
-// Were that counted again, a frame of the generated run with seed 7 would cost 1,401,600
-// instructions in place of 1,321,400.
+// Were that counted again, a frame of the generated run with seed 7 would cost 1,475,800
+// instructions in place of 1,383,200.
 fn vote(taken: &[Option<Heard>; 16], alike: bool, value: Heard) -> Heard
     requires { IsTrue alike → majority_of (present taken.now) ≡ value }
     ensures { result ≡ majority_of (present taken.now) }

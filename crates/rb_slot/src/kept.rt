@@ -15,7 +15,7 @@ use rb_rules::Role;
 
 // What is kept of one slot, so that it is not worked out again in each stage: what it is for, who
 // sends in stage 1, and by stage whether this node speaks. Without it a frame of the generated run
-// with seed 7 costs 1,421,000 instructions in place of 1,321,400.
+// with seed 7 costs 1,474,400 instructions in place of 1,383,200.
 #[derive(Clone, Copy)]
 pub(crate) struct KeptSlot {
     pub(crate) slot: u16,

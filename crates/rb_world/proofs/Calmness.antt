@@ -29,7 +29,7 @@ use Rattle.rb_world_traffic.specs.Arriving.{number_of}
 use Rattle.rb_world_traffic.specs.Saying.{KeptSayings, entries_for, first_frame, is_for, kept_of, last_frame}
 use Rattle.rb_world_traffic.proofs.Says.{none-after, none-before, none-for, number-of, says-are}
 use Rattle.rb_world.specs.Buses.{IsBus, scenario_of}
-use Rattle.rb_world.specs.Calm.{AreRestless, IsRestless, first_restless, is_calm, is_outside, last_restless}
+use Rattle.rb_world.specs.Calm.{AreRestless, first_restless, is_calm, is_outside, last_restless}
 use Rattle.rb_world.specs.declared.calm.Restless.{Restless}
 use Rattle.rb_world.proofs.Lanes.{kind-named}
 use Rattle.rb_world.proofs.Onward.{goes-in, goes-on}
@@ -149,13 +149,6 @@ calm-awaits sc me i s calm within small =
     go (span_from sc.sizes sc.plan me s.core.state s.core.had) refl
 
 -- What is kept.
-
-pub kept-calm : (sc : Scenario) (me : Side) (i frame : ℕ) (nodes : List Restless) (r : Restless) → AreRestless (onsets_of me sc) (kept_of sc) me (count_of me sc.sizes) nodes → i < count_of me sc.sizes
-    → r ≡ get_or nodes i (record { first = 0; last = 0 }) → is_outside r.first r.last frame ≡ is_calm sc me i frame
-kept-calm sc me i frame nodes r are within is =
-    let one : IsRestless (onsets_of me sc) (kept_of sc) me i r = subst (IsRestless (onsets_of me sc) (kept_of sc) me i) (sym is) (are i within) in
-    ap (λ first. is_outside first r.last frame) one.first
-    ∙ ap (λ last. is_outside (first_restless (get_or (onsets_of me sc) i None) (first_frame (entries_for (kept_of sc) (name_of me i)))) last frame) one.last
 
 -- what is found is that of the scenario
 pub found-restless : (sc : Scenario) (me : Side) (count : ℕ) (nodes : List Restless) (sayings : KeptSayings) → count ≡ count_of me sc.sizes → sayings ≡ kept_of sc

@@ -3,7 +3,6 @@ pub mod Sites
 pub mod Around
 pub mod Turns
 pub mod Words
-pub mod SaidWithin
 pub mod Lanes
 pub mod Going
 pub mod Onward

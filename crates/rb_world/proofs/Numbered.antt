@@ -6,10 +6,9 @@ use Rattle.rb_rules.specs.Book.{Record, in_order}
 use Rattle.rb_rules.specs.Goodness.{Scenario}
 use Rattle.rb_rules.specs.Lawful.{IsLawful}
 use Rattle.rb_rules.specs.Rounds.{records_of}
-use Rattle.rb_rules.specs.WorldStep.{Due, Pending, Site, World, due_at, due_of, go_on, happens, least, needs_no_event, take, take_if_due, times_of, with_act, with_pending}
+use Rattle.rb_rules.specs.WorldStep.{Due, World, due_at, due_of, go_on, least, needs_no_event, take, times_of}
 use Rattle.rb_rules.specs.WorldStep.Choice.{GoOn, Take}
-use Rattle.rb_rules.specs.WorldStep.Pending.{Arrival, Tick}
-use Rattle.rb_rules.specs.WorldStep.Way.{ByAnEvent, ByItself}
+use Rattle.rb_rules.specs.WorldStep.Way.{ByItself}
 use Rattle.rb_world_book.specs.Records.{record_of}
 use Rattle.rb_world_book.specs.declared.turn.Turn.{Turn}
 use Rattle.rb_world_book.specs.declared.turn.Turn.TheVariants as shown

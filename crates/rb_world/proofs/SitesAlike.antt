@@ -1,18 +1,16 @@
 -- What is kept of a site stands for each that has heard the like of it, and an arrival that is taken in leaves the next tick.
-use Rattle.std.proofs.Common.{◌≡◌, ℕ, ◌<◌, ◌∙◌, Bool, true, false, List, [], ◌∷◌, length, refl, sym, ap, subst, arith, inr}
+use Rattle.std.proofs.Common.{◌≡◌, ℕ, ◌<◌, ◌∙◌, Bool, true, false, List, [], ◌∷◌, length, sym, ap, subst, arith, inr}
 use Rattle.rb_base.specs.Nodes.{Side, has}
 use Rattle.rb_rules.specs.Core.{next_tick, of_source}
 use Rattle.rb_rules.specs.Goodness.{Scenario}
-use Rattle.rb_rules.specs.Hearing.{Coming}
 use Rattle.rb_rules.specs.Sense.{Arrival}
 use Rattle.rb_rules.specs.WorldStep.{Site}
-use Rattle.rb_rules.proofs.QuietTicks.{arrive-next, arrive-same}
 use Rattle.rb_eligible.specs.Inboxes.{IsKept, KeptArrivals, arrivals_of, sole_at}
 use Rattle.rb_eligible.specs.declared.reading.Sole.{Sole}
 use Rattle.rb_node.specs.Cores.{passing_end, received_of}
 use Rattle.rb_node.specs.Ends.{EndsExactWindow}
 use Rattle.rb_node.proofs.Cores.{arrivals-are}
-use Rattle.rb_world.specs.Sites.{AreAlike, IsHeardAlike, KeptSite, Stands, number_of, taken_in}
+use Rattle.rb_world.specs.Sites.{AreAlike, IsHeardAlike, KeptSite, Stands, number_of}
 use Rattle.rb_world.specs.Sites.AreAlike.{Nothing, Single, Several}
 
 -- What an inbox keeps of one source.
@@ -83,14 +81,3 @@ pub record GoesOn (sc : Scenario) (me : Side) (i : ℕ) (before after : Site) : 
   pub runs : after.runs ≡ before.runs
   pub next : next_tick sc.sizes sc.plan me i after.core ≡ next_tick sc.sizes sc.plan me i before.core
   pub ends : (k : ℕ) → EndsExactWindow sc.sizes sc.plan me before.core.state k → EndsExactWindow sc.sizes sc.plan me after.core.state k
-
-pub taken-goes-on : (sc : Scenario) (me : Side) (i : ℕ) (c : Coming) (s : Site) → GoesOn sc me i s (taken_in sc me c s)
-taken-goes-on sc me i c s =
-    let same = arrive-same sc.sizes me s.core c.from c.bytes in
-    record {
-      state = same.0;
-      had = same.1;
-      runs = refl;
-      next = arrive-next sc.sizes sc.plan me i s.core c.from c.bytes;
-      ends = λ k. subst (λ st. EndsExactWindow sc.sizes sc.plan me st k) (sym same.0);
-    }

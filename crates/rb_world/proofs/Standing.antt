@@ -154,10 +154,6 @@ row-same me i st times inbox got shown together holds sole =
     })
     (sees-same times inbox got shown together holds sole)
 
-is-closed : (b : Bool) (shown found : Closed) → (if b then Some shown else None) ≡ Some found → shown ≡ found
-is-closed true shown found e = cc
-is-closed false shown found e = absurd (cc)
-
 -- what it tells of a stage
 
 row-picked : (b : Bool) (before : Option Row) (told kept : Row) → told ≡ kept
@@ -288,22 +284,10 @@ enters sc me i k s (Some span) is good =
     subst (λ b. Stands sc me k (elim b as (λ _. Site) [ true ↦ await sc me i (says_in sc me i span) s | false ↦ stop s ])) (sym good)
     (awaits sc me i (says_in sc me i span) k s is)
 
-leaves-off : (sc : Scenario) (me : Side) (i : ℕ) (k : KeptSite) (s : Site) (o : Option Span) → Stands sc me k s → goes_on sc me i o ≡ false
-    → Stands sc me (record k { runs = false }) (enter sc me i o s)
-leaves-off sc me i k s None is bad = absurd (cc)
-leaves-off sc me i k s (Some span) is bad =
-    subst (λ b. Stands sc me (record k { runs = false }) (elim b as (λ _. Site) [ true ↦ await sc me i (says_in sc me i span) s | false ↦ stop s ])) (sym bad)
-    (stops sc me k s is)
-
 pub proceeds : (sc : Scenario) (me : Side) (i : ℕ) (k : KeptSite) (s : Site) → Stands sc me k s
     → goes_on sc me i (span_from sc.sizes sc.plan me s.core.state s.core.had) ≡ true → Stands sc me k (proceed sc me i s)
 unfolding proceed
 proceeds sc me i k s is good = enters sc me i k s (span_from sc.sizes sc.plan me s.core.state s.core.had) is good
-
-pub proceeds-not : (sc : Scenario) (me : Side) (i : ℕ) (k : KeptSite) (s : Site) → Stands sc me k s
-    → goes_on sc me i (span_from sc.sizes sc.plan me s.core.state s.core.had) ≡ false → Stands sc me (record k { runs = false }) (proceed sc me i s)
-unfolding proceed
-proceeds-not sc me i k s is bad = leaves-off sc me i k s (span_from sc.sizes sc.plan me s.core.state s.core.had) is bad
 
 -- How far ticks may pass.
 

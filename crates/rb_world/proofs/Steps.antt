@@ -1,12 +1,12 @@
 -- How many steps lead to the next record.
-use Rattle.std.proofs.Common.{◌≡◌, ℕ, zero, suc, ◌+◌, ◌*◌, ◌^◌, ◌<◌, ◌≤◌, ◌≢◌, Bool, true, false, Option, Some, None, List, [], ◌∷◌, ◌++◌, fold, length, refl, sym, ap, ◌∙◌, subst, arith}
+use Rattle.std.proofs.Common.{◌≡◌, ℕ, zero, suc, ◌+◌, ◌*◌, ◌^◌, ◌<◌, ◌≤◌, ◌≢◌, Bool, true, false, Option, Some, None, List, [], ◌∷◌, ◌++◌, length, refl, sym, ap, ◌∙◌, subst, arith}
 use Rattle.std.proofs.lemmas.Nat.{mod_below, mul-le}
 use Rattle.rb_laws_events.proofs.EventsHold.{due-holds, ends-hold}
 use Rattle.rb_laws_events.proofs.RoundNodes.{item-at}
 use Rattle.rb_rules.specs.Book.{Record}
 use Rattle.rb_rules.specs.Goodness.{Scenario}
 use Rattle.rb_rules.specs.Lawful.{IsLawful}
-use Rattle.rb_rules.specs.WorldStep.{Choice, World, choose, due_of, first_world, go_on, needs_no_event, take, world_after}
+use Rattle.rb_rules.specs.WorldStep.{Choice, World, due_of, first_world, go_on, needs_no_event, take, world_after}
 use Rattle.rb_rules.specs.WorldStep.Choice.{Take}
 use Rattle.rb_laws_events.proofs.EveryWorld.{after-more}
 use Rattle.rb_laws_events.proofs.GivenAlone.{given-alone}

@@ -14,7 +14,7 @@ use Rattle.rb_rules.specs.Links.{name_of}
 use Rattle.rb_rules.specs.Slots.{count_of}
 use Rattle.rb_rules.specs.WorldStep.{Site, at_node}
 use Rattle.rb_rules.specs.WorldStep.Pending.{Tick, Arrival}
-use Rattle.rb_queue.specs.Waiting.{HasLane, Held, head_of, lane_of, ready_event, ready_of, with_lane, without_place, without_ready}
+use Rattle.rb_queue.specs.Waiting.{HasLane, Held, head_of, lane_of, ready_event, with_lane, without_place, without_ready}
 use Rattle.rb_world_agenda.specs.Agenda.{key_of}
 use Rattle.rb_world_agenda.specs.Holding.{HoldsSite, HoldsSites, coming_with, without_waiting}
 use Rattle.rb_world_agenda.proofs.Changes.{holds-at}
@@ -28,7 +28,7 @@ use Rattle.rb_world.proofs.Lanes.{lane-holds, rooms-with}
 use Rattle.rb_world.specs.Sweeping.{IsPending}
 use Rattle.rb_world.specs.Trailing.{NoneBefore, TakesArrival, TakesTick}
 use Rattle.rb_world.proofs.Chosen.{room-left}
-use Rattle.rb_world.proofs.Soonest.{ArrivalNext, TickNext, none-before, some-ready, what-next}
+use Rattle.rb_world.proofs.Soonest.{ArrivalNext, TickNext, none-before, what-next}
 
 few-others : (sizes : Sizes) (me : Side) → IsShape sizes → count_of (other me) sizes ≤ 256
 few-others sizes Biu shape = let most = shape.most_rmus in omega (arith, most)
@@ -46,12 +46,6 @@ pub nothing-next : (sizes : Sizes) (lanes : Each Held) (sites : Each Site) (me :
     → until ≤ key_of (lane_of lanes (name_of me i)) → NoneBefore until s
 nothing-next sizes lanes sites me i s until holds there le =
     none-before sizes me (lane_of lanes (name_of me i)) s until (lane-holds sizes lanes sites me i s holds there) le
-
-pub something-next : (sizes : Sizes) (lanes : Each Held) (sites : Each Site) (me : Side) (i : ℕ) (s : Site) (time : ℕ) → HoldsSites sizes lanes sites → slice_get (of_kind me sites) i ≡ Some s
-    → time ≡ key_of (lane_of lanes (name_of me i)) → time < 18446744073709551615 → 0 < length (ready_of (lane_of lanes (name_of me i)))
-something-next sizes lanes sites me i s time holds there is small =
-    some-ready sizes me i (lane_of lanes (name_of me i)) s time (few-others sizes me holds.shape) (lane-holds sizes lanes sites me i s holds there)
-    (head-some (lane_of lanes (name_of me i)) time is small)
 
 -- all that is known where the first event of a node was taken
 pub record IsTaken (sizes : Sizes) (me : Side) (i until : ℕ) (lanes new : Each Held) (sites : Each Site) (s : Site) (time : ℕ) (event : Event) : Type 0 where

@@ -10,7 +10,7 @@ use Rattle.rb_rules.specs.declared.record.Epoch.{Epoch}
 use Rattle.rb_base.specs.declared.event.Event.{Event}
 use Rattle.rb_base.specs.declared.node.NodeName.{NodeName}
 use Rattle.rb_rules.specs.Book.{Each, Row, of_kind}
-use Rattle.rb_rules.specs.Clock.{ComesBy, Timeline}
+use Rattle.rb_rules.specs.Clock.{ComesBy}
 use Rattle.rb_rules.specs.Core.{Act, Core, next_tick, pass_to}
 use Rattle.rb_rules.specs.Goodness.{Scenario, clock_of}
 use Rattle.rb_rules.specs.Hearing.{Coming, Span}
@@ -195,15 +195,6 @@ pub record MayHappen (sc : Scenario) (kept : Each KeptSite) (scene : Scene) (tim
 pub record Happens (sc : Scenario) (kept : Each KeptSite) (scene : Scene) (w : World) (d : Due) : Type 0 where
   pub nodes : (me : Side) → AreNodes sc me (of_kind me kept) (of_kind me (happens sc w d).sites)
   pub surrounds : Surrounds sc scene (happens sc w d)
-
--- An arrival at node i of kind me is the one that has been taken out of what is pending there, at the least time of all
-pub record MayArrive (sc : Scenario) (me : Side) (i : ℕ) (clock : Timeline) (site : KeptSite) (s : Site) (c : Coming) : Type 0 where
-  pub node : IsNode sc me i site s
-  pub within : i < count_of me sc.sizes
-  pub clock_is : clock ≡ clock_of sc me i
-  pub in_time : ComesBy (passing_end me site.node) clock c.time
-  pub sender : c.from < count_of (other me) sc.sizes
-  pub runs : s.runs ≡ true
 
 -- Arrivals where they stand.
 

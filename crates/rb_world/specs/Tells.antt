@@ -14,10 +14,10 @@ use Rattle.rb_rules.specs.Hearing.{Coming, begun_of, judged_see}
 use Rattle.rb_rules.specs.NodeState.{NodeState, trusted_of}
 use Rattle.rb_rules.specs.Ports.{PortState}
 use Rattle.rb_rules.specs.SyncStage.{new_epoch_of}
-use Rattle.rb_rules.specs.WorldStep.{Site, after_arrival, pass_and_tick, span_from, wants_in, word_of}
+use Rattle.rb_rules.specs.WorldStep.{Site, after_arrival, pass_and_tick, wants_in, word_of}
 use Rattle.rb_node.specs.Acts.{IsAct}
 use Rattle.rb_node.specs.Cores.{IsCore}
-use Rattle.rb_node.specs.Ends.{EndsExactWindow, IsWithinExactWindow}
+use Rattle.rb_node.specs.Ends.{EndsExactWindow}
 use Rattle.rb_node.specs.declared.act.Step.{Step}
 use Rattle.rb_world.specs.Sites.{KeptSite, Stands, after_tick, number_of, taken_in}
 
@@ -64,14 +64,7 @@ abbrev pub TakesNext : Side → KeptSite → KeptSite → Step → Type 0
 TakesNext me before after step = (sc : Scenario) (ports : List PortState) (k : ℕ) (s : Site) → Stands sc me before s
     → next_tick sc.sizes sc.plan me (number_of before) s.core ≡ Some k → IsTicked sc ports me before after step k s
 
--- so, where this is the word that the node wants for it
-abbrev pub TakesNextWith : Side → ℕ → KeptSite → KeptSite → Step → Type 0
-TakesNextWith me word before after step = (sc : Scenario) (ports : List PortState) (k : ℕ) (s : Site) → Stands sc me before s
-    → next_tick sc.sizes sc.plan me (number_of before) s.core ≡ Some k
-    → word ≡ word_of sc ports (number_of before) (wants_in sc me (number_of before) (pass_to k s.core))
-    → IsTicked sc ports me before after step k s
-
--- so with tick k, be it quiet or not
+-- so with tick k, be it quiet or not, where this is the word that the node wants for it
 abbrev pub TakesTickWith : Side → ℕ → ℕ → KeptSite → KeptSite → Step → Type 0
 TakesTickWith me k word before after step = (sc : Scenario) (ports : List PortState) (s : Site) → Stands sc me before s
     → word ≡ word_of sc ports (number_of before) (wants_in sc me (number_of before) (pass_to k s.core))
@@ -88,20 +81,6 @@ IfEndsNext me kept P = (sc : Scenario) (k : ℕ) (s : Site) → Stands sc me kep
     → next_tick sc.sizes sc.plan me (number_of kept) s.core ≡ Some k
     → is_tick (new_epoch_of sc.plan me s.core.state) k ≡ false → EndsExactWindow sc.sizes sc.plan me s.core.state k
     → (tick sc.sizes sc.plan me (number_of kept) (pass_to k s.core) 0).message ≡ None → P
-
--- it lies within such a window
-abbrev pub LiesWithin : Side → KeptSite → Type 0
-LiesWithin me kept = (sc : Scenario) (s : Site) → Stands sc me kept s
-    → (k : ℕ) × ((next_tick sc.sizes sc.plan me (number_of kept) s.core ≡ Some k) × IsWithinExactWindow sc.sizes sc.plan me s.core.state k)
-
--- if it does, then P
-abbrev pub IfLiesWithin : Side → KeptSite → Type 0 → Type 0
-IfLiesWithin me kept P = (sc : Scenario) (k : ℕ) (s : Site) → Stands sc me kept s
-    → next_tick sc.sizes sc.plan me (number_of kept) s.core ≡ Some k → IsWithinExactWindow sc.sizes sc.plan me s.core.state k → P
-
--- no window begins with the node's next tick
-abbrev pub EntersNone : Side → KeptSite → Type 0
-EntersNone me kept = (sc : Scenario) (s : Site) → Stands sc me kept s → span_from sc.sizes sc.plan me s.core.state s.core.had ≡ None
 
 -- Arrivals.
 

@@ -11,7 +11,7 @@ ghost use Rattle.rb_node.specs.Acts.{IsSendable, span_in};
 ghost use Rattle.rb_node.specs.Cores.{IsCore, IsSameNode, passing_end};
 ghost use Rattle.rb_slot.specs.Engines.{nothing_shown};
 ghost use Rattle.rb_world.specs.Sites.{KeptSite, Stands, number_of};
-ghost use Rattle.rb_world.specs.Tells.{EndsNext, EntersNone, HasComeBy, HasTakenIn, IfEndsNext, IfLiesWithin, LiesWithin, TakesNext, TakesNextWith, TakesTickWith};
+ghost use Rattle.rb_world.specs.Tells.{EndsNext, HasComeBy, HasTakenIn, IfEndsNext, TakesNext, TakesTickWith};
 
 use rb_base::{Kind, NodeName};
 use rb_clock::Clock;
@@ -200,26 +200,5 @@ impl<K: Kind> Site<K> {
         ensures same { IsSameNode self.old.node self.new.node }
     {
         self.node.end_window()
-    }
-
-    /// If the node's next busy tick lies within a window of a slot before the sync slot, all that
-    /// happens at it is that the node says a message. Then the node has that tick with the word
-    /// that it wants for it, and the result is the message. The quiet ticks before it pass, and no
-    /// window begins with the tick after it. Else nothing changes, and it is None.
-    #[inline(always)]
-    pub fn say_alone(&mut self, word: u32) -> Option<Message>
-        ensures ticked { is_some result ≡ true
-            → TakesNextWith (side_of K.CODE) word self.old self.new
-            (record { epoch = None; message = result; closed = false }) }
-        ensures only { is_some result ≡ true → LiesWithin (side_of K.CODE) self.old }
-        ensures otherwise { IfLiesWithin (side_of K.CODE) self.old (is_some result ≡ true) }
-        ensures inside { is_some result ≡ true → EntersNone (side_of K.CODE) self.new }
-        ensures stays { is_some result ≡ false → self.new ≡ self.old }
-        ensures shown { self.new.node.shown ≡ self.old.node.shown }
-        ensures rest { self.new ≡ record self.old { node = self.new.node } }
-        ensures message { IfSome result IsSendable }
-        ensures same { IsSameNode self.old.node self.new.node }
-    {
-        self.node.say_alone(word)
     }
 }

@@ -15,7 +15,7 @@ ghost use Rattle.rb_world.specs.Steps.{CanTick, CanWant, Changes, DoesTick, HasR
 use crate::Site;
 use crate::bus::Bus;
 use crate::opening::name_of;
-use crate::proceeding::{proceed, proceed_within};
+use crate::proceeding::proceed;
 use crate::scene::{Scene, number_of};
 use rb_base::{Delivery, Kind, NodeName};
 use rb_node::Want;
@@ -161,8 +161,7 @@ fn depart(
     }
 }
 
-// A node takes its next tick, which has this number, with the word that it wants for it, whatever
-// happens at it.
+// A node takes its next tick, which has this number, with the word that it wants for it.
 #[inline(always)]
 fn tick_with_word<K: Kind>(
     bus: &Bus,
@@ -187,9 +186,7 @@ fn tick_with_word<K: Kind>(
     depart(bus, node, frame, k, step.message, scene);
 }
 
-// Node `i` of the kind takes its next tick. Most often all that happens at it is that the node says
-// a message within a window. Without `say_alone` a frame of the generated run with seed 7 costs
-// 1,349,000 instructions in place of 1,321,400.
+// Node `i` of the kind takes its next tick, whatever happens at it.
 #[inline(never)]
 fn tick_in_full<K: Kind>(
     bus: &Bus,
@@ -204,18 +201,11 @@ fn tick_in_full<K: Kind>(
     ensures { DoesTick bus.now (side_of K.CODE) k site.old site.new scene.old scene.new }
 {
     let word = word_for(bus, apps, &scene.ports, i, site.node().wants_then());
-    if let Some(message) = site.say_alone(word) {
-        let node = name_of::<K>(i);
-        proceed_within(bus, node, site, scene);
-        let frame = site.node().engine().frame();
-        depart(bus, node, frame, k, Some(message), scene);
-        return;
-    }
     tick_with_word(bus, apps, k, word, site, scene);
 }
 
 /// Node `i` of the kind takes its next tick, which has this number. Without `end_window` a frame of
-/// the generated run with seed 7 costs 1,457,200 instructions in place of 1,321,400.
+/// the generated run with seed 7 costs 1,546,100 instructions in place of 1,383,200.
 #[inline(always)]
 pub(crate) fn tick<K: Kind>(
     bus: &Bus,
