@@ -18,16 +18,20 @@ ghost use Rattle.rb_test_rules.specs.Parts.{biu, plan, rmu, sizes};
 pub fn slots_and_frames_of_the_bus()
     // The schedule stands with the last schedule slot, and stays. Where each BIU asks for one slot,
     // the last four are idle.
-    ensures owners { map (λ bus. bus.owners) (at_first ∷ scheduled ∷ bus_after_slot sizes Fault scheduled ∷ [])
+    ensures owners { map (λ bus. bus.owners)
+        (at_first ∷ scheduled ∷ bus_after_slot sizes Fault scheduled ∷ [])
         ≡ ([] ∷ (0 ∷ 1 ∷ 2 ∷ 3 ∷ 0 ∷ 1 ∷ 2 ∷ 3 ∷ []) ∷ (0 ∷ 1 ∷ 2 ∷ 3 ∷ 0 ∷ 1 ∷ 2 ∷ 3 ∷ []) ∷ []) }
     ensures slots { map (λ bus. bus.slot) (at_first ∷ scheduled ∷ at_the_end ∷ [])
         ≡ (0 ∷ 4 ∷ 19 ∷ []) }
-    ensures senders { map (sender_on sizes) (at_first ∷ scheduled ∷ record half_scheduled { slot = 8 } ∷ at_the_end ∷ [])
+    ensures senders { map (sender_on sizes)
+        (at_first ∷ scheduled ∷ record half_scheduled { slot = 8 } ∷ at_the_end ∷ [])
         ≡ (Node 0 ∷ Node 0 ∷ Nobody ∷ EachTrusted ∷ []) }
     // What is delivered in a data slot: the value, at the BIUs that are good there.
-    ensures delivered_to_all { map (λ line. line.receiver) (lines_on ordinary_use 0 4 (Node 0) (Word 10))
+    ensures delivered_to_all { map (λ line. line.receiver)
+        (lines_on ordinary_use 0 4 (Node 0) (Word 10))
         ≡ (0 ∷ 1 ∷ 2 ∷ 3 ∷ []) }
-    ensures delivered_to_the_good { map (λ line. line.receiver) (lines_on asymmetric_sender 0 5 (Node 1) Fault)
+    ensures delivered_to_the_good { map (λ line. line.receiver)
+        (lines_on asymmetric_sender 0 5 (Node 1) Fault)
         ≡ (0 ∷ 2 ∷ 3 ∷ []) }
     ensures delivered_in_an_idle_slot { lines_on ordinary_use 0 4 Nobody Fault ≡ [] }
     // Which slots are complete: all of a frame without a breach, so that the next one is reached,
@@ -52,7 +56,8 @@ pub fn steps_of_the_bus()
         (bus_after_slot sizes (Word 2) at_first) }
     ensures word { IsStep ordinary_use offered scheduled
         (bus_after_slot sizes (Word 10) scheduled) }
-    ensures idle { IsStep ordinary_use offered (record half_scheduled { slot = 8 }) (bus_after_slot sizes Fault (record half_scheduled { slot = 8 })) }
+    ensures idle { IsStep ordinary_use offered (record half_scheduled { slot = 8 })
+        (bus_after_slot sizes Fault (record half_scheduled { slot = 8 })) }
     ensures frame { IsStep ordinary_use offered at_a_quiet_end
         (bus_after_frame sizes 9079092 at_a_quiet_end) }
     ensures run { IsRun ordinary_use offered 2 first_slots }

@@ -16,5 +16,6 @@ pub fn single_cores()
     ensures replayed_frame { epochs_of frame_of_rmu ≡ (begun_at 0 0 ∷ begun_at 1 242 ∷ []) }
     // Where the request comes with a wrong byte the RMU accuses the BIU and takes nothing more of
     // it: both middles are the first ticks of their windows.
-    ensures replayed_frame_with_a_wrong_check { epochs_of frame_with_a_wrong_check ≡ (begun_at 0 0 ∷ begun_at 1 233 ∷ []) }
+    ensures replayed_frame_with_a_wrong_check { epochs_of frame_with_a_wrong_check
+        ≡ (begun_at 0 0 ∷ begun_at 1 233 ∷ []) }
 {}

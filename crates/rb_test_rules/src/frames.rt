@@ -27,7 +27,8 @@ pub fn several_frames()
 pub fn buses_by_their_number()
     // Two RMUs send messages of another bus: nothing is taken of them, and the words come all the
     // same.
-    ensures message_of_another_bus { records_of message_of_another_bus [] ≡ message_of_another_bus_records }
+    ensures message_of_another_bus { records_of message_of_another_bus []
+        ≡ message_of_another_bus_records }
     // The same messages of the bus itself are taken, and the run ends with the breach.
     ensures message_of_the_bus { records_of message_of_the_bus [] ≡ message_of_the_bus_records }
 {}

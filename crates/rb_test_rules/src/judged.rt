@@ -11,16 +11,34 @@ ghost use Rattle.rb_test_rules.specs.Judged.{calls_at, silence, word_of, word_of
 pub fn causes()
     // Symmetric and asymmetric nodes both count against the good, benign ones do not, and a tie is
     // too few.
-    ensures against_asymmetric { are_few_good (record { good = 1; benign = 0; symmetric = 0; asymmetric = 6 }) ≡ true }
-    ensures against_symmetric { are_few_good (record { good = 1; benign = 0; symmetric = 6; asymmetric = 0 }) ≡ true }
-    ensures against_both { are_few_good (record { good = 7; benign = 0; symmetric = 24; asymmetric = 32 }) ≡ true }
-    ensures more_good { are_few_good (record { good = 15; benign = 0; symmetric = 48; asymmetric = 64 }) ≡ false }
-    ensures against_benign { are_few_good (record { good = 1; benign = 6; symmetric = 0; asymmetric = 0 }) ≡ false }
+    ensures against_asymmetric { are_few_good
+        (record { good = 1; benign = 0; symmetric = 0; asymmetric = 6 })
+        ≡ true }
+    ensures against_symmetric { are_few_good
+        (record { good = 1; benign = 0; symmetric = 6; asymmetric = 0 })
+        ≡ true }
+    ensures against_both { are_few_good
+        (record { good = 7; benign = 0; symmetric = 24; asymmetric = 32 })
+        ≡ true }
+    ensures more_good { are_few_good
+        (record { good = 15; benign = 0; symmetric = 48; asymmetric = 64 })
+        ≡ false }
+    ensures against_benign { are_few_good
+        (record { good = 1; benign = 6; symmetric = 0; asymmetric = 0 })
+        ≡ false }
     // The BIUs come first, then the RMUs, then asymmetric nodes of both kinds.
-    ensures bius { cause_of (record { good = 0; benign = 0; symmetric = 0; asymmetric = 1 }) (record { good = 0; benign = 0; symmetric = 0; asymmetric = 1 }) ≡ Some FewGoodBiu }
-    ensures rmus { cause_of (record { good = 6; benign = 0; symmetric = 0; asymmetric = 1 }) (record { good = 0; benign = 0; symmetric = 0; asymmetric = 1 }) ≡ Some FewGoodRmu }
-    ensures both { cause_of (record { good = 6; benign = 0; symmetric = 0; asymmetric = 1 }) (record { good = 6; benign = 0; symmetric = 0; asymmetric = 1 }) ≡ Some TwoSided }
-    ensures one_kind { cause_of (record { good = 6; benign = 0; symmetric = 0; asymmetric = 1 }) (record { good = 6; benign = 0; symmetric = 1; asymmetric = 0 }) ≡ None }
+    ensures bius { cause_of (record { good = 0; benign = 0; symmetric = 0; asymmetric = 1 })
+        (record { good = 0; benign = 0; symmetric = 0; asymmetric = 1 })
+        ≡ Some FewGoodBiu }
+    ensures rmus { cause_of (record { good = 6; benign = 0; symmetric = 0; asymmetric = 1 })
+        (record { good = 0; benign = 0; symmetric = 0; asymmetric = 1 })
+        ≡ Some FewGoodRmu }
+    ensures both { cause_of (record { good = 6; benign = 0; symmetric = 0; asymmetric = 1 })
+        (record { good = 6; benign = 0; symmetric = 0; asymmetric = 1 })
+        ≡ Some TwoSided }
+    ensures one_kind { cause_of (record { good = 6; benign = 0; symmetric = 0; asymmetric = 1 })
+        (record { good = 6; benign = 0; symmetric = 1; asymmetric = 0 })
+        ≡ None }
 {}
 
 /// Of which class a node is, by what others saw and took of it.
@@ -36,6 +54,10 @@ pub fn classes()
     ensures benign { (classes_of Biu (word_of 2 ∷ [])).benign ≡ 8 }
     // Times of one message may lie as far apart as the delays of a link, and no further, whichever
     // comes first.
-    ensures as_far { map (λ s. (classes_of Biu (s ∷ [])).asymmetric) (calls_at 100 110 ∷ calls_at 110 100 ∷ []) ≡ (0 ∷ 0 ∷ []) }
-    ensures further { map (λ s. (classes_of Biu (s ∷ [])).asymmetric) (calls_at 100 111 ∷ calls_at 111 100 ∷ []) ≡ (4 ∷ 4 ∷ []) }
+    ensures as_far { map (λ s. (classes_of Biu (s ∷ [])).asymmetric)
+        (calls_at 100 110 ∷ calls_at 110 100 ∷ [])
+        ≡ (0 ∷ 0 ∷ []) }
+    ensures further { map (λ s. (classes_of Biu (s ∷ [])).asymmetric)
+        (calls_at 100 111 ∷ calls_at 111 100 ∷ [])
+        ≡ (4 ∷ 4 ∷ []) }
 {}

@@ -36,7 +36,8 @@ pub fn beyond_the_edge()
     ensures after_the_tail { ¬ IsLawful (saying (record call { stages = (4, 4); offset = 39 })) }
     ensures early_in_another_slot { ¬ IsLawful
         (saying (record call { slots = (18, 19); early = 1 })) }
-    ensures tail_of_another_slot { ¬ IsLawful (saying (record call { slots = (18, 19); stages = (3, 4) })) }
+    ensures tail_of_another_slot { ¬ IsLawful
+        (saying (record call { slots = (18, 19); stages = (3, 4) })) }
     ensures to_its_own_kind { ¬ IsLawful (saying (record call { to = AllRmu })) }
     ensures no_bytes { ¬ IsLawful (saying (record call { content = raw [] })) }
     ensures by_a_good_node { ¬ IsLawful (saying (record call { from = r 0 })) }
@@ -50,10 +51,14 @@ pub fn beyond_the_bus()
     ensures request_missing { ¬ IsLawful (record ordinary_use { requests = 2 ∷ 2 ∷ 2 ∷ [] }) }
     ensures great_request { ¬ IsLawful (record ordinary_use { requests = 65 ∷ 2 ∷ 2 ∷ 2 ∷ [] }) }
     ensures clock_missing { ¬ IsLawful (record ordinary_use { clocks = replicate 6 steady }) }
-    ensures starts_apart { ¬ IsLawful (record ordinary_use { clocks = ticking 60201 10000 ∷ steady ∷ replicate 5 steady }) }
-    ensures slow_clock { ¬ IsLawful (record ordinary_use { clocks = ticking 0 10002 ∷ replicate 6 steady }) }
-    ensures great_delay { ¬ IsLawful (record ordinary_use { delays = record { base = 15001; rules = [] } }) }
-    ensures onset_after_the_run { ¬ IsLawful (record ordinary_use { biu_onsets = Some (1, 0) ∷ None ∷ None ∷ None ∷ [] }) }
+    ensures starts_apart { ¬ IsLawful
+        (record ordinary_use { clocks = ticking 60201 10000 ∷ steady ∷ replicate 5 steady }) }
+    ensures slow_clock { ¬ IsLawful
+        (record ordinary_use { clocks = ticking 0 10002 ∷ replicate 6 steady }) }
+    ensures great_delay { ¬ IsLawful
+        (record ordinary_use { delays = record { base = 15001; rules = [] } }) }
+    ensures onset_after_the_run { ¬ IsLawful
+        (record ordinary_use { biu_onsets = Some (1, 0) ∷ None ∷ None ∷ None ∷ [] }) }
 {}
 
 /// A rule of delay that no link has: within a kind, to an RMU that there is not, below the least

@@ -18,7 +18,9 @@ pub fn what_is_not_taken()
     // Bytes that are no message of version One, each by one thing that is wrong.
     ensures fault_with_a_value { message_in version.One
         (2 ∷ 0 ∷ 0 ∷ 0 ∷ 0 ∷ 2 ∷ 0 ∷ 0 ∷ 0 ∷ 1 ∷ 1 ∷ []) ≡ None }
-    ensures call_with_a_value { message_in version.One (3 ∷ 0 ∷ 0 ∷ 0 ∷ 19 ∷ 2 ∷ 0 ∷ 0 ∷ 0 ∷ 1 ∷ 19 ∷ []) ≡ None }
+    ensures call_with_a_value { message_in version.One
+        (3 ∷ 0 ∷ 0 ∷ 0 ∷ 19 ∷ 2 ∷ 0 ∷ 0 ∷ 0 ∷ 1 ∷ 19 ∷ [])
+        ≡ None }
     ensures no_tag { message_in version.One (0 ∷ 0 ∷ 0 ∷ 0 ∷ 4 ∷ 1 ∷ 0 ∷ 0 ∷ 0 ∷ 0 ∷ 5 ∷ [])
         ≡ None }
     ensures tag_past_the_last { message_in version.One
@@ -35,8 +37,13 @@ pub fn what_is_not_taken()
     ensures of_another_frame { sense_of (record expected { frame = 2 }) (word_10 70 5 10 ∷ [])
         ≡ Bad }
     ensures of_another_slot { sense_of (record expected { slot = 5 }) (word_10 70 5 10 ∷ []) ≡ Bad }
-    ensures call_below_the_sync_slot { sense_of (record expected { version = version.One }) (record { stamp = 70; bytes = 3 ∷ 0 ∷ 1 ∷ 0 ∷ 4 ∷ 1 ∷ 0 ∷ 0 ∷ 0 ∷ 0 ∷ 7 ∷ [] } ∷ []) ≡ Bad }
-    ensures fault_in_the_sync_slot { sense_of (record expected { sync = true; version = version.One }) (record { stamp = 70; bytes = 2 ∷ 0 ∷ 1 ∷ 0 ∷ 4 ∷ 1 ∷ 0 ∷ 0 ∷ 0 ∷ 0 ∷ 6 ∷ [] } ∷ []) ≡ Bad }
+    ensures call_below_the_sync_slot { sense_of (record expected { version = version.One })
+        (record { stamp = 70; bytes = 3 ∷ 0 ∷ 1 ∷ 0 ∷ 4 ∷ 1 ∷ 0 ∷ 0 ∷ 0 ∷ 0 ∷ 7 ∷ [] } ∷ [])
+        ≡ Bad }
+    ensures fault_in_the_sync_slot { sense_of
+        (record expected { sync = true; version = version.One })
+        (record { stamp = 70; bytes = 2 ∷ 0 ∷ 1 ∷ 0 ∷ 4 ∷ 1 ∷ 0 ∷ 0 ∷ 0 ∷ 0 ∷ 6 ∷ [] } ∷ [])
+        ≡ Bad }
     ensures check_without_the_bus { sense_of expected (word_10 70 5 15 ∷ []) ≡ Bad }
 {}
 

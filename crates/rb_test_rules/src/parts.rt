@@ -23,10 +23,18 @@ ghost use Rattle.rb_test_rules.specs.Parts.{sizes, plan, biu, rmu, expected, wor
 /// Messages of one source.
 pub fn messages_of_a_source()
     // Messages as bytes, in both versions.
-    ensures a_word { spelling_of version.One (record { tag = tag.Word; frame = 1; slot = 4; stage = 1; value = 10 }) ≡ (1 ∷ 0 ∷ 1 ∷ 0 ∷ 4 ∷ 1 ∷ 0 ∷ 0 ∷ 0 ∷ 10 ∷ 15 ∷ []) }
-    ensures a_call { spelling_of version.One (record { tag = tag.Sync; frame = 0; slot = 19; stage = 2; value = 0 }) ≡ (3 ∷ 0 ∷ 0 ∷ 0 ∷ 19 ∷ 2 ∷ 0 ∷ 0 ∷ 0 ∷ 0 ∷ 18 ∷ []) }
-    ensures a_fault { spelling_of version.One (record { tag = tag.Fault; frame = 65535; slot = 5; stage = 3; value = 0 }) ≡ (2 ∷ 255 ∷ 255 ∷ 0 ∷ 5 ∷ 3 ∷ 0 ∷ 0 ∷ 0 ∷ 0 ∷ 4 ∷ []) }
-    ensures on_bus_5 { spelling_of (version.Two 5) (record { tag = tag.Word; frame = 1; slot = 4; stage = 1; value = 10 }) ≡ (1 ∷ 0 ∷ 1 ∷ 0 ∷ 4 ∷ 1 ∷ 0 ∷ 0 ∷ 0 ∷ 10 ∷ 5 ∷ 10 ∷ []) }
+    ensures a_word { spelling_of version.One
+        (record { tag = tag.Word; frame = 1; slot = 4; stage = 1; value = 10 })
+        ≡ (1 ∷ 0 ∷ 1 ∷ 0 ∷ 4 ∷ 1 ∷ 0 ∷ 0 ∷ 0 ∷ 10 ∷ 15 ∷ []) }
+    ensures a_call { spelling_of version.One
+        (record { tag = tag.Sync; frame = 0; slot = 19; stage = 2; value = 0 })
+        ≡ (3 ∷ 0 ∷ 0 ∷ 0 ∷ 19 ∷ 2 ∷ 0 ∷ 0 ∷ 0 ∷ 0 ∷ 18 ∷ []) }
+    ensures a_fault { spelling_of version.One
+        (record { tag = tag.Fault; frame = 65535; slot = 5; stage = 3; value = 0 })
+        ≡ (2 ∷ 255 ∷ 255 ∷ 0 ∷ 5 ∷ 3 ∷ 0 ∷ 0 ∷ 0 ∷ 0 ∷ 4 ∷ []) }
+    ensures on_bus_5 { spelling_of (version.Two 5)
+        (record { tag = tag.Word; frame = 1; slot = 4; stage = 1; value = 10 })
+        ≡ (1 ∷ 0 ∷ 1 ∷ 0 ∷ 4 ∷ 1 ∷ 0 ∷ 0 ∷ 0 ∷ 10 ∷ 5 ∷ 10 ∷ []) }
     // What the arrivals of one source are worth.
     ensures no_arrival { sense_of expected [] ≡ Silent }
     ensures one_arrival { sense_of expected (word_10 70 5 10 ∷ [])
@@ -68,15 +76,20 @@ pub fn slots_and_senders()
     // 0 and 1 are those of BIUs 0 and 3. A diagnosis slot goes by the trust in its own sender: RMU
     // 1 and BIU 2 have theirs.
     ensures roles { map (role_of sizes) (0 ∷ 3 ∷ 4 ∷ 11 ∷ 12 ∷ 15 ∷ 16 ∷ 18 ∷ 19 ∷ [])
-        ≡ (Schedule 0 ∷ Schedule 3 ∷ Data 0 ∷ Data 7 ∷ DiagBiu 0 ∷ DiagBiu 3 ∷ DiagRmu 0 ∷ DiagRmu 2 ∷ Sync ∷ []) }
+        ≡ (Schedule 0 ∷ Schedule 3 ∷ Data 0 ∷ Data 7 ∷ DiagBiu 0 ∷ DiagBiu 3 ∷ DiagRmu 0
+        ∷ DiagRmu 2 ∷ Sync ∷ []) }
     ensures senders { map (sender_in 13 3 (0 ∷ 3 ∷ []))
         (Schedule 0 ∷ Schedule 1 ∷ Data 1 ∷ Data 2 ∷ Sync ∷ [])
         ≡ (Node 0 ∷ Nobody ∷ Node 3 ∷ Nobody ∷ EachTrusted ∷ []) }
     ensures diagnosis { map (sender_in 13 3 []) (DiagBiu 1 ∷ DiagBiu 2 ∷ DiagRmu 1 ∷ DiagRmu 2 ∷ [])
         ≡ (Nobody ∷ Node 2 ∷ Node 1 ∷ Nobody ∷ []) }
     // Whom the nodes of a kind expect in the stages of a slot, where BIU 1 is convicted.
-    ensures schedule_slot_at_rmus { map (λ stage. set_of (expects Rmu (Schedule 2) (Node 2) 13 stage)) (1 ∷ 2 ∷ 3 ∷ []) ≡ (4 ∷ 0 ∷ 13 ∷ []) }
-    ensures schedule_slot_at_bius { map (λ stage. set_of (expects Biu (Schedule 2) (Node 2) 7 stage)) (1 ∷ 2 ∷ 3 ∷ []) ≡ (0 ∷ 7 ∷ 0 ∷ []) }
+    ensures schedule_slot_at_rmus { map
+        (λ stage. set_of (expects Rmu (Schedule 2) (Node 2) 13 stage)) (1 ∷ 2 ∷ 3 ∷ [])
+        ≡ (4 ∷ 0 ∷ 13 ∷ []) }
+    ensures schedule_slot_at_bius { map
+        (λ stage. set_of (expects Biu (Schedule 2) (Node 2) 7 stage)) (1 ∷ 2 ∷ 3 ∷ [])
+        ≡ (0 ∷ 7 ∷ 0 ∷ []) }
     ensures data_slot_at_rmus { map (λ stage. set_of (expects Rmu (Data 0) (Node 2) 13 stage))
         (1 ∷ 2 ∷ 3 ∷ []) ≡ (4 ∷ 0 ∷ 0 ∷ []) }
     ensures sync_slot_at_rmus { map (λ stage. set_of (expects Rmu Sync EachTrusted 13 stage))
@@ -105,7 +118,8 @@ pub fn stages_of_a_slot()
     // An RMU relays what it took; one that took nothing accuses the sender and relays Fault. A
     // sender that is accused by mismatch alone is relayed as ever, one that is accused directly is
     // not.
-    ensures request_is_relayed { map (λ st. says sizes Rmu 0 st 0 2 0) (that_heard ∷ that_heard_nothing ∷ [])
+    ensures request_is_relayed { map (λ st. says sizes Rmu 0 st 0 2 0)
+        (that_heard ∷ that_heard_nothing ∷ [])
         ≡ (Some (Word 2) ∷ Some Fault ∷ []) }
     ensures silence_is_accused { map (λ st. st.far.direct) (that_heard ∷ that_heard_nothing ∷ [])
         ≡ (0 ∷ 1 ∷ []) }
@@ -119,7 +133,9 @@ pub fn stages_of_a_slot()
         ≡ (Some (Word 2) ∷ Some (Word 2) ∷ []) }
     ensures accused_by_the_sender { map (λ st. st.far.mismatch) (sender ∷ bystander ∷ [])
         ≡ (4 ∷ 0 ∷ []) }
-    ensures fault_counts { (close_exact sizes Biu 3 biu 0 2 (comes 0 2 (Some Fault ∷ Some Fault ∷ Some (Word 2) ∷ []))).state.votes ≡ biu.votes }
+    ensures fault_counts { (close_exact sizes Biu 3 biu 0 2
+        (comes 0 2 (Some Fault ∷ Some Fault ∷ Some (Word 2) ∷ []))).state.votes
+        ≡ biu.votes }
     ensures voted_by_rmus { take 2 that_voted.votes ≡ (Word 2 ∷ Fault ∷ []) }
     ensures accused_by_rmus { that_voted.far.mismatch ≡ 4 }
     ensures schedule_stands { that_scheduled.owners ≡ (0 ∷ 1 ∷ 3 ∷ 0 ∷ 3 ∷ 0 ∷ []) }

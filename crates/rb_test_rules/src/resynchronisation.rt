@@ -11,7 +11,8 @@ pub fn lies_in_the_sync_slot()
     // stand.
     ensures false_accuser { records_of false_accuser [] ≡ false_accuser_records }
     // An RMU calls at the window's first tick at all BIUs: the middles stand.
-    ensures call_at_the_first_tick { records_of call_at_the_first_tick [] ≡ call_at_the_first_tick_records }
+    ensures call_at_the_first_tick { records_of call_at_the_first_tick []
+        ≡ call_at_the_first_tick_records }
     // An RMU calls at the first tick at two BIUs and at the last at the others: the middles stand,
     // and the premise holds.
     ensures calls_at_both_edges { records_of calls_at_both_edges [] ≡ calls_at_both_edges_records }

@@ -46,13 +46,16 @@ pub fn steps_of_a_core()
     // A word is wanted for stage 1 of schedule and data slots alone.
     ensures by_stage { map (λ stage. slot_wanted usual_sizes (word_in_stage 5 stage))
         (1 ∷ 2 ∷ 3 ∷ []) ≡ (Some 5 ∷ None ∷ None ∷ []) }
-    ensures by_slot { map (λ slot. slot_wanted usual_sizes (word_in_stage slot 1)) (0 ∷ 11 ∷ 12 ∷ 16 ∷ 19 ∷ []) ≡ (Some 0 ∷ Some 11 ∷ None ∷ None ∷ None ∷ []) }
+    ensures by_slot { map (λ slot. slot_wanted usual_sizes (word_in_stage slot 1))
+        (0 ∷ 11 ∷ 12 ∷ 16 ∷ 19 ∷ [])
+        ≡ (Some 0 ∷ Some 11 ∷ None ∷ None ∷ None ∷ []) }
 {}
 
 /// Steps of a world.
 pub fn steps_of_a_world()
     // A faulty node is heard up to the last tick of a tail, and not past it.
-    ensures calls_in_the_tail { map (λ offset. is_said Rmu 0 1 short_tail (call_in_tail offset)) (0 ∷ 2 ∷ 3 ∷ [])
+    ensures calls_in_the_tail { map (λ offset. is_said Rmu 0 1 short_tail (call_in_tail offset))
+        (0 ∷ 2 ∷ 3 ∷ [])
         ≡ (true ∷ true ∷ false ∷ []) }
     // A state is handed in at the begin of a frame alone, and to a BIU that is good there.
     ensures at_first { map (λ p. p.state) (hand smallest_bus small_world 0 77).ports ≡ (7 ∷ []) }
@@ -62,12 +65,18 @@ pub fn steps_of_a_world()
     ensures told { length (hand smallest_bus at_frame 0 77).hands ≡ 1 }
     ensures to_a_faulty_biu { map (λ p. p.state) (hand faulty_bus at_frame 0 77).ports ≡ (7 ∷ []) }
     // A message goes to the nodes of the other kind that still run.
-    ensures rmus { map (λ s. length s.coming) (with_message ordinary_use Biu 0 0 6 (word_in_stage 0 1) all_but_one_run).rmus ≡ (1 ∷ 0 ∷ 1 ∷ []) }
-    ensures bius { map (λ s. length s.coming) (with_message ordinary_use Biu 0 0 6 (word_in_stage 0 1) all_but_one_run).bius ≡ (0 ∷ []) }
+    ensures rmus { map (λ s. length s.coming)
+        (with_message ordinary_use Biu 0 0 6 (word_in_stage 0 1) all_but_one_run).rmus
+        ≡ (1 ∷ 0 ∷ 1 ∷ []) }
+    ensures bius { map (λ s. length s.coming)
+        (with_message ordinary_use Biu 0 0 6 (word_in_stage 0 1) all_but_one_run).bius
+        ≡ (0 ∷ []) }
     // A tick waits for all arrivals of its time, which are taken by sender.
     ensures arrivals { map (λ d. d.pending) (ready_at usual_sizes 30 Rmu 0 waiting)
         ≡ (Arrival 1 (empty_at 30 0) ∷ Arrival 0 (empty_at 30 1) ∷ []) }
-    ensures its_tick { map (λ d. d.pending) (ready_at usual_sizes 30 Rmu 0 (record waiting { coming = empty_at 31 0 ∷ [] })) ≡ (Tick 3 ∷ []) }
+    ensures its_tick { map (λ d. d.pending)
+        (ready_at usual_sizes 30 Rmu 0 (record waiting { coming = empty_at 31 0 ∷ [] }))
+        ≡ (Tick 3 ∷ []) }
 {}
 
 /// What is shown of steps.
@@ -81,10 +90,14 @@ pub fn steps_as_shown()
     ensures no_more { event_at smallest_bus small_world 2 ≡ None }
     ensures request { event_of smallest_bus small_world.ports Biu 0 (core_after 1) (Tick 6)
         ≡ record { node = node.Biu 0; quiet = 5; kind = kind.Tick 1 true } }
-    ensures arrival { event_of smallest_bus small_world.ports Biu 0 (core_after 1) (Arrival 0 (empty_at 30000 0)) ≡ record { node = node.Biu 0; quiet = 2; kind = kind.Arrive 0 (record { items = [] }) } }
+    ensures arrival { event_of smallest_bus small_world.ports Biu 0 (core_after 1)
+        (Arrival 0 (empty_at 30000 0))
+        ≡ record { node = node.Biu 0; quiet = 2; kind = kind.Arrive 0 (record { items = [] }) } }
     // What a node shows of a source: nothing, a value, or for a stamp the reference time of its
     // sole message.
     ensures sights { map (judged_see 95000) (Nothing ∷ Value (Word 2) ∷ Time 10 ∷ [])
         ≡ (Nothing ∷ Value (Word 2) ∷ Time 95000 ∷ []) }
-    ensures times { map sole_time ([] ∷ (empty_at 95000 0 ∷ []) ∷ (empty_at 95000 0 ∷ empty_at 95001 0 ∷ []) ∷ []) ≡ (0 ∷ 95000 ∷ 0 ∷ []) }
+    ensures times { map sole_time
+        ([] ∷ (empty_at 95000 0 ∷ []) ∷ (empty_at 95000 0 ∷ empty_at 95001 0 ∷ []) ∷ [])
+        ≡ (0 ∷ 95000 ∷ 0 ∷ []) }
 {}

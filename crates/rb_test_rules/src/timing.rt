@@ -16,16 +16,19 @@ ghost use Rattle.rb_test_rules.specs.Timing.{data_place, quick_then_slow, two_ru
 pub fn inequalities_of_plans()
     // Both sides of the seven inequalities of the usual plan: all hold.
     ensures left_of_the_usual { map (λ s. s.left) (inequalities_of sizes plan)
-        ≡ (pos 64994 ∷ pos 79992 ∷ pos 70006 ∷ pos 109989 ∷ pos 75006 ∷ pos 129987 ∷ pos 60200 ∷ []) }
+        ≡ (pos 64994 ∷ pos 79992 ∷ pos 70006 ∷ pos 109989 ∷ pos 75006 ∷ pos 129987 ∷ pos 60200
+        ∷ []) }
     ensures right_of_the_usual { map (λ s. s.right) (inequalities_of sizes plan)
-        ≡ (pos 61922 ∷ pos 76922 ∷ pos 61952 ∷ pos 101953 ∷ pos 61988 ∷ pos 126990 ∷ pos 60109 ∷ []) }
+        ≡ (pos 61922 ∷ pos 76922 ∷ pos 61952 ∷ pos 101953 ∷ pos 61988 ∷ pos 126990 ∷ pos 60109
+        ∷ []) }
     ensures none_fails { first_failing sizes plan ≡ None }
     // Those of a plan in which each term weighs: a BIU's next epoch comes by its ticks where that
     // is later, and where that is sooner.
     ensures left_of_the_uneven { map (λ s. s.left) (inequalities_of sizes uneven_plan)
         ≡ (pos 1200 ∷ pos 2500 ∷ pos 10900 ∷ pos 3100 ∷ pos 11600 ∷ pos 3700 ∷ pos 90000 ∷ []) }
     ensures right_of_the_uneven { map (λ s. s.right) (inequalities_of sizes uneven_plan)
-        ≡ (pos 3279600 ∷ pos 3281600 ∷ pos 3335400 ∷ pos 3341300 ∷ pos 3402000 ∷ pos 3411800 ∷ pos 211600 ∷ []) }
+        ≡ (pos 3279600 ∷ pos 3281600 ∷ pos 3335400 ∷ pos 3341300 ∷ pos 3402000 ∷ pos 3411800
+        ∷ pos 211600 ∷ []) }
 {}
 
 /// Numbers in and out of range.
@@ -34,7 +37,8 @@ pub fn ranges_of_plans()
     ensures usual { IsPlan plan }
     ensures uneven { IsPlan uneven_plan }
     ensures greatest_ticks { IsPlan (record plan { u = 1000000; r = 999999 }) }
-    ensures longest_windows { IsPlan (record plan { l = 1000; h = 1000; v = 1000; z = 1000; c = 1000 }) }
+    ensures longest_windows { IsPlan
+        (record plan { l = 1000; h = 1000; v = 1000; z = 1000; c = 1000 }) }
     // Numbers that no plan has: a tick of one unit, a drift as long as a tick, a least delay past
     // the greatest, a window of no tick.
     ensures tick { ¬ IsPlan (record plan { u = 1; r = 0 }) }
