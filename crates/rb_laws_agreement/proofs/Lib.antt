@@ -37,6 +37,7 @@ pub mod WidelyAccused
 pub mod PortLists
 pub mod PortSlots
 pub mod PortHistories
+pub mod TablesHold
 pub mod Promises
 pub mod SharedBuses
 pub mod BusRuns

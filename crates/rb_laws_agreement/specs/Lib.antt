@@ -1,5 +1,6 @@
 pub mod Values
 pub mod Histories
+pub mod Held
 pub mod BusValues
 pub mod Times
 pub mod OneSlot

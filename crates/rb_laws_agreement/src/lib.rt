@@ -3,6 +3,7 @@
 //! function that does nothing.
 #![tactic(auto)]
 
+ghost use Rattle.rb_laws_agreement.specs.Held.{HeldWordsAreDelivered};
 ghost use Rattle.rb_laws_agreement.specs.Laws.{AccusedByAllIsConvicted, DeliveriesAreRight, GoodNodesAgree, GoodNodesHoldOneSchedule, GoodSendersAreHeard, NoGoodNodeIsAccused, NoGoodNodeIsConvicted, PortsFollowTheBus, PortsHoldOneState, RoundsStepTheBus, TimeIsAllThatIsLeft, TimeKeepsThePromise, UnheardNodesHaveNoVector};
 ghost use Rattle.rb_laws_agreement.specs.OneSlot.{OneSlotAgrees, VotesAgree, VotesAreValid};
 
@@ -80,6 +81,12 @@ pub fn ports_follow_the_bus()
 /// Good BIUs with one application, one first word and equal hand-ins have equal ports.
 pub fn ports_hold_one_state()
     ensures { PortsHoldOneState }
+{}
+
+/// Up to the first breach, all good BIUs deliver, in each slot of a good BIU with a table, the word
+/// that was handed to this table last, or the scenario's word if none was handed to it.
+pub fn held_words_are_delivered()
+    ensures { HeldWordsAreDelivered }
 {}
 
 /// What good nodes hold is what the abstract bus holds, each slot is a step of it, and so is the

@@ -14,7 +14,7 @@ use Rattle.rb_rules.proofs.HandIns.{moments-more}
 use Rattle.rb_laws_events.proofs.HandedMoments.{before-frame}
 use Rattle.rb_laws_events.proofs.MomentBooks.{number-of}
 use Rattle.rb_group.specs.Portions.{deliveries_in, port_deliveries}
-use Rattle.rb_laws_groups.proofs.Added.{step-adds, told-more, told_in}
+use Rattle.rb_laws_groups.proofs.Added.{step-tells, told-more, told_in}
 
 -- The same moments.
 
@@ -50,7 +50,7 @@ moments-alike sc (h ∷ more) hands frame late n early =
 told-still : (sc : Scenario) (hands : List HandIn) (frame i p : ℕ) → past_frame sc frame ≤ p + 1
     → told_in frame i (moment sc hands (suc p)).book ≡ told_in frame i (moment sc hands p).book
 told-still sc hands frame i p past =
-    elim (step-adds sc hands (moment sc hands p) frame) [
+    elim (step-tells sc hands (moment sc hands p) frame) [
       | inl none ↦ none i
       | inr adds ↦
           let size : ℕ = windows_in sc.sizes + 1 in

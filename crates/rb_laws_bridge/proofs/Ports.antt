@@ -1,20 +1,17 @@
--- A port with a table that is handed a word as a frame begins offers that word through the frame, and each BIU of the bridge is handed one.
+-- A table that is handed one word as a frame begins offers it through the frame, and each BIU of the bridge is handed one word.
 use Rattle.std.proofs.Common.{◌≡◌, ℕ, zero, suc, ◌+◌, ◌^◌, ◌%◌, ◌<◌, ◌≤◌, ◌==◌, ◌&&◌, Bool, true, false, inl, inr, cond, eqb, Option, Some, None, List, [], ◌∷◌, filter, map, get_or, if◌then◌else◌, refl, sym, ◌∙◌, ap, arith}
 use Rattle.std.specs.List.{IsDistinct}
 use Rattle.std.proofs.lemmas.Bool.Decides.{nat_tests}
 use Rattle.rb_base.specs.Nodes.Side.{Biu}
 use Rattle.rb_base.specs.Sizes.{sync_slot_of}
-use Rattle.rb_base.specs.declared.values.Heard.{Heard}
 use Rattle.rb_base.proofs.Plain.{eq_self}
 use Rattle.rb_rules.specs.Goodness.{Scenario, is_good}
-use Rattle.rb_rules.specs.Hearing.{port_at}
 use Rattle.rb_rules.specs.Lawful.{IsLawful}
 use Rattle.rb_rules.specs.Moments.{IsComplete, offered_in}
-use Rattle.rb_rules.specs.Ports.{HandIn, PortState, fresh_port, learned_by, offered_at, word_in}
-use Rattle.rb_laws_agreement.specs.Histories.{delivered_in, port_begun, port_through, states_for, with_delivery, with_states}
-use Rattle.rb_laws_agreement.proofs.Goodnesses.{good_earlier}
-use Rattle.rb_laws_agreement.proofs.Places.{complete_before}
-use Rattle.rb_laws_agreement.proofs.PortHistories.{ports_follow, slot-follows}
+use Rattle.rb_rules.specs.Ports.{HandIn}
+use Rattle.rb_laws_agreement.specs.Held.{last_state, state_held}
+use Rattle.rb_laws_agreement.specs.Histories.{states_for}
+use Rattle.rb_laws_agreement.proofs.TablesHold.{held-offered}
 use Rattle.rb_rules_bridge.specs.declared.bank.Bank.{Bank}
 use Rattle.rb_rules_bridge.specs.declared.bank.Pair.{Pair}
 use Rattle.rb_rules_bridge.specs.Bridges.{Bridge, biu_on, bus_on}
@@ -22,59 +19,13 @@ use Rattle.rb_rules_bridge.specs.Crossings.{hand_in_of, hands_of, hands_on, word
 use Rattle.rb_laws_bridge.proofs.Counted.{IsIn, later-apart}
 use Rattle.rb_laws_bridge.proofs.Handed.{hand-ins-are-carried}
 
--- A port through a frame.
-
-delivery-app : (o : Option Heard) (port : PortState) → (with_delivery o port).app ≡ port.app
-delivery-app None port = refl
-delivery-app (Some value) port = refl
-
--- a table keeps its state
-delivery-state : (o : Option Heard) (port : PortState) → port.app ≡ 0 → (with_delivery o port).state ≡ port.state
-delivery-state None port table = refl
-delivery-state (Some value) port table = ap (λ app. learned_by app port.state (word_in value)) table
-
-through-app : (sc : Scenario) (hands : List HandIn) (frame slot : ℕ) (port : PortState) → (port_through sc hands frame slot port).app ≡ port.app
-through-app sc hands frame zero port = refl
-through-app sc hands frame (suc slot) port =
-    delivery-app (delivered_in sc hands frame slot) (port_through sc hands frame slot port) ∙ through-app sc hands frame slot port
-
-through-state : (sc : Scenario) (hands : List HandIn) (frame slot : ℕ) (port : PortState) → port.app ≡ 0 → (port_through sc hands frame slot port).state ≡ port.state
-through-state sc hands frame zero port table = refl
-through-state sc hands frame (suc slot) port table =
-    delivery-state (delivered_in sc hands frame slot) (port_through sc hands frame slot port) (through-app sc hands frame slot port ∙ table)
-    ∙ through-state sc hands frame slot port table
-
-states-app : (states : List ℕ) (port : PortState) → (with_states states port).app ≡ port.app
-states-app [] port = refl
-states-app (state ∷ states) port = states-app states (record port { state = state })
-
-begun-app : (sc : Scenario) (hands : List HandIn) (i frame : ℕ) → (port_begun sc hands i frame).app ≡ get_or sc.apps i 0
-begun-app sc hands i zero = states-app (states_for i 0 hands) (fresh_port (get_or sc.apps i 0) (get_or sc.words i 0))
-begun-app sc hands i (suc frame) =
-    states-app (states_for i (suc frame) hands) (port_through sc hands frame (sync_slot_of sc.sizes) (port_begun sc hands i frame))
-    ∙ through-app sc hands frame (sync_slot_of sc.sizes) (port_begun sc hands i frame) ∙ begun-app sc hands i frame
-
-begun-state : (sc : Scenario) (hands : List HandIn) (i frame word : ℕ) → states_for i (suc frame) hands ≡ word ∷ [] → (port_begun sc hands i (suc frame)).state ≡ word
-begun-state sc hands i frame word is =
-    ap (λ states. (with_states states (port_through sc hands frame (sync_slot_of sc.sizes) (port_begun sc hands i frame))).state) is
-
--- so it offers what it was handed
+-- A table that is handed one word as a frame begins offers that word in every slot of the frame but the first.
 pub table-offers : (sc : Scenario) (hands : List HandIn) → IsLawful sc → (frame slot i word : ℕ) → 1 ≤ slot → slot ≤ sync_slot_of sc.sizes → IsComplete sc hands (suc frame) slot
     → is_good sc Biu i (suc frame) slot ≡ true → get_or sc.apps i 0 ≡ 0 → states_for i (suc frame) hands ≡ word ∷ [] → word < 2 ^ 32
     → offered_in sc hands (suc frame) slot i ≡ word
-table-offers sc hands law frame zero i word some le complete good table is fits = absurd (omega (arith, some))
-table-offers sc hands law frame (suc slot) i word some le complete good table is fits =
-    let port : PortState = port_begun sc hands i (suc frame) in
-    let here : PortState = port_through sc hands (suc frame) (suc slot) port in
-    let app : port.app ≡ 0 = begun-app sc hands i (suc frame) ∙ table in
-    let state : here.state ≡ word = through-state sc hands (suc frame) (suc slot) port app ∙ begun-state sc hands i frame word is in
-    let earlier : IsComplete sc hands (suc frame) slot =
-    ap (λ m. m.book.ended) (sym (slot-follows sc hands (suc frame) slot)) ∙ complete_before sc hands (suc frame) (suc slot) 1 (omega arith) complete in
-    ap (λ m. offered_at (port_at sc m.ports i) (suc slot)) (slot-follows sc hands (suc frame) slot)
-    ∙ ap (λ p. offered_at p (suc slot))
-    (ports_follow sc hands law (suc frame) slot (omega (arith, le)) earlier i (good_earlier sc Biu i (suc frame) slot (suc slot) (omega arith) good))
-    ∙ ap (λ app. (if app == 2 then here.state + suc slot else here.state) % 2 ^ 32) (through-app sc hands (suc frame) (suc slot) port ∙ app)
-    ∙ ap (λ state. state % 2 ^ 32) state ∙ small word fits
+table-offers sc hands law frame slot i word some le complete good table is fits =
+    held-offered sc hands law (suc frame) slot i some le complete good table
+    ∙ ap (λ states. last_state (state_held sc hands i frame) states % 2 ^ 32) is ∙ small word fits
   where
     small : (word : ℕ) → word < 2 ^ 32 → word % 2 ^ 32 ≡ word
     small word h = omega (arith, h)

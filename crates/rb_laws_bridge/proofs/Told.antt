@@ -32,7 +32,7 @@ use Rattle.rb_laws_agreement.proofs.SlotRuns.{IsSlot, slot_runs, third_frame}
 use Rattle.rb_laws_agreement.proofs.SlotValues.{slot-lines, value_of_slot}
 use Rattle.rb_laws_agreement.proofs.ThirdStages.{voted}
 use Rattle.rb_group.specs.Portions.{deliveries_in, line_told, port_deliveries, told_of}
-use Rattle.rb_laws_groups.proofs.Added.{first-told, step-adds, told-more, told_in}
+use Rattle.rb_laws_groups.proofs.Added.{first-told, step-tells, told-more, told_in}
 use Rattle.rb_laws_groups.proofs.Frames.{is-early}
 use Rattle.rb_laws_groups.proofs.Served.{IsServed, one-delivery, served}
 use Rattle.rb_rules_bridge.specs.Crossings.{value_in, word_of}
@@ -136,7 +136,7 @@ AddsNoValue sc frame slot i p = suc p ≡ completed sc frame slot → is_good sc
 still-step : (sc : Scenario) (hands : List HandIn) → IsLawful sc → (frame slot i p : ℕ) → AddsNoValue sc frame slot i p
     → value_by sc hands frame slot i (suc p) ≡ value_by sc hands frame slot i p
 still-step sc hands law frame slot i p adds_none =
-    elim (step-adds sc hands (moment sc hands p) frame) [
+    elim (step-tells sc hands (moment sc hands p) frame) [
       | inl none ↦ ap (value_in slot) (none i)
       | inr adds ↦
           let s : IsServed sc hands p = served sc hands law p adds in

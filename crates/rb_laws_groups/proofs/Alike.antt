@@ -17,7 +17,7 @@ use Rattle.rb_laws_agreement.proofs.Goodnesses.{good_earlier}
 use Rattle.rb_group.specs.Groups.{group_value}
 use Rattle.rb_group.specs.Portions.{deliveries_in, port_deliveries, told_of}
 use Rattle.rb_laws_groups.specs.Laws.{GroupsAgree, IsGoodPort, last_data_slot}
-use Rattle.rb_laws_groups.proofs.Added.{first-told, step-adds, told-more, told_in}
+use Rattle.rb_laws_groups.proofs.Added.{first-told, step-tells, told-more, told_in}
 use Rattle.rb_laws_groups.proofs.Served.{IsServed, no-owner, one-delivery, served}
 
 -- the lines of a slot tell the same of two good ports
@@ -71,7 +71,7 @@ moments-alike : (sc : Scenario) (hands : List HandIn) → IsLawful sc → (frame
 moments-alike sc hands law frame i j good_i good_j zero = first-told sc hands frame i ∙ sym (first-told sc hands frame j)
 moments-alike sc hands law frame i j good_i good_j (suc p) =
     let before : told_in frame i (moment sc hands p).book ≡ told_in frame j (moment sc hands p).book = moments-alike sc hands law frame i j good_i good_j p in
-    elim (step-adds sc hands (moment sc hands p) frame) [
+    elim (step-tells sc hands (moment sc hands p) frame) [
       | inl none ↦ none i ∙ before ∙ sym (none j)
       | inr adds ↦
           let s : IsServed sc hands p = served sc hands law p adds in

@@ -28,7 +28,7 @@ use Rattle.rb_laws_agreement.proofs.Tests.{Present, true_or_false}
 use Rattle.rb_group.specs.Groups.{first_of}
 use Rattle.rb_group.specs.Portions.{deliveries_in, port_deliveries}
 use Rattle.rb_laws_groups.specs.Laws.{first_among, is_number}
-use Rattle.rb_laws_groups.proofs.Added.{step-adds, told-more, told_in}
+use Rattle.rb_laws_groups.proofs.Added.{step-tells, told-more, told_in}
 use Rattle.rb_laws_groups.proofs.Alike.{no-lines}
 use Rattle.rb_laws_groups.proofs.Served.{IsServed, no-owner, one-delivery, served}
 
@@ -42,7 +42,7 @@ IsQuiet sc hands frame p =
 quiet-step : (sc : Scenario) (hands : List HandIn) → IsLawful sc → (frame i p : ℕ) → IsQuiet sc hands frame p
     → told_in frame i (moment sc hands (suc p)).book ≡ told_in frame i (moment sc hands p).book
 quiet-step sc hands law frame i p quiet =
-    elim (step-adds sc hands (moment sc hands p) frame) [
+    elim (step-tells sc hands (moment sc hands p) frame) [
       | inl none ↦ none i
       | inr adds ↦
           let s : IsServed sc hands p = served sc hands law p adds in

@@ -1,8 +1,17 @@
-//! What a group of replicas comes to at every good port. Each law is the contract of a function
-//! that does nothing.
+//! Laws of groups: the value that a group of replicas has at every good port; and of the lines of
+//! each slot's record, from which ports have it. Each law is the contract of a function that does
+//! nothing.
 #![tactic(auto)]
 
 ghost use Rattle.rb_laws_groups.specs.Laws.{FramesHaveASchedule, GroupsAgree, MidStaysBetween, MostFindsTheWord};
+ghost use Rattle.rb_laws_groups.specs.Lines.{RecordsAreRight};
+
+/// Each slot's record of a run has no lines, or one line for each BIU that is good in the slot, all
+/// with one sender and one value. If the sender is good and has a table, the value is the word that
+/// was handed to it last, or the scenario's word if none was.
+pub fn records_are_right()
+    ensures { RecordsAreRight }
+{}
 
 /// BIUs that are good up to the end of the data slots of a frame find equal values for each group
 /// in it, with both voters and every set of members. After a breach this is so of what was
