@@ -3,6 +3,7 @@
 #![tactic(auto)]
 
 ghost use Rattle.rb_laws_promise.specs.Laws.{RoundsStandForTheBus, ThePromiseIsKept};
+ghost use Rattle.rb_laws_promise.specs.Promise.{RunsKeepThePromise};
 
 /// Up to the first breach of the fault premise the rounds stand for a run of the abstract bus: at
 /// each begin of a frame and in each slot all good nodes hold what it holds.
@@ -15,4 +16,11 @@ pub fn rounds_stand_for_the_bus()
 /// nodes, and no good one.
 pub fn the_promise_is_kept()
     ensures { ThePromiseIsKept }
+{}
+
+/// Every run of a lawful scenario keeps the whole promise, for any hand-ins: that of
+/// `the_promise_is_kept`, that of `rounds_stand_for_the_bus`, that of the lines of each slot's
+/// record, and that of the nodes that run event by event.
+pub fn runs_keep_the_promise()
+    ensures { RunsKeepThePromise }
 {}

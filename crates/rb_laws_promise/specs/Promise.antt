@@ -1,0 +1,21 @@
+-- All that a run of the bus promises.
+use Rattle.std.specs.Prelude.{All, List}
+use Rattle.rb_rules.specs.Goodness.{Scenario}
+use Rattle.rb_rules.specs.Headline.{Headline}
+use Rattle.rb_rules.specs.Lawful.{IsLawful}
+use Rattle.rb_rules.specs.Ports.{HandIn}
+use Rattle.rb_rules.specs.Rounds.{records_of}
+use Rattle.rb_rules.specs.StandsFor.{StandsFor}
+use Rattle.rb_laws_events.specs.Promise.{RunningNodesKeepThePromise}
+use Rattle.rb_laws_groups.specs.Lines.{IsRight}
+
+-- The run of a scenario with these hand-ins keeps the promise up to its first breach of the fault premise
+pub record KeepsThePromise (sc : Scenario) (hands : List HandIn) : Type 0 where
+  pub headline : Headline sc hands  -- good nodes begin slots near each other, deliver alike, hold one schedule, and convict the same nodes
+  pub machine : StandsFor sc hands  -- all good nodes together are one machine, the abstract bus
+  pub records : All (IsRight sc hands) (records_of sc hands)  -- a slot's record has no lines, or one line for each good BIU, with one sender and one value
+  pub nodes : RunningNodesKeepThePromise sc  -- in every world of its events, the nodes that run hold what the rounds hold
+
+-- every run of a lawful scenario keeps it, for any hand-ins
+abbrev pub RunsKeepThePromise : Type 0
+RunsKeepThePromise = (sc : Scenario) (hands : List HandIn) → IsLawful sc → KeepsThePromise sc hands
