@@ -3,7 +3,9 @@ use Rattle.std.proofs.Common.{◌≡◌, ℕ, ◌<◌, ◌⊎◌, Bool, true, Li
 use Rattle.rb_outside.specs.Bytes.{Gave, ReadsToEnd}
 use Rattle.rb_outside.proofs.Known.{gave_within, read_bytes}
 use Rattle.rb_world_book.specs.declared.turn.Turn.{Turn}
-use Rattle.rb_rules_bridge.specs.Bridges.{Bridge}
+use Rattle.rb_laws_promise.proofs.Whole.{kept}
+use Rattle.rb_rules_bridge.specs.Bridges.{Bridge, bus_on}
+use Rattle.rb_rules_bridge.specs.Crossings.{hands_of, hands_on}
 use Rattle.rb_laws_bridge.proofs.Crossed.{words-cross}
 use Rattle.rb_bridge_document.specs.Acceptance.{IsBridgeAccepted}
 use Rattle.rb_run.specs.declared.ending.Ending.{Ending}
@@ -35,6 +37,7 @@ promised status left left' held held' lp ltold lsince rp rtold rsince e = record
   written = e.crossed.written.text refl;
   ends = e.crossed.answer_is ∙ ends-so e.bridge lp ltold lsince rp rtold rsince e.crossed.ending e.crossed.written.ends;
   promise = words-cross e.bridge e.is;
+  buses = λ bank. kept (bus_on e.bridge bank) (hands_on bank (hands_of e.bridge)) (e.is.lawful bank);
 }
 
 -- What is known of an answer.

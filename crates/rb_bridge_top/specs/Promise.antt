@@ -1,8 +1,11 @@
--- What a bridge promises where both drives are plain.
+-- What a bridge promises if both drives are plain.
 use Rattle.std.specs.Prelude.{ℕ, ◌≡◌, List, Option}
 use Rattle.std.specs.Io.KnownBytes.{Appends}
 use Rattle.rb_outside.specs.Bytes.{ReadsToEnd}
-use Rattle.rb_rules_bridge.specs.Bridges.{Bridge, IsBridge}
+use Rattle.rb_laws_promise.specs.Promise.{KeepsThePromise}
+use Rattle.rb_rules_bridge.specs.declared.bank.Bank.{Bank}
+use Rattle.rb_rules_bridge.specs.Bridges.{Bridge, IsBridge, bus_on}
+use Rattle.rb_rules_bridge.specs.Crossings.{hands_of, hands_on}
 use Rattle.rb_rules_bridge.specs.Texts.{bridge_text}
 use Rattle.rb_laws_bridge.specs.Laws.{WordsCrossOn}
 use Rattle.rb_bridge_document.specs.Acceptance.{IsBridgeAccepted}
@@ -13,9 +16,11 @@ use Rattle.rb_bridge_top.specs.Statuses.{end_of}
 pub record KeepsTheBridge (status : Status) (left left' held held' : Option (List ℕ)) : Type 0 where
   pub input : List ℕ
   pub bridge : Bridge
-  pub read : ReadsToEnd left left' input  -- nothing is left of the input
+  pub read : ReadsToEnd left left' input  -- the input is read to its end
   pub accepted : IsBridgeAccepted input bridge  -- it is the text of an accepted bridge
-  pub is : IsBridge bridge  -- whose buses are lawful, and which fits them
-  pub written : Appends held held' (bridge_text bridge)  -- what was added to the sink is what is said of that bridge
-  pub ends : status ≡ end_of bridge  -- the answer is Breach exactly where it ends with one
-  pub promise : WordsCrossOn bridge  -- and up to a breach, words cross it
+  pub is : IsBridge bridge  -- both buses of the bridge are lawful, and the bridge fits them
+  pub written : Appends held held' (bridge_text bridge)  -- what was added to the sink is the text of that bridge
+  pub ends : status ≡ end_of bridge  -- the answer is Breach if and only if the bridge ends with a breach
+  pub promise : WordsCrossOn bridge  -- words cross the bridge up to a breach
+  -- each bus keeps the promise of the bus up to its breach, with the words that cross as its hand-ins
+  pub buses : (bank : Bank) → KeepsThePromise (bus_on bridge bank) (hands_on bank (hands_of bridge))

@@ -368,7 +368,7 @@ log_answers accepted node status left left' reads reads' held held' writes write
         read = r.read;
         written = all.written.text;
         due = record {
-          log = record { scenario = as_scenario accepted; events = all.written.events; says = says; there = there; given = all.written.given; text_is = refl };
+          log = record { scenario = as_scenario accepted; events = all.written.events; says = says; lawful = r.lawful; there = there; given = all.written.given; text_is = refl };
           ends = all.ends;
           silent = refl;
         };
@@ -385,7 +385,7 @@ log_answers accepted node status left left' reads reads' held held' writes write
         text = log_text (as_scenario accepted) node part.events;
         read = r.read;
         written = part.text;
-        due = inr (record { scenario = as_scenario accepted; events = part.events; says = says; there = there; given = part.given; text_is = refl }, refl);
+        due = inr (record { scenario = as_scenario accepted; events = part.events; says = says; lawful = r.lawful; there = there; given = part.given; text_is = refl }, refl);
       };
     }
 

@@ -1,9 +1,12 @@
 -- What a plain drive's run promises.
-use Rattle.std.proofs.Common.{◌≡◌, ℕ, Bool, true, List, [], Option, ap, ◌∙◌, subst}
+use Rattle.std.proofs.Common.{◌≡◌, ℕ, Bool, true, List, [], Option, refl, sym, ap, ◌∙◌, subst}
 use Rattle.std.specs.Io.KnownBytes.{Appends}
 use Rattle.rb_gen.specs.Generated.{generated}
-use Rattle.rb_laws_promise.proofs.Promise.{promise, stands}
-use Rattle.rb_laws_events.proofs.NodesPromise.{keep-the-promise}
+use Rattle.rb_base.specs.declared.node.NodeName.{NodeName}
+use Rattle.rb_laws_logs.proofs.Recorded.{a-log-tells-the-report}
+use Rattle.rb_laws_promise.proofs.Whole.{kept}
+use Rattle.rb_log.specs.LogText.{log_in}
+use Rattle.rb_record.specs.Recording.{timetable_of}
 use Rattle.rb_world_book.specs.declared.turn.Turn.{Turn}
 use Rattle.rb_outside.specs.Bytes.{ReadsToEnd}
 use Rattle.rb_run.proofs.Plain.{plain-records}
@@ -12,8 +15,8 @@ use Rattle.rb_top.specs.declared.form.Form.TheVariants.{Run, Check, Gen, Stress,
 use Rattle.rb_top.specs.declared.status.Status.{Status}
 use Rattle.rb_group.specs.declared.voters.Which.{Which}
 use Rattle.rb_top.specs.Answers.{CommandEnds, Ends}
-use Rattle.rb_top.specs.Commands.{IsReport, IsSummary, group_command, telling_command}
-use Rattle.rb_top.specs.Promise.{KeepsItsPromise, KeepsTheHeadline, SumsTheHeadline}
+use Rattle.rb_top.specs.Commands.{IsLogOf, IsReport, IsSummary, group_command, record_command, telling_command}
+use Rattle.rb_top.specs.Promise.{KeepsItsPromise, KeepsTheHeadline, KeepsTheLog, SumsTheHeadline}
 use Rattle.rb_top.specs.Texts.{Telling, summary_with, told_by_group, told_by_letters, told_by_run}
 
 -- a drive told all of a run that is lawful
@@ -28,9 +31,7 @@ told_headline tells status left left' held held' told told' input text read due 
       accepted = due.says;
       written = subst P (due.text_is ∙ ap (λ records. tells due.scenario records) (plain-records due.scenario told told' due.turns due.given due.all)) written;
       ends = due.ends;
-      promise = promise due.scenario [] due.lawful;
-      machine = stands due.scenario [] due.lawful;
-      nodes = keep-the-promise due.scenario due.lawful;
+      promise = kept due.scenario [] due.lawful;
     }
 
 -- so of a command that tells of a run
@@ -59,9 +60,24 @@ summed_headline seed frames status held held' is_plain told told' text plain sum
       written = subst P
           (due.text_is ∙ ap (λ records. summary_with due.ends.ending records) (plain-records (generated seed frames) told told' due.turns due.given due.all))
           written;
-      promise = promise (generated seed frames) [] due.lawful;
-      machine = stands (generated seed frames) [] due.lawful;
-      nodes = keep-the-promise (generated seed frames) due.lawful;
+      promise = kept (generated seed frames) [] due.lawful;
+    }
+
+-- the log of a run that is lawful
+pub logged_promise : (node : NodeName) (status : Status) (left left' held held' : Option (List ℕ)) (is_plain : Bool) (told told' : Option (List Turn))
+    → CommandEnds (record_command node) status left left' held held' is_plain told told' → KeepsTheLog node left left' held held'
+logged_promise node status left left' held held' is_plain told told' e =
+    let l : IsLogOf node e.input e.text = e.due.log in record {
+      input = e.input;
+      scenario = l.scenario;
+      log = e.text;
+      read = e.read;
+      accepted = l.says;
+      written = e.written;
+      replayed = λ none good.
+          let told_again = a-log-tells-the-report l.scenario l.lawful none node good l.events l.given (timetable_of l.scenario) refl refl in
+          record { log = told_again.0; spells = ap log_in l.text_is ∙ told_again.1.0; text_is = sym told_again.1.1 };
+      promise = kept l.scenario [] l.lawful;
     }
 
 pub promised : (form : Form) (status : Status) (left left' held held' : Option (List ℕ)) (is_plain : Bool) (told told' : Option (List Turn)) → is_plain ≡ true
@@ -71,7 +87,7 @@ promised Check status left left' held held' is_plain told told' plain e = tt
 promised (Gen seed frames) status left left' held held' is_plain told told' plain e = tt
 promised (Stress seed frames) status left left' held held' is_plain told told' plain e =
     summed_headline seed frames status held held' is_plain told told' e.text plain e.due e.written
-promised (Record node) status left left' held held' is_plain told told' plain e = tt
+promised (Record node) status left left' held held' is_plain told told' plain e = logged_promise node status left left' held held' is_plain told told' e
 promised Replay status left left' held held' is_plain told told' plain e = tt
 promised (Spell letter) status left left' held held' is_plain told told' plain e = tt
 promised Letters status left left' held held' is_plain told told' plain e = telling_promised told_by_letters status left left' held held' is_plain told told' plain e

@@ -74,6 +74,7 @@ pub record IsLogOf (node : NodeName) (input text : List ℕ) : Type 0 where
   pub scenario : Scenario
   pub events : List Event
   pub says : IsTextOf input scenario
+  pub lawful : IsLawful scenario
   pub there : IsNodeOf scenario.sizes node
   pub given : AreGivenTo scenario node events
   pub text_is : text ≡ log_text scenario node events

@@ -1,17 +1,17 @@
--- What the forms that ask a drive promise where it is plain.
+-- What the forms that run a bus promise if their drive is plain.
 use Rattle.std.specs.Prelude.{⊤, ℕ, List, [], Option}
 use Rattle.std.specs.Io.KnownBytes.{Appends}
+use Rattle.rb_base.specs.declared.node.NodeName.{NodeName}
 use Rattle.rb_outside.specs.Bytes.{ReadsToEnd}
 use Rattle.rb_rules.specs.Goodness.{Scenario}
-use Rattle.rb_rules.specs.Headline.{Headline}
 use Rattle.rb_rules.specs.Rounds.{records_of}
-use Rattle.rb_rules.specs.StandsFor.{StandsFor}
-use Rattle.rb_laws_events.specs.Promise.{RunningNodesKeepThePromise}
+use Rattle.rb_laws_logs.specs.Laws.{EndsWithoutBreach, IsGoodThroughout, report_of_node}
+use Rattle.rb_laws_promise.specs.Promise.{KeepsThePromise}
 use Rattle.rb_gen.specs.Generated.{generated}
 use Rattle.rb_top.specs.declared.form.Form.{Form}
 use Rattle.rb_top.specs.declared.form.Form.TheVariants.{Run, Check, Gen, Stress, Record, Replay, Spell, Letters, Group, Listen, Show}
 use Rattle.rb_top.specs.declared.status.Status.{Status}
-use Rattle.rb_top.specs.Commands.{EndsAs}
+use Rattle.rb_top.specs.Commands.{EndsAs, IsReplay}
 use Rattle.rb_top.specs.Inputs.{IsTextOf}
 use Rattle.rb_top.specs.Texts.{Telling, summary_with, told_by_group, told_by_letters, told_by_run}
 
@@ -19,29 +19,37 @@ use Rattle.rb_top.specs.Texts.{Telling, summary_with, told_by_group, told_by_let
 pub record KeepsTheHeadline (tells : Telling) (status : Status) (left left' held held' : Option (List ℕ)) : Type 0 where
   pub input : List ℕ
   pub scenario : Scenario
-  pub read : ReadsToEnd left left' input  -- nothing is left of the input
+  pub read : ReadsToEnd left left' input  -- the input is read to its end
   pub accepted : IsTextOf input scenario  -- it is the text of an accepted scenario
   pub written : Appends held held' (tells scenario (records_of scenario []))  -- what was added to the sink is what is told of its rounds
-  pub ends : EndsAs scenario status  -- the answer is Breach exactly where they end with one
-  pub promise : Headline scenario []  -- up to the breach the bus keeps its promise
-  pub machine : StandsFor scenario []  -- and all good nodes are one machine
-  pub nodes : RunningNodesKeepThePromise scenario  -- and so do the nodes that run, in every world of its events
+  pub ends : EndsAs scenario status  -- the answer is Breach if and only if the rounds end with a breach
+  pub promise : KeepsThePromise scenario []  -- the run keeps the promise of the bus up to its breach
 
 -- The promise of `stress`, at Done and at Breach
 pub record SumsTheHeadline (seed frames : ℕ) (status : Status) (held held' : Option (List ℕ)) : Type 0 where
-  pub ends : EndsAs (generated seed frames) status  -- the answer is Breach exactly where its rounds end with one
+  pub ends : EndsAs (generated seed frames) status  -- the answer is Breach if and only if its rounds end with a breach
   pub written : Appends held held' (summary_with ends.ending (records_of (generated seed frames) []))  -- the numbers are those of its rounds
-  pub promise : Headline (generated seed frames) []  -- up to the breach the bus keeps its promise
-  pub machine : StandsFor (generated seed frames) []  -- and all good nodes are one machine
-  pub nodes : RunningNodesKeepThePromise (generated seed frames)  -- and so do the nodes that run, in every world of its events
+  pub promise : KeepsThePromise (generated seed frames) []  -- the run keeps the promise of the bus up to its breach
 
--- the promise of a form. There is none where no drive is asked
+-- The promise of `record`, at Done and at Breach
+pub record KeepsTheLog (node : NodeName) (left left' held held' : Option (List ℕ)) : Type 0 where
+  pub input : List ℕ
+  pub scenario : Scenario
+  pub log : List ℕ
+  pub read : ReadsToEnd left left' input  -- the input is read to its end
+  pub accepted : IsTextOf input scenario  -- it is the text of an accepted scenario
+  pub written : Appends held held' log  -- what was added to the sink is this log
+  -- if the node is good throughout and the run has no breach, what is due of `replay` for this log is what the run's report tells of the node
+  pub replayed : EndsWithoutBreach scenario → IsGoodThroughout scenario node → IsReplay log (report_of_node node (records_of scenario []))
+  pub promise : KeepsThePromise scenario []  -- the run keeps the promise of the bus up to its breach
+
+-- the promise of a form. A form that runs no bus has none
 abbrev pub KeepsItsPromise : Form → Status → Option (List ℕ) → Option (List ℕ) → Option (List ℕ) → Option (List ℕ) → Type 0
 KeepsItsPromise Run status left left' held held' = KeepsTheHeadline told_by_run status left left' held held'
 KeepsItsPromise Check status left left' held held' = ⊤
 KeepsItsPromise (Gen seed frames) status left left' held held' = ⊤
 KeepsItsPromise (Stress seed frames) status left left' held held' = SumsTheHeadline seed frames status held held'
-KeepsItsPromise (Record node) status left left' held held' = ⊤
+KeepsItsPromise (Record node) status left left' held held' = KeepsTheLog node left left' held held'
 KeepsItsPromise Replay status left left' held held' = ⊤
 KeepsItsPromise (Spell letter) status left left' held held' = ⊤
 KeepsItsPromise Letters status left left' held held' = KeepsTheHeadline told_by_letters status left left' held held'

@@ -52,6 +52,7 @@ bridge status input source source' sink sink' e f k = record {
   is = written_is sink sink' _ f k.written;
   ends = k.ends;
   promise = k.promise;
+  buses = k.buses;
 }
 
 -- no form ends with a fault of the source

@@ -1,5 +1,5 @@
 -- What the clauses of `run_robus` come to over bytes in memory.
-use Rattle.std.proofs.Common.{◌≡◌, ℕ, List, String, map, string_bytes, Option, None, Some, true, false, IsTrue, sym, ap, subst, ◌∙◌, refl}
+use Rattle.std.proofs.Common.{◌≡◌, ℕ, List, [], String, map, string_bytes, Option, None, Some, true, false, IsTrue, sym, ap, subst, ◌∙◌, refl}
 use Rattle.std.specs.declared.alloc.Global.{Global}
 use Rattle.rb_world.specs.declared.drive.FirstDrive.{FirstDrive}
 use Rattle.robus_c.specs.Held.{Held, faults_of}
@@ -8,13 +8,17 @@ use Rattle.rb_top.specs.declared.form.Form.{Form}
 use Rattle.rb_top.specs.declared.form.Form.TheVariants.{Run, Check, Gen, Stress, Record, Replay, Spell, Letters, Group, Listen, Show}
 use Rattle.rb_top.specs.declared.status.Status.{Status}
 use Rattle.rb_top.specs.declared.status.Status.TheVariants as code
+use Rattle.rb_base.specs.declared.node.NodeName.{NodeName}
+use Rattle.rb_laws_logs.specs.Laws.{report_of_node}
+use Rattle.rb_rules.specs.Rounds.{records_of}
+use Rattle.rb_top.specs.Commands.{IsReplay}
 use Rattle.rb_top.specs.Answers.{Completes, Ends, FailsToWrite, IsDue, IsLeft, IsRefusedWith, IsUnread, Refuses, Untouched, UsageExactly, limit_of}
 use Rattle.rb_top.specs.Inputs.{IsReadBy, IsTextOf, IsUnreadBy}
 use Rattle.rb_top.specs.Promise as outside
 use Rattle.rb_top.specs.Statuses.{HasEnded, MayRefuse}
 use Rattle.rb_top.specs.Texts.{Telling}
 use Rattle.rb_top.specs.Words.{AskFor}
-use Rattle.robus_c.specs.Bus.{Answers, Ask, IsOver, KeepsItsPromise, KeepsTheHeadline, SumsTheHeadline, read_by}
+use Rattle.robus_c.specs.Bus.{Answers, Ask, IsOver, KeepsItsPromise, KeepsTheHeadline, KeepsTheLog, SumsTheHeadline, read_by}
 
 -- Words.
 
@@ -54,8 +58,6 @@ headline tells status input source source' sink sink' e f k = record {
   is = written_is sink sink' _ f k.written;
   ends = k.ends;
   promise = k.promise;
-  machine = k.machine;
-  nodes = k.nodes;
 }
 
 sums : (seed frames : ℕ) (status : Status) (sink sink' : Held) → sink ≡ fresh
@@ -64,8 +66,15 @@ sums seed frames status sink sink' f k = record {
   ends = k.ends;
   is = written_is sink sink' _ f k.written;
   promise = k.promise;
-  machine = k.machine;
-  nodes = k.nodes;
+}
+
+log : (node : NodeName) (input source source' : List ℕ) (sink sink' : Held) → source ≡ input → sink ≡ fresh
+    → outside.KeepsTheLog node (Some source) (Some source') (Some sink.bytes) (Some sink'.bytes) → KeepsTheLog node input sink'.bytes
+log node input source source' sink sink' e f k = record {
+  scenario = k.scenario;
+  accepted = subst (λ bytes. IsTextOf bytes k.scenario) (read_is input source source' k.input e k.read) k.accepted;
+  replayed = λ none good. subst (λ text. IsReplay text (report_of_node node (records_of k.scenario []))) (sym (written_is sink sink' k.log f k.written)) (k.replayed none good);
+  promise = k.promise;
 }
 
 promised : (form : Form) (status : Status) (input source source' : List ℕ) (sink sink' : Held) → source ≡ input → sink ≡ fresh
@@ -75,7 +84,7 @@ promised Run status input source source' sink sink' e f k = headline _ status in
 promised Check status input source source' sink sink' e f k = tt
 promised (Gen seed frames) status input source source' sink sink' e f k = tt
 promised (Stress seed frames) status input source source' sink sink' e f k = sums seed frames status sink sink' f k
-promised (Record node) status input source source' sink sink' e f k = tt
+promised (Record node) status input source source' sink sink' e f k = log node input source source' sink sink' e f k
 promised Replay status input source source' sink sink' e f k = tt
 promised (Spell letter) status input source source' sink sink' e f k = tt
 promised Letters status input source source' sink sink' e f k = headline _ status input source source' sink sink' e f k

@@ -1,7 +1,10 @@
 -- What `robus_bridge_call` promises of the very bytes.
 use Rattle.std.specs.Prelude.{ℕ, ◌≡◌, ◌<◌, ◌≤◌, ◌⊎◌, List, [], length}
 use Rattle.rb_flags.specs.declared.Flag.{Flag}
-use Rattle.rb_rules_bridge.specs.Bridges.{Bridge, IsBridge}
+use Rattle.rb_laws_promise.specs.Promise.{KeepsThePromise}
+use Rattle.rb_rules_bridge.specs.declared.bank.Bank.{Bank}
+use Rattle.rb_rules_bridge.specs.Bridges.{Bridge, IsBridge, bus_on}
+use Rattle.rb_rules_bridge.specs.Crossings.{hands_of, hands_on}
 use Rattle.rb_rules_bridge.specs.Texts.{bridge_text}
 use Rattle.rb_laws_bridge.specs.Laws.{WordsCrossOn}
 use Rattle.rb_bridge_document.specs.Acceptance.{IsBridgeAccepted}
@@ -35,10 +38,12 @@ Ask words form = words ≡ words_of form
 pub record KeepsTheBridge (status : Status) (input output : List ℕ) : Type 0 where
   pub bridge : Bridge
   pub accepted : IsBridgeAccepted input bridge  -- the input is the text of an accepted bridge
-  pub lawful : IsBridge bridge  -- whose buses are lawful, and which fits them
-  pub is : output ≡ bridge_text bridge  -- the output is what is said of that bridge
-  pub ends : status ≡ end_of bridge  -- the answer is Breach exactly where it ends with one
-  pub promise : WordsCrossOn bridge  -- and up to a breach, words cross it
+  pub lawful : IsBridge bridge  -- both buses of the bridge are lawful, and the bridge fits them
+  pub is : output ≡ bridge_text bridge  -- the output is the text of that bridge
+  pub ends : status ≡ end_of bridge  -- the answer is Breach if and only if the bridge ends with a breach
+  pub promise : WordsCrossOn bridge  -- words cross the bridge up to a breach
+  -- each bus keeps the promise of the bus up to its breach, with the words that cross as its hand-ins
+  pub buses : (bank : Bank) → KeepsThePromise (bus_on bridge bank) (hands_on bank (hands_of bridge))
 
 -- The answer to `run`
 pub record AnswersRun (input output : List ℕ) (status : Status) : Type 0 where

@@ -1,17 +1,17 @@
 -- What `robus_call` promises of the very bytes.
 use Rattle.std.specs.Prelude.{⊤, ℕ, ◌≡◌, ◌<◌, ◌⊎◌, true, List, [], length, Option, Some, None}
+use Rattle.rb_base.specs.declared.node.NodeName.{NodeName}
 use Rattle.rb_rules.specs.Goodness.{Scenario}
-use Rattle.rb_rules.specs.Headline.{Headline}
 use Rattle.rb_rules.specs.Rounds.{records_of}
-use Rattle.rb_rules.specs.StandsFor.{StandsFor}
-use Rattle.rb_laws_events.specs.Promise.{RunningNodesKeepThePromise}
+use Rattle.rb_laws_logs.specs.Laws.{EndsWithoutBreach, IsGoodThroughout, report_of_node}
+use Rattle.rb_laws_promise.specs.Promise.{KeepsThePromise}
 use Rattle.rb_gen.specs.Generated.{generated}
 use Rattle.rb_top.specs.declared.form.Form.{Form}
 use Rattle.rb_top.specs.declared.form.Form.TheVariants.{Run, Check, Gen, Stress, Record, Replay, Spell, Letters, Group, Listen, Show}
 use Rattle.rb_top.specs.declared.status.Status.{Status}
 use Rattle.rb_top.specs.declared.status.Status.TheVariants as code
 use Rattle.rb_top.specs.Answers.{IsDue, IsEnd, IsRefusedWith, IsWithin, limit_of}
-use Rattle.rb_top.specs.Commands.{EndsAs}
+use Rattle.rb_top.specs.Commands.{EndsAs, IsReplay}
 use Rattle.rb_top.specs.Inputs.{IsTextOf}
 use Rattle.rb_top.specs.Statuses.{HasEnded, WritesNothing}
 use Rattle.rb_top.specs.Texts.{Telling, summary_with, told_by_group, told_by_letters, told_by_run}
@@ -50,26 +50,30 @@ pub record KeepsTheHeadline (tells : Telling) (status : Status) (input output : 
   pub scenario : Scenario
   pub accepted : IsTextOf input scenario  -- the input is the text of an accepted scenario
   pub is : output ≡ tells scenario (records_of scenario [])  -- the output is what is told of its rounds
-  pub ends : EndsAs scenario status  -- the answer is Breach exactly where they end with one
-  pub promise : Headline scenario []  -- up to the breach the bus keeps its promise
-  pub machine : StandsFor scenario []  -- and all good nodes are one machine
-  pub nodes : RunningNodesKeepThePromise scenario  -- and so do the nodes that run, in every world of its events
+  pub ends : EndsAs scenario status  -- the answer is Breach if and only if the rounds end with a breach
+  pub promise : KeepsThePromise scenario []  -- the run keeps the promise of the bus up to its breach
 
 -- The promise of `stress`, at Done and at Breach
 pub record SumsTheHeadline (seed frames : ℕ) (status : Status) (output : List ℕ) : Type 0 where
-  pub ends : EndsAs (generated seed frames) status  -- the answer is Breach exactly where its rounds end with one
+  pub ends : EndsAs (generated seed frames) status  -- the answer is Breach if and only if its rounds end with a breach
   pub is : output ≡ summary_with ends.ending (records_of (generated seed frames) [])  -- the output is the numbers of its rounds
-  pub promise : Headline (generated seed frames) []  -- up to the breach the bus keeps its promise
-  pub machine : StandsFor (generated seed frames) []  -- and all good nodes are one machine
-  pub nodes : RunningNodesKeepThePromise (generated seed frames)  -- and so do the nodes that run, in every world of its events
+  pub promise : KeepsThePromise (generated seed frames) []  -- the run keeps the promise of the bus up to its breach
 
--- the promise of a form. There is none where no bus is run, or one node's log is all that is told
+-- The promise of `record`, at Done and at Breach
+pub record KeepsTheLog (node : NodeName) (input output : List ℕ) : Type 0 where
+  pub scenario : Scenario
+  pub accepted : IsTextOf input scenario  -- the input is the text of an accepted scenario
+  -- if the node is good throughout and the run has no breach, what is due of `replay` for the output is what the run's report tells of the node
+  pub replayed : EndsWithoutBreach scenario → IsGoodThroughout scenario node → IsReplay output (report_of_node node (records_of scenario []))
+  pub promise : KeepsThePromise scenario []  -- the run keeps the promise of the bus up to its breach
+
+-- the promise of a form. A form that runs no bus has none
 abbrev pub KeepsItsPromise : Form → Status → List ℕ → List ℕ → Type 0
 KeepsItsPromise Run status input output = KeepsTheHeadline told_by_run status input output
 KeepsItsPromise Check status input output = ⊤
 KeepsItsPromise (Gen seed frames) status input output = ⊤
 KeepsItsPromise (Stress seed frames) status input output = SumsTheHeadline seed frames status output
-KeepsItsPromise (Record node) status input output = ⊤
+KeepsItsPromise (Record node) status input output = KeepsTheLog node input output
 KeepsItsPromise Replay status input output = ⊤
 KeepsItsPromise (Spell letter) status input output = ⊤
 KeepsItsPromise Letters status input output = KeepsTheHeadline told_by_letters status input output
