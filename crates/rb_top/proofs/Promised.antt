@@ -3,6 +3,12 @@ use Rattle.std.proofs.Common.{◌≡◌, ℕ, Bool, true, List, [], Option, refl
 use Rattle.std.specs.Io.KnownBytes.{Appends}
 use Rattle.rb_gen.specs.Generated.{generated}
 use Rattle.rb_base.specs.declared.node.NodeName.{NodeName}
+use Rattle.rb_rules.specs.Goodness.{Scenario}
+use Rattle.rb_rules.specs.Lawful.{IsLawful}
+use Rattle.rb_laws_groups.proofs.Alike.{groups-agree}
+use Rattle.rb_laws_groups.proofs.Voted.{mid-stays, most-finds}
+use Rattle.rb_laws_groups.specs.Laws.{FindsTheMembers}
+use Rattle.rb_laws_letters.proofs.Received.{receive-alike, senders-received}
 use Rattle.rb_laws_logs.proofs.Recorded.{a-log-tells-the-report}
 use Rattle.rb_laws_promise.proofs.Whole.{kept}
 use Rattle.rb_log.specs.LogText.{log_in}
@@ -14,9 +20,10 @@ use Rattle.rb_top.specs.declared.form.Form.{Form}
 use Rattle.rb_top.specs.declared.form.Form.TheVariants.{Run, Check, Gen, Stress, Record, Replay, Spell, Letters, Group, Listen, Show}
 use Rattle.rb_top.specs.declared.status.Status.{Status}
 use Rattle.rb_group.specs.declared.voters.Which.{Which}
+use Rattle.rb_group.specs.declared.voters.Which.TheVariants.{Mid, Most}
 use Rattle.rb_top.specs.Answers.{CommandEnds, Ends}
 use Rattle.rb_top.specs.Commands.{IsLogOf, IsReport, IsSummary, group_command, record_command, telling_command}
-use Rattle.rb_top.specs.Promise.{KeepsItsPromise, KeepsTheHeadline, KeepsTheLog, SumsTheHeadline}
+use Rattle.rb_top.specs.Promise.{KeepsItsPromise, KeepsTheGroup, KeepsTheHeadline, KeepsTheLetters, KeepsTheLog, SumsTheHeadline}
 use Rattle.rb_top.specs.Texts.{Telling, summary_with, told_by_group, told_by_letters, told_by_run}
 
 -- a drive told all of a run that is lawful
@@ -34,22 +41,38 @@ told_headline tells status left left' held held' told told' input text read due 
       promise = kept due.scenario [] due.lawful;
     }
 
--- so of a command that tells of a run
-pub telling_promised : (tells : Telling) (status : Status) (left left' held held' : Option (List ℕ)) (is_plain : Bool) (told told' : Option (List Turn)) → is_plain ≡ true
+-- a command that tells of a run
+telling_promised : (tells : Telling) (status : Status) (left left' held held' : Option (List ℕ)) (is_plain : Bool) (told told' : Option (List Turn)) → is_plain ≡ true
     → CommandEnds (telling_command tells) status left left' held held' is_plain told told' → KeepsTheHeadline tells status left left' held held'
 telling_promised tells status left left' held held' is_plain told told' plain e =
     let P : Bool → Type 0 = λ b. IsReport tells e.input b told told' status e.text in
     told_headline tells status left left' held held' told told' e.input e.text e.read (subst P plain e.due) e.written
 
-pub group_promised : (which : Which) (members : ℕ) (status : Status) (left left' held held' : Option (List ℕ)) (is_plain : Bool) (told told' : Option (List Turn)) → is_plain ≡ true
-    → CommandEnds (group_command which members) status left left' held held' is_plain told told'
-    → KeepsTheHeadline (told_by_group which members) status left left' held held'
+letters_promised : (status : Status) (left left' held held' : Option (List ℕ)) (is_plain : Bool) (told told' : Option (List Turn)) → is_plain ≡ true
+    → CommandEnds (telling_command told_by_letters) status left left' held held' is_plain told told' → KeepsTheLetters status left left' held held'
+letters_promised status left left' held held' is_plain told told' plain e = record {
+  report = telling_promised told_by_letters status left left' held held' is_plain told told' plain e;
+  alike = receive-alike e.due.scenario [] e.due.lawful;
+  received = senders-received e.due.scenario [] e.due.lawful;
+}
+
+group_promised : (which : Which) (members : ℕ) (status : Status) (left left' held held' : Option (List ℕ)) (is_plain : Bool) (told told' : Option (List Turn)) → is_plain ≡ true
+    → CommandEnds (group_command which members) status left left' held held' is_plain told told' → KeepsTheGroup which members status left left' held held'
 group_promised which members status left left' held held' is_plain told told' plain e =
     let P : Bool → Type 0 = λ b. IsReport (told_by_group which members) e.input b told told' status e.text in
-    told_headline (told_by_group which members) status left left' held held' told told' e.input e.text e.read (subst P plain e.due.report) e.written
+    let report : IsReport (told_by_group which members) e.input true told told' status e.text = subst P plain e.due.report in
+    record {
+      report = told_headline (told_by_group which members) status left left' held held' told told' e.input e.text e.read report e.written;
+      alike = groups-agree report.scenario [] report.lawful which members;
+      found = found which report.scenario report.lawful;
+    }
+  where
+    found : (which : Which) (sc : Scenario) → IsLawful sc → FindsTheMembers sc [] which members
+    found Most sc law = most-finds sc [] law members
+    found Mid sc law = mid-stays sc [] law members
 
--- and of the numbers of a generated run
-pub summed_headline : (seed frames : ℕ) (status : Status) (held held' : Option (List ℕ)) (is_plain : Bool) (told told' : Option (List Turn)) (text : List ℕ) → is_plain ≡ true
+-- the numbers of a generated run
+summed_headline : (seed frames : ℕ) (status : Status) (held held' : Option (List ℕ)) (is_plain : Bool) (told told' : Option (List Turn)) (text : List ℕ) → is_plain ≡ true
     → IsSummary seed frames is_plain told told' status text → Appends held held' text → SumsTheHeadline seed frames status held held'
 summed_headline seed frames status held held' is_plain told told' text plain summary written =
     let Q : Bool → Type 0 = λ b. IsSummary seed frames b told told' status text in
@@ -64,7 +87,7 @@ summed_headline seed frames status held held' is_plain told told' text plain sum
     }
 
 -- the log of a run that is lawful
-pub logged_promise : (node : NodeName) (status : Status) (left left' held held' : Option (List ℕ)) (is_plain : Bool) (told told' : Option (List Turn))
+logged_promise : (node : NodeName) (status : Status) (left left' held held' : Option (List ℕ)) (is_plain : Bool) (told told' : Option (List Turn))
     → CommandEnds (record_command node) status left left' held held' is_plain told told' → KeepsTheLog node left left' held held'
 logged_promise node status left left' held held' is_plain told told' e =
     let l : IsLogOf node e.input e.text = e.due.log in record {
@@ -90,7 +113,7 @@ promised (Stress seed frames) status left left' held held' is_plain told told' p
 promised (Record node) status left left' held held' is_plain told told' plain e = logged_promise node status left left' held held' is_plain told told' e
 promised Replay status left left' held held' is_plain told told' plain e = tt
 promised (Spell letter) status left left' held held' is_plain told told' plain e = tt
-promised Letters status left left' held held' is_plain told told' plain e = telling_promised told_by_letters status left left' held held' is_plain told told' plain e
+promised Letters status left left' held held' is_plain told told' plain e = letters_promised status left left' held held' is_plain told told' plain e
 promised (Group which members) status left left' held held' is_plain told told' plain e = group_promised which members status left left' held held' is_plain told told' plain e
 promised (Listen skip) status left left' held held' is_plain told told' plain e = tt
 promised (Show flag) status left left' held held' is_plain told told' plain e = tt

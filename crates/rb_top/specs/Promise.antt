@@ -5,6 +5,9 @@ use Rattle.rb_base.specs.declared.node.NodeName.{NodeName}
 use Rattle.rb_outside.specs.Bytes.{ReadsToEnd}
 use Rattle.rb_rules.specs.Goodness.{Scenario}
 use Rattle.rb_rules.specs.Rounds.{records_of}
+use Rattle.rb_group.specs.declared.voters.Which.{Which}
+use Rattle.rb_laws_groups.specs.Laws.{FindsTheMembers, PortsFindAlike}
+use Rattle.rb_laws_letters.specs.Laws.{PortsReceiveAlike, PortsReceiveGoodSenders}
 use Rattle.rb_laws_logs.specs.Laws.{EndsWithoutBreach, IsGoodThroughout, report_of_node}
 use Rattle.rb_laws_promise.specs.Promise.{KeepsThePromise}
 use Rattle.rb_gen.specs.Generated.{generated}
@@ -15,7 +18,7 @@ use Rattle.rb_top.specs.Commands.{EndsAs, IsReplay}
 use Rattle.rb_top.specs.Inputs.{IsTextOf}
 use Rattle.rb_top.specs.Texts.{Telling, summary_with, told_by_group, told_by_letters, told_by_run}
 
--- The promise of `run`, of `letters` and of `group`, at Done and at Breach
+-- The promise of a report of a run, as `run` writes it, at Done and at Breach
 pub record KeepsTheHeadline (tells : Telling) (status : Status) (left left' held held' : Option (List ℕ)) : Type 0 where
   pub input : List ℕ
   pub scenario : Scenario
@@ -30,6 +33,18 @@ pub record SumsTheHeadline (seed frames : ℕ) (status : Status) (held held' : O
   pub ends : EndsAs (generated seed frames) status  -- the answer is Breach if and only if its rounds end with a breach
   pub written : Appends held held' (summary_with ends.ending (records_of (generated seed frames) []))  -- the numbers are those of its rounds
   pub promise : KeepsThePromise (generated seed frames) []  -- the run keeps the promise of the bus up to its breach
+
+-- The promise of `letters`, at Done and at Breach: that of its report, and of what ports receive
+pub record KeepsTheLetters (status : Status) (left left' held held' : Option (List ℕ)) : Type 0 where
+  pub report : KeepsTheHeadline told_by_letters status left left' held held'
+  pub alike : PortsReceiveAlike report.scenario []  -- good ports receive the same letters from each sender, in the same slots
+  pub received : PortsReceiveGoodSenders report.scenario []  -- they receive the letters of a good sender whole, once and in order
+
+-- The promise of `group`, at Done and at Breach: that of its report, and of what ports find
+pub record KeepsTheGroup (which : Which) (members : ℕ) (status : Status) (left left' held held' : Option (List ℕ)) : Type 0 where
+  pub report : KeepsTheHeadline (told_by_group which members) status left left' held held'
+  pub alike : PortsFindAlike report.scenario [] which members  -- good ports find equal values in each frame
+  pub found : FindsTheMembers report.scenario [] which members  -- and the word of the good members, if these outnumber the others
 
 -- The promise of `record`, at Done and at Breach
 pub record KeepsTheLog (node : NodeName) (left left' held held' : Option (List ℕ)) : Type 0 where
@@ -52,7 +67,7 @@ KeepsItsPromise (Stress seed frames) status left left' held held' = SumsTheHeadl
 KeepsItsPromise (Record node) status left left' held held' = KeepsTheLog node left left' held held'
 KeepsItsPromise Replay status left left' held held' = ⊤
 KeepsItsPromise (Spell letter) status left left' held held' = ⊤
-KeepsItsPromise Letters status left left' held held' = KeepsTheHeadline told_by_letters status left left' held held'
-KeepsItsPromise (Group which members) status left left' held held' = KeepsTheHeadline (told_by_group which members) status left left' held held'
+KeepsItsPromise Letters status left left' held held' = KeepsTheLetters status left left' held held'
+KeepsItsPromise (Group which members) status left left' held held' = KeepsTheGroup which members status left left' held held'
 KeepsItsPromise (Listen skip) status left left' held held' = ⊤
 KeepsItsPromise (Show flag) status left left' held held' = ⊤

@@ -1,8 +1,6 @@
 //! Commands that read a source: each is a word of the program as a call of its own.
 ghost use Rattle.rb_top.specs.Calls.{AnswersAlone, AnswersDriven};
-ghost use Rattle.rb_top.specs.Commands.{check_command, group_command, letters_command};
-ghost use Rattle.rb_top.specs.Commands.{listen_command, record_command, replay_command, run_command};
-ghost use Rattle.rb_top.specs.Texts.{told_by_group, told_by_letters, told_by_run};
+ghost use Rattle.rb_top.specs.declared.form.Form.TheVariants.{Check, Group, Letters, Listen, Record, Replay, Run};
 
 use crate::checking::show_sides;
 use crate::listening::listen_to;
@@ -35,7 +33,7 @@ pub fn run<S: Source, K: Sink, D: Drive>(
     apps: &Apps,
     drive: &mut D,
 ) -> Status
-    ensures { AnswersDriven run_command told_by_run result S.left S.faults input.old input.new
+    ensures { AnswersDriven Run result S.left S.faults input.old input.new
         K.held K.faults output.old output.new D.is_plain D.told drive.old drive.new }
 {
     match read_scenario(alloc, input, output) {
@@ -49,7 +47,7 @@ pub fn run<S: Source, K: Sink, D: Drive>(
 ///
 /// Answers come as those of `run`; `Breach` and `Usage` never come.
 pub fn check<S: Source, K: Sink>(alloc: Global, input: &mut S, output: &mut K) -> Status
-    ensures { AnswersAlone check_command result S.left S.faults input.old input.new
+    ensures { AnswersAlone Check result S.left S.faults input.old input.new
         K.held K.faults output.old output.new }
 {
     match read_scenario(alloc, input, output) {
@@ -70,7 +68,7 @@ pub fn record<S: Source, K: Sink>(
     output: &mut K,
     apps: &Apps,
 ) -> Status
-    ensures { AnswersAlone (record_command node) result S.left S.faults input.old input.new
+    ensures { AnswersAlone (Record node) result S.left S.faults input.old input.new
         K.held K.faults output.old output.new }
 {
     let scenario = match read_scenario(alloc, input, output) {
@@ -89,7 +87,7 @@ pub fn record<S: Source, K: Sink>(
 /// byte. `TooLong`: the source gave more than 67,108,864 bytes. Other answers come as those of
 /// `run`; `Breach` and `Usage` never come.
 pub fn replay<S: Source, K: Sink>(alloc: Global, input: &mut S, output: &mut K) -> Status
-    ensures { AnswersAlone replay_command result S.left S.faults input.old input.new
+    ensures { AnswersAlone Replay result S.left S.faults input.old input.new
         K.held K.faults output.old output.new }
 {
     match read_log(alloc, input) {
@@ -103,7 +101,7 @@ pub fn replay<S: Source, K: Sink>(alloc: Global, input: &mut S, output: &mut K) 
 ///
 /// Answers come as those of `replay`; `Refused` comes of the log of an RMU, too.
 pub fn listen<S: Source, K: Sink>(alloc: Global, skip: u32, input: &mut S, output: &mut K) -> Status
-    ensures { AnswersAlone (listen_command skip) result S.left S.faults input.old input.new
+    ensures { AnswersAlone (Listen skip) result S.left S.faults input.old input.new
         K.held K.faults output.old output.new }
 {
     match read_log(alloc, input) {
@@ -123,7 +121,7 @@ pub fn letters<S: Source, K: Sink, D: Drive>(
     apps: &Apps,
     drive: &mut D,
 ) -> Status
-    ensures { AnswersDriven letters_command told_by_letters result S.left S.faults input.old
+    ensures { AnswersDriven Letters result S.left S.faults input.old
         input.new K.held K.faults output.old output.new D.is_plain D.told drive.old drive.new }
 {
     match read_scenario(alloc, input, output) {
@@ -146,9 +144,8 @@ pub fn group<S: Source, K: Sink, D: Drive>(
     drive: &mut D,
     voters: &Voters,
 ) -> Status
-    ensures { AnswersDriven (group_command asked.now.which asked.now.members)
-        (told_by_group asked.now.which asked.now.members) result S.left S.faults input.old input.new
-        K.held K.faults output.old output.new D.is_plain D.told drive.old drive.new }
+    ensures { AnswersDriven (Group asked.now.which asked.now.members) result S.left S.faults input.old
+        input.new K.held K.faults output.old output.new D.is_plain D.told drive.old drive.new }
 {
     let scenario = match read_scenario(alloc, input, output) {
         Ok(scenario) => scenario,

@@ -87,8 +87,10 @@ promised (Stress seed frames) status input source source' sink sink' e f k = sum
 promised (Record node) status input source source' sink sink' e f k = log node input source source' sink sink' e f k
 promised Replay status input source source' sink sink' e f k = tt
 promised (Spell letter) status input source source' sink sink' e f k = tt
-promised Letters status input source source' sink sink' e f k = headline _ status input source source' sink sink' e f k
-promised (Group which members) status input source source' sink sink' e f k = headline _ status input source source' sink sink' e f k
+promised Letters status input source source' sink sink' e f k =
+    record { report = headline _ status input source source' sink sink' e f k.report; alike = k.alike; received = k.received }
+promised (Group which members) status input source source' sink sink' e f k =
+    record { report = headline _ status input source source' sink sink' e f k.report; alike = k.alike; found = k.found }
 promised (Listen skip) status input source source' sink sink' e f k = tt
 promised (Show flag) status input source source' sink sink' e f k = tt
 

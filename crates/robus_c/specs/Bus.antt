@@ -3,6 +3,9 @@ use Rattle.std.specs.Prelude.{⊤, ℕ, ◌≡◌, ◌<◌, ◌⊎◌, true, Lis
 use Rattle.rb_base.specs.declared.node.NodeName.{NodeName}
 use Rattle.rb_rules.specs.Goodness.{Scenario}
 use Rattle.rb_rules.specs.Rounds.{records_of}
+use Rattle.rb_group.specs.declared.voters.Which.{Which}
+use Rattle.rb_laws_groups.specs.Laws.{FindsTheMembers, PortsFindAlike}
+use Rattle.rb_laws_letters.specs.Laws.{PortsReceiveAlike, PortsReceiveGoodSenders}
 use Rattle.rb_laws_logs.specs.Laws.{EndsWithoutBreach, IsGoodThroughout, report_of_node}
 use Rattle.rb_laws_promise.specs.Promise.{KeepsThePromise}
 use Rattle.rb_gen.specs.Generated.{generated}
@@ -45,7 +48,7 @@ abbrev pub IsOver : Option ℕ → List ℕ → Type 0
 IsOver None input = ⊥
 IsOver (Some limit) input = limit < length input
 
--- The promise of `run`, of `letters` and of `group`, at Done and at Breach
+-- The promise of a report of a run, as `run` writes it, at Done and at Breach
 pub record KeepsTheHeadline (tells : Telling) (status : Status) (input output : List ℕ) : Type 0 where
   pub scenario : Scenario
   pub accepted : IsTextOf input scenario  -- the input is the text of an accepted scenario
@@ -58,6 +61,18 @@ pub record SumsTheHeadline (seed frames : ℕ) (status : Status) (output : List 
   pub ends : EndsAs (generated seed frames) status  -- the answer is Breach if and only if its rounds end with a breach
   pub is : output ≡ summary_with ends.ending (records_of (generated seed frames) [])  -- the output is the numbers of its rounds
   pub promise : KeepsThePromise (generated seed frames) []  -- the run keeps the promise of the bus up to its breach
+
+-- The promise of `letters`, at Done and at Breach: that of its report, and of what ports receive
+pub record KeepsTheLetters (status : Status) (input output : List ℕ) : Type 0 where
+  pub report : KeepsTheHeadline told_by_letters status input output
+  pub alike : PortsReceiveAlike report.scenario []  -- good ports receive the same letters from each sender, in the same slots
+  pub received : PortsReceiveGoodSenders report.scenario []  -- they receive the letters of a good sender whole, once and in order
+
+-- The promise of `group`, at Done and at Breach: that of its report, and of what ports find
+pub record KeepsTheGroup (which : Which) (members : ℕ) (status : Status) (input output : List ℕ) : Type 0 where
+  pub report : KeepsTheHeadline (told_by_group which members) status input output
+  pub alike : PortsFindAlike report.scenario [] which members  -- good ports find equal values in each frame
+  pub found : FindsTheMembers report.scenario [] which members  -- and the word of the good members, if these outnumber the others
 
 -- The promise of `record`, at Done and at Breach
 pub record KeepsTheLog (node : NodeName) (input output : List ℕ) : Type 0 where
@@ -76,8 +91,8 @@ KeepsItsPromise (Stress seed frames) status input output = SumsTheHeadline seed 
 KeepsItsPromise (Record node) status input output = KeepsTheLog node input output
 KeepsItsPromise Replay status input output = ⊤
 KeepsItsPromise (Spell letter) status input output = ⊤
-KeepsItsPromise Letters status input output = KeepsTheHeadline told_by_letters status input output
-KeepsItsPromise (Group which members) status input output = KeepsTheHeadline (told_by_group which members) status input output
+KeepsItsPromise Letters status input output = KeepsTheLetters status input output
+KeepsItsPromise (Group which members) status input output = KeepsTheGroup which members status input output
 KeepsItsPromise (Listen skip) status input output = ⊤
 KeepsItsPromise (Show flag) status input output = ⊤
 

@@ -3,12 +3,13 @@ use Rattle.rb_top.specs.CheckText.{check_text}
 use Rattle.rb_top.proofs.CommandAnswers.{Writes, check_reads, none_answers, not_two, of_two, sides_answer}
 use Rattle.rb_top.specs.Commands.{check_command}
 use Rattle.rb_top.proofs.Completeness.{check_sound}
+use Rattle.rb_top.specs.declared.form.Form.TheVariants.{Check}
 use Rattle.rb_top.proofs.Called.{answers_alone}
 use Rattle.rb_top.proofs.commands.check.Goals as goal
 
 pub returns-in-Ok : goal.returns-in-Ok
 returns-in-Ok g c =
-    answers_alone check_command check_sound _ g.S.Source.left g.S.Source.faults _ _ g.K.Sink.held g.K.Sink.faults _ _
+    answers_alone Check check_sound _ g.S.Source.left g.S.Source.faults _ _ g.K.Sink.held g.K.Sink.faults _ _
     (λ is_plain told.
     let text = check_text c.in-Ok.scenario.plan.sizes c.in-Ok.scenario.plan.plan in
     let P : g.row.K.Denot → Type 0 = λ k. Writes text c.show_sides.result (g.K.Sink.held k) (g.K.Sink.held c.show_sides.new.output) (g.K.Sink.faults k) (g.K.Sink.faults c.show_sides.new.output) in
@@ -23,7 +24,7 @@ returns-in-Ok g c =
 
 pub returns-in-Err : goal.returns-in-Err
 returns-in-Err g c =
-    answers_alone check_command check_sound _ g.S.Source.left g.S.Source.faults _ _ g.K.Sink.held g.K.Sink.faults _ _
+    answers_alone Check check_sound _ g.S.Source.left g.S.Source.faults _ _ g.K.Sink.held g.K.Sink.faults _ _
     (λ is_plain told.
     none_answers check_command check_reads c.in-Err.status _ _ _ _ _ _ _ _ is_plain told c.in-Err.ensures.none)
     (c.in-Err.ensures.nothing)

@@ -6,13 +6,13 @@ use Rattle.rb_top.specs.Inputs.{member_text}
 use Rattle.rb_top.specs.Texts.{told_by_group}
 use Rattle.rb_top.specs.Commands.{group_command}
 use Rattle.rb_top.proofs.Completeness.{group_sound}
-use Rattle.rb_top.proofs.Promised.{group_promised}
+use Rattle.rb_top.specs.declared.form.Form.TheVariants.{Group}
 use Rattle.rb_top.proofs.Called.{answers_driven}
 use Rattle.rb_top.proofs.commands.group.Goals as goal
 
 pub returns-in-Err : goal.returns-in-Err
 returns-in-Err g c =
-    answers_driven (group_command c.args.asked.now.which c.args.asked.now.members) (told_by_group c.args.asked.now.which c.args.asked.now.members) (group_sound _ _) _ g.S.Source.left g.S.Source.faults _ _ g.K.Sink.held g.K.Sink.faults _ _ g.D.Drive.is_plain g.D.Drive.told _ _ (group_promised _ _ _ _ _ _ _ _ _ _)
+    answers_driven (Group c.args.asked.now.which c.args.asked.now.members) (group_sound _ _) _ g.S.Source.left g.S.Source.faults _ _ g.K.Sink.held g.K.Sink.faults _ _ g.D.Drive.is_plain g.D.Drive.told _ _
     (none_answers (group_command c.args.asked.now.which c.args.asked.now.members) (group_reads c.args.asked.now.which c.args.asked.now.members) c.in-Err.status _ _ _ _ _ _ _ _ _ _ c.in-Err.ensures.none)
     (c.in-Err.ensures.nothing)
     (λ h. refl)
@@ -21,7 +21,7 @@ pub returns-then-not-has_all : goal.returns-then-not-has_all
 returns-then-not-has_all g c =
     let Q : ℕ → Type 0 = λ m. AreMembers c.in-Ok.scenario.plan.sizes m in
     let P : g.row.K.Denot → Type 0 = λ k. Lacks member_text c.refuse_member.result (g.K.Sink.held k) (g.K.Sink.held c.refuse_member.new.output) (g.K.Sink.faults k) (g.K.Sink.faults c.refuse_member.new.output) in
-    answers_driven (group_command c.args.asked.now.which c.args.asked.now.members) (told_by_group c.args.asked.now.which c.args.asked.now.members) (group_sound _ _) _ g.S.Source.left g.S.Source.faults _ _ g.K.Sink.held g.K.Sink.faults _ _ g.D.Drive.is_plain g.D.Drive.told _ _ (group_promised _ _ _ _ _ _ _ _ _ _)
+    answers_driven (Group c.args.asked.now.which c.args.asked.now.members) (group_sound _ _) _ g.S.Source.left g.S.Source.faults _ _ g.K.Sink.held g.K.Sink.faults _ _ g.D.Drive.is_plain g.D.Drive.told _ _
     (lack_answers (group_command c.args.asked.now.which c.args.asked.now.members) c.in-Ok.scenario member_text c.refuse_member.result _ _ _ _ _ _ _ _ _ _ (group_reads c.args.asked.now.which c.args.asked.now.members)
     (lacks_member c.in-Ok.scenario c.args.asked.now.which c.args.asked.now.members
     (λ there. false≢true (sym c.if-not-has_all.true ∙ c.has_all.ensures.1 (subst Q (sym c.bits.ensures) there)))) c.in-Ok.ensures.scenario
@@ -40,7 +40,7 @@ returns g c =
     let Q : ℕ → Type 0 = λ m. AreMembers c.in-Ok.scenario.plan.sizes m in
     let P : g.row.K.Denot → Type 0 = λ k. Reports (told_by_group asked.which asked.members) c.in-Ok.scenario c.tell_group.result (g.K.Sink.held k) (g.K.Sink.held c.tell_group.new.output)
     (g.K.Sink.faults k) (g.K.Sink.faults c.tell_group.new.output) (g.D.Drive.is_plain c.args.drive.now) (g.D.Drive.told c.args.drive.now) (g.D.Drive.told c.tell_group.new.drive) in
-    answers_driven (group_command c.args.asked.now.which c.args.asked.now.members) (told_by_group c.args.asked.now.which c.args.asked.now.members) (group_sound _ _) _ g.S.Source.left g.S.Source.faults _ _ g.K.Sink.held g.K.Sink.faults _ _ g.D.Drive.is_plain g.D.Drive.told _ _ (group_promised _ _ _ _ _ _ _ _ _ _)
+    answers_driven (Group c.args.asked.now.which c.args.asked.now.members) (group_sound _ _) _ g.S.Source.left g.S.Source.faults _ _ g.K.Sink.held g.K.Sink.faults _ _ g.D.Drive.is_plain g.D.Drive.told _ _
     (report_answers (group_command asked.which asked.members) (told_by_group asked.which asked.members) c.in-Ok.scenario c.tell_group.result _ _ _ _ _ _ _ _ _ _ _
     (group_tells c.in-Ok.scenario asked.which asked.members (subst Q c.bits.ensures (c.has_all.ensures.0 c.if-not-has_all.false))) c.in-Ok.ensures.scenario
     (subst P c.in-Ok.ensures.unwritten

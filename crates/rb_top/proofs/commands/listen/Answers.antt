@@ -4,12 +4,13 @@ use Rattle.rb_top.specs.Commands.{IsNotForListeners, IsOverheard, listen_command
 use Rattle.rb_top.specs.Inputs.{log_limit}
 use Rattle.rb_top.proofs.CommandAnswers.{alone_answers, logs_write, unread_answers}
 use Rattle.rb_top.proofs.Completeness.{listen_sound}
+use Rattle.rb_top.specs.declared.form.Form.TheVariants.{Listen}
 use Rattle.rb_top.proofs.Called.{answers_alone}
 use Rattle.rb_top.proofs.commands.listen.Goals as goal
 
 pub returns-in-Ok : goal.returns-in-Ok
 returns-in-Ok g c =
-    answers_alone (listen_command c.args.skip) (listen_sound c.args.skip) _ g.S.Source.left g.S.Source.faults _ _ g.K.Sink.held g.K.Sink.faults _ _
+    answers_alone (Listen c.args.skip) (listen_sound c.args.skip) _ g.S.Source.left g.S.Source.faults _ _ g.K.Sink.held g.K.Sink.faults _ _
     (λ is_plain told.
     let P : List ℕ → Type 0 = λ b. ReadsToEnd (g.S.Source.left c.args.input.now) (g.S.Source.left c.read_log.new.input) b in
     alone_answers log_limit (IsOverheard c.args.skip) IsNotForListeners c.deref.result.now c.listen_to.result _ _ _ _ _ _ _ _ is_plain told
@@ -25,7 +26,7 @@ returns-in-Ok g c =
 
 pub returns-in-Err : goal.returns-in-Err
 returns-in-Err g c =
-    answers_alone (listen_command c.args.skip) (listen_sound c.args.skip) _ g.S.Source.left g.S.Source.faults _ _ g.K.Sink.held g.K.Sink.faults _ _
+    answers_alone (Listen c.args.skip) (listen_sound c.args.skip) _ g.S.Source.left g.S.Source.faults _ _ g.K.Sink.held g.K.Sink.faults _ _
     (λ is_plain told.
     unread_answers (listen_command c.args.skip) c.in-Err.status _ _ _ _ _ _ is_plain told c.in-Err.ensures.one_of c.in-Err.ensures.unread)
     (λ h. refl)

@@ -4,12 +4,13 @@ use Rattle.rb_top.specs.Commands.{IsReplay, replay_command}
 use Rattle.rb_top.specs.Inputs.{BreaksLog, log_limit}
 use Rattle.rb_top.proofs.CommandAnswers.{alone_answers, logs_write, unread_answers}
 use Rattle.rb_top.proofs.Completeness.{replay_sound}
+use Rattle.rb_top.specs.declared.form.Form.TheVariants.{Replay}
 use Rattle.rb_top.proofs.Called.{answers_alone}
 use Rattle.rb_top.proofs.commands.replay.Goals as goal
 
 pub returns-in-Ok : goal.returns-in-Ok
 returns-in-Ok g c =
-    answers_alone replay_command replay_sound _ g.S.Source.left g.S.Source.faults _ _ g.K.Sink.held g.K.Sink.faults _ _
+    answers_alone Replay replay_sound _ g.S.Source.left g.S.Source.faults _ _ g.K.Sink.held g.K.Sink.faults _ _
     (λ is_plain told.
     let P : List ℕ → Type 0 = λ b. ReadsToEnd (g.S.Source.left c.args.input.now) (g.S.Source.left c.read_log.new.input) b in
     alone_answers log_limit IsReplay BreaksLog c.deref.result.now c.replay_bytes.result _ _ _ _ _ _ _ _ is_plain told
@@ -25,7 +26,7 @@ returns-in-Ok g c =
 
 pub returns-in-Err : goal.returns-in-Err
 returns-in-Err g c =
-    answers_alone replay_command replay_sound _ g.S.Source.left g.S.Source.faults _ _ g.K.Sink.held g.K.Sink.faults _ _
+    answers_alone Replay replay_sound _ g.S.Source.left g.S.Source.faults _ _ g.K.Sink.held g.K.Sink.faults _ _
     (λ is_plain told.
     unread_answers replay_command c.in-Err.status _ _ _ _ _ _ is_plain told c.in-Err.ensures.one_of c.in-Err.ensures.unread)
     (λ h. refl)
