@@ -20,7 +20,7 @@ use Rattle.rb_laws_agreement.proofs.Goodnesses.{good_earlier}
 use Rattle.rb_laws_agreement.proofs.Places.{running_earlier}
 use Rattle.rb_laws_agreement.proofs.Tests.{Present, present_if}
 use Rattle.rb_laws_groups.specs.Laws.{IsSchedule, Outnumber, first_among, first_slot, has_slot, is_number, last_data_slot, offer_in, offer_of, offers}
-use Rattle.rb_laws_groups.proofs.Frames.{is-early}
+use Rattle.rb_laws_groups.proofs.Frames.{is-early, slot-earlier}
 use Rattle.rb_laws_groups.proofs.Voted.{most-finds}
 use Rattle.rb_rules_bridge.specs.declared.bank.Bank.{Bank}
 use Rattle.rb_rules_bridge.specs.declared.bank.Bank.TheVariants.{Left, Right}
@@ -54,14 +54,6 @@ earlier-complete sc hands frame slot le complete =
   where
     later : (f s slot : ℕ) → slot ≤ s → f * (3 * s + 4 + 1) + 3 * slot + 4 - 1 ≤ (f + 1) * (3 * s + 4 + 1) + 3 * s + 4 - 1
     later f s slot h = omega (arith, h)
-
-slot-earlier : (sc : Scenario) (hands : List HandIn) (frame slot : ℕ) → slot ≤ sync_slot_of sc.sizes → IsComplete sc hands frame (sync_slot_of sc.sizes) → IsComplete sc hands frame slot
-slot-earlier sc hands frame slot le complete =
-    running_earlier sc hands (frame * (windows_in sc.sizes + 1) + 3 * slot + 4 - 1) (frame * (windows_in sc.sizes + 1) + 3 * sync_slot_of sc.sizes + 4 - 1)
-    (later (frame * (windows_in sc.sizes + 1)) slot (sync_slot_of sc.sizes) le) complete
-  where
-    later : (a slot s : ℕ) → slot ≤ s → a + 3 * slot + 4 - 1 ≤ a + 3 * s + 4 - 1
-    later a slot s h = omega (arith, h)
 
 same-frames : (b : Bridge) → IsBridge b → (bank : Bank) → (bus_on b bank).frames ≡ b.left.frames
 same-frames b is Left = refl
@@ -129,7 +121,7 @@ sound-offers b bank frame owner c pair inside sound =
     let some : 1 ≤ sc.sizes.bius = (c.bridge.lawful bank).sizes.some_biu in
     let good : is_good sc Biu i (frame + 1) slot ≡ true = good_earlier sc Biu i (frame + 1) slot (sync_slot_of sc.sizes) (omega (arith, within.1)) far in
     let head : IsHead sc i = all-in (λ pair. IsHead sc (biu_on bank pair)) pair b.pairs inside (c.bridge.heads bank) in
-    let complete : IsComplete sc hands (frame + 1) slot = slot-earlier sc hands (frame + 1) slot (omega (arith, within.1)) (c.unbroken bank) in
+    let complete : IsComplete sc hands (frame + 1) slot = slot-earlier sc hands (frame + 1) slot (sync_slot_of sc.sizes) (omega (arith, within.1)) (c.unbroken bank) in
     let run : frame + 1 < sc.frames = frame-inside sc hands (c.bridge.lawful bank) (frame + 1) slot complete in
     let frames : sc.frames ≡ b.left.frames = same-frames b c.bridge bank in
     let handed : states_for i (suc frame) hands ≡ word ∷ [] =
@@ -249,6 +241,6 @@ words-cross b is bank frame unbroken owner schedule more receiver good =
     let shape : IsShape sc.sizes = (is.lawful bank).sizes in
     let within : last_data_slot sc.sizes ≤ sync_slot_of sc.sizes = omega arith in
     let c : IsCrossing b bank frame owner = record { bridge = is; unbroken = unbroken; schedule = schedule } in
-    most-finds sc hands (is.lawful bank) (frame + 1) (slot-earlier sc hands (frame + 1) (last_data_slot sc.sizes) within (unbroken bank)) owner schedule
-    (members_on b bank) (word_on b (across bank) frame) (offers-outnumber b bank frame owner c more)
+    most-finds sc hands (is.lawful bank) (members_on b bank) (frame + 1) (slot-earlier sc hands (frame + 1) (last_data_slot sc.sizes) (sync_slot_of sc.sizes) within (unbroken bank)) owner schedule
+    (word_on b (across bank) frame) (offers-outnumber b bank frame owner c more)
     receiver (good_earlier sc Biu receiver (frame + 1) (last_data_slot sc.sizes) (sync_slot_of sc.sizes) within good)

@@ -1,5 +1,5 @@
 -- A table that is handed one word as a frame begins offers it through the frame, and each BIU of the bridge is handed one word.
-use Rattle.std.proofs.Common.{◌≡◌, ℕ, zero, suc, ◌+◌, ◌^◌, ◌%◌, ◌<◌, ◌≤◌, ◌==◌, ◌&&◌, Bool, true, false, inl, inr, cond, eqb, Option, Some, None, List, [], ◌∷◌, filter, map, get_or, if◌then◌else◌, refl, sym, ◌∙◌, ap, arith}
+use Rattle.std.proofs.Common.{◌≡◌, ℕ, suc, ◌+◌, ◌^◌, ◌%◌, ◌<◌, ◌≤◌, ◌==◌, ◌&&◌, Bool, true, false, inl, inr, cond, eqb, List, [], ◌∷◌, filter, map, get_or, refl, sym, ◌∙◌, ap, arith}
 use Rattle.std.specs.List.{IsDistinct}
 use Rattle.std.proofs.lemmas.Bool.Decides.{nat_tests}
 use Rattle.rb_base.specs.Nodes.Side.{Biu}

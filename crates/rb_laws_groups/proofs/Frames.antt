@@ -30,10 +30,11 @@ use Rattle.rb_laws_groups.proofs.Owned.{HasState, IsDeliveredOf, SlotAdds, deliv
 
 -- The data slots are complete.
 
-pub slot-complete : (sc : Scenario) (hands : List HandIn) (frame slot : ℕ) → AreServed sc hands frame → slot ≤ last_data_slot sc.sizes → IsComplete sc hands frame slot
-slot-complete sc hands frame slot are within =
-    running_earlier sc hands (frame * (windows_in sc.sizes + 1) + 3 * slot + 4 - 1) (frame * (windows_in sc.sizes + 1) + 3 * last_data_slot sc.sizes + 4 - 1)
-    (le (frame * (windows_in sc.sizes + 1)) slot (last_data_slot sc.sizes) within) are
+-- the slots before a complete one are complete
+pub slot-earlier : (sc : Scenario) (hands : List HandIn) (frame slot last : ℕ) → slot ≤ last → IsComplete sc hands frame last → IsComplete sc hands frame slot
+slot-earlier sc hands frame slot last within complete =
+    running_earlier sc hands (frame * (windows_in sc.sizes + 1) + 3 * slot + 4 - 1) (frame * (windows_in sc.sizes + 1) + 3 * last + 4 - 1)
+    (le (frame * (windows_in sc.sizes + 1)) slot last within) complete
   where
     le : (a slot last : ℕ) → slot ≤ last → a + 3 * slot + 4 - 1 ≤ a + 3 * last + 4 - 1
     le a slot last h = omega (arith, h)
@@ -93,7 +94,7 @@ data-slots sc hands law frame are owner schedule port good (suc n) le i =
     let within : slot ≤ last_data_slot sc.sizes = omega (arith, le) in
     let below : slot < sync_slot_of sc.sizes = omega (arith, le) in
     let adds : SlotAdds sc hands frame slot port owner =
-    slot-adds sc hands law frame slot port below (slot-complete sc hands frame slot are within) (good_earlier sc Biu port frame slot (last_data_slot sc.sizes) within good) owner
+    slot-adds sc hands law frame slot port below (slot-earlier sc hands frame slot (last_data_slot sc.sizes) within are) (good_earlier sc Biu port frame slot (last_data_slot sc.sizes) within good) owner
     (λ st before. schedule slot (omega arith) within Biu port st before) in
     let before : IsDeliveredOf sc hands frame i (first_among owner i (range_with_len sc.sizes.bius n)) (first_of i (told_in frame port (before_slot sc hands frame slot).book)) =
     data-slots sc hands law frame are owner schedule port good n (omega (arith, le)) i in
@@ -188,7 +189,7 @@ frames-have-a-schedule sc hands law frame are port good = (owner, held)
     held slot from within me i st before =
         let some : 1 ≤ sc.sizes.data_slots = law.sizes.some_slot in
         let below : slot < sync_slot_of sc.sizes = omega (arith, within, some) in
-        let complete : IsComplete sc hands frame slot = slot-complete sc hands frame slot are within in
+        let complete : IsComplete sc hands frame slot = slot-earlier sc hands frame slot (last_data_slot sc.sizes) within are in
         let state : HasState sc hands frame slot port =
         has-state sc hands law frame slot port below complete (good_earlier sc Biu port frame slot (last_data_slot sc.sizes) within good) in
         same-owner (role_of sc.sizes slot) st state.st (one-schedule sc hands law frame slot from (omega (arith, below)) complete me Biu i port st state.st before state.is)

@@ -88,7 +88,7 @@ fewer sc hands frame owner ds members chosen are more =
 
 pub most-finds : MostFindsTheWord
 unfolding values_of
-most-finds sc hands law frame served owner schedule members word more port good =
+most-finds sc hands law members frame served owner schedule word more port good =
     vote_is (value_of members ds) (offers sc hands frame owner members word) (Word word) said (numbers 16)
     (fewer sc hands frame owner ds members (offers sc hands frame owner members word) are more)
   where
@@ -197,7 +197,7 @@ middle-found f chosen js low high gave more =
 
 pub mid-stays : MidStaysBetween
 unfolding values_of
-mid-stays sc hands law frame served owner schedule members more low high offered port good =
+mid-stays sc hands law members frame served owner schedule more low high offered port good =
     middle-found (value_of members ds) (is_good_owner sc hands frame owner members) (numbers 16) low high gave
     (fewer sc hands frame owner ds members (is_good_owner sc hands frame owner members) are more)
   where

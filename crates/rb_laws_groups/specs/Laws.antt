@@ -80,11 +80,14 @@ Outnumber chosen all = count_if (λ i. not (chosen i) && all i) (numbers 16) < c
 
 -- The laws.
 
--- good ports hold equal values of each group
-abbrev pub GroupsAgree : Type 0
-GroupsAgree =
-    (sc : Scenario) (hands : List HandIn) → IsLawful sc → (which : Which) (members frame i j : ℕ) → IsGoodPort sc frame i → IsGoodPort sc frame j
+-- good ports find equal values for a group in each frame
+abbrev pub PortsFindAlike : Scenario → List HandIn → Which → ℕ → Type 0
+PortsFindAlike sc hands which members =
+    (frame i j : ℕ) → IsGoodPort sc frame i → IsGoodPort sc frame j
     → value_at which members (records_of sc hands) frame i ≡ value_at which members (records_of sc hands) frame j
+
+abbrev pub GroupsAgree : Type 0
+GroupsAgree = (sc : Scenario) (hands : List HandIn) → IsLawful sc → (which : Which) (members : ℕ) → PortsFindAlike sc hands which members
 
 -- each frame with a good port has one schedule
 abbrev pub FramesHaveASchedule : Type 0
@@ -92,25 +95,38 @@ FramesHaveASchedule =
     (sc : Scenario) (hands : List HandIn) → IsLawful sc → (frame : ℕ) → AreServed sc hands frame → (port : ℕ) → IsGoodPort sc frame port
     → (owner : ℕ → Option ℕ) × IsSchedule sc hands frame owner
 
--- a word that more members offer as good owners than other members own a slot is the value of the group
-abbrev pub MostFindsTheWord : Type 0
-MostFindsTheWord =
-    (sc : Scenario) (hands : List HandIn) → IsLawful sc → (frame : ℕ) → AreServed sc hands frame
-    → (owner : ℕ → Option ℕ) → IsSchedule sc hands frame owner → (members word : ℕ)
+-- In each frame whose data slots are served, with the owners of these slots: if the members that offer a word as good owners outnumber the other
+-- members that own a slot, every good port finds this word for the group
+abbrev pub FindsTheirWord : Scenario → List HandIn → ℕ → Type 0
+FindsTheirWord sc hands members =
+    (frame : ℕ) → AreServed sc hands frame
+    → (owner : ℕ → Option ℕ) → IsSchedule sc hands frame owner → (word : ℕ)
     → Outnumber (offers sc hands frame owner members word) (has_slot sc owner members)
     → (port : ℕ) → IsGoodPort sc frame port → value_at Most members (records_of sc hands) frame port ≡ Word word
+
+abbrev pub MostFindsTheWord : Type 0
+MostFindsTheWord = (sc : Scenario) (hands : List HandIn) → IsLawful sc → (members : ℕ) → FindsTheirWord sc hands members
 
 -- the words of the good owners among the members lie between these
 abbrev pub OffersAreWithin : Scenario → List HandIn → ℕ → (ℕ → Option ℕ) → ℕ → ℕ → ℕ → Type 0
 OffersAreWithin sc hands frame owner members low high =
     (i word : ℕ) → has members i ≡ true → offer_of sc hands frame owner i ≡ Some word → (low ≤ word) × (word ≤ high)
 
--- where the good owners among the members outnumber the others that own a slot, the middle word lies between theirs
-abbrev pub MidStaysBetween : Type 0
-MidStaysBetween =
-    (sc : Scenario) (hands : List HandIn) → IsLawful sc → (frame : ℕ) → AreServed sc hands frame
-    → (owner : ℕ → Option ℕ) → IsSchedule sc hands frame owner → (members : ℕ)
+-- In each frame whose data slots are served, with the owners of these slots: if the good owners among the members outnumber the other members that
+-- own a slot, every good port finds a word for the group that lies between those of the good owners
+abbrev pub StaysBetweenThem : Scenario → List HandIn → ℕ → Type 0
+StaysBetweenThem sc hands members =
+    (frame : ℕ) → AreServed sc hands frame
+    → (owner : ℕ → Option ℕ) → IsSchedule sc hands frame owner
     → Outnumber (is_good_owner sc hands frame owner members) (has_slot sc owner members)
     → (low high : ℕ) → OffersAreWithin sc hands frame owner members low high
     → (port : ℕ) → IsGoodPort sc frame port
     → (word : ℕ) × ((value_at Mid members (records_of sc hands) frame port ≡ Word word) × ((low ≤ word) × (word ≤ high)))
+
+abbrev pub MidStaysBetween : Type 0
+MidStaysBetween = (sc : Scenario) (hands : List HandIn) → IsLawful sc → (members : ℕ) → StaysBetweenThem sc hands members
+
+-- what the voter finds of the good members' words
+abbrev pub FindsTheMembers : Scenario → List HandIn → Which → ℕ → Type 0
+FindsTheMembers sc hands Most members = FindsTheirWord sc hands members
+FindsTheMembers sc hands Mid members = StaysBetweenThem sc hands members

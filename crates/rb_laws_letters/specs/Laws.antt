@@ -52,16 +52,19 @@ pub record ReceiveAlike (i j sender : ℕ) (records : List Record) : Type 0 wher
   pub letters : letters_of i sender (deliveries_in records) ≡ letters_of j sender (deliveries_in records)
   pub left_open : open_at i sender (deliveries_in records) ≡ open_at j sender (deliveries_in records)
 
--- So is it at BIUs that are good in each slot of these records, after each record: they receive the same letters in the same slots. A
--- breach is no slot: all that is recorded was delivered before it
-abbrev pub GoodPortsReceiveAlike : Type 0
-GoodPortsReceiveAlike =
-    (sc : Scenario) (hands : List HandIn) → IsLawful sc → (records : List Record) → AreFirst sc hands records
+-- After each record of the run, two BIUs that are good in every slot recorded so far have received the same from each sender: the same letters in
+-- the same slots. A breach is no slot: all that is recorded was delivered before it
+abbrev pub PortsReceiveAlike : Scenario → List HandIn → Type 0
+PortsReceiveAlike sc hands =
+    (records : List Record) → AreFirst sc hands records
     → (i j : ℕ) → IsGoodThrough sc i records → IsGoodThrough sc j records → (sender : ℕ) → ReceiveAlike i j sender records
 
--- Where the sender is good, a good port's values are the words that it offers, none left out and none lost. Where these are the first of
--- some letters' words, but for zeros, the letters that the port receives are the first of these, each whole and once, and all of these
--- where all their words were delivered
+abbrev pub GoodPortsReceiveAlike : Type 0
+GoodPortsReceiveAlike = (sc : Scenario) (hands : List HandIn) → IsLawful sc → PortsReceiveAlike sc hands
+
+-- The values that the port has received are the words that the sender offered, in order, with none left out and none lost. If these words without
+-- their zeros are the first of some letters' words, the letters that the port receives are the first of these letters, each whole and once, and
+-- all of these letters if all their words were delivered
 pub record ReceivesFrom (sc : Scenario) (hands : List HandIn) (records : List Record) (receiver sender : ℕ) : Type 0 where
   pub values : values_of receiver sender (deliveries_in records) ≡ heard_words (offered_by sc hands sender records)
   pub first : (letters : List (List ℕ)) → All IsLetter letters → IsFirstPart (without_zeros (offered_by sc hands sender records)) (words_of letters)
@@ -69,10 +72,14 @@ pub record ReceivesFrom (sc : Scenario) (hands : List HandIn) (records : List Re
   pub all : (letters : List (List ℕ)) → All IsLetter letters → without_zeros (offered_by sc hands sender records) ≡ words_of letters
       → letters_of receiver sender (deliveries_in records) ≡ letters
 
-abbrev pub GoodSendersAreReceived : Type 0
-GoodSendersAreReceived =
-    (sc : Scenario) (hands : List HandIn) → IsLawful sc → (records : List Record) → AreFirst sc hands records
+-- after each record of the run, a BIU has so received from a sender, if both are good in every slot recorded so far
+abbrev pub PortsReceiveGoodSenders : Scenario → List HandIn → Type 0
+PortsReceiveGoodSenders sc hands =
+    (records : List Record) → AreFirst sc hands records
     → (receiver sender : ℕ) → IsGoodThrough sc receiver records → IsGoodThrough sc sender records → ReceivesFrom sc hands records receiver sender
+
+abbrev pub GoodSendersAreReceived : Type 0
+GoodSendersAreReceived = (sc : Scenario) (hands : List HandIn) → IsLawful sc → PortsReceiveGoodSenders sc hands
 
 -- So a port receives the letters that were pushed: where the words that a good sender offers are those that it was given by what it keeps
 -- its letters in, its letters arrive at a good port, the first of those that were taken, each whole and once; and all of them where none

@@ -1,2 +1,4 @@
 pub mod Promise
 pub mod Whole
+pub mod Passes
+pub mod Shares

@@ -8,11 +8,13 @@ use Rattle.rb_rules.specs.Rounds.{records_of}
 use Rattle.rb_rules.specs.StandsFor.{StandsFor}
 use Rattle.rb_laws_events.specs.Promise.{RunningNodesKeepThePromise}
 use Rattle.rb_laws_groups.specs.Lines.{IsRight}
+use Rattle.rb_laws_promise.specs.Shares.{GetTheirShare}
 
 -- The run of a scenario with these hand-ins keeps the promise up to its first breach of the fault premise
 pub record KeepsThePromise (sc : Scenario) (hands : List HandIn) : Type 0 where
   pub headline : Headline sc hands  -- good nodes begin slots near each other, deliver alike, hold one schedule, and convict the same nodes
   pub machine : StandsFor sc hands  -- all good nodes together are one machine, the abstract bus
+  pub shares : GetTheirShare sc hands  -- each good BIU owns the data slots that it asks for, up to an equal share
   pub records : All (IsRight sc hands) (records_of sc hands)  -- a slot's record has no lines, or one line for each good BIU, with one sender and one value
   pub nodes : RunningNodesKeepThePromise sc  -- in every world of its events, the nodes that run hold what the rounds hold
 

@@ -4,6 +4,7 @@
 
 ghost use Rattle.rb_laws_promise.specs.Laws.{RoundsStandForTheBus, ThePromiseIsKept};
 ghost use Rattle.rb_laws_promise.specs.Promise.{RunsKeepThePromise};
+ghost use Rattle.rb_laws_promise.specs.Shares.{GoodBiusGetTheirShare};
 
 /// Up to the first breach of the fault premise the rounds stand for a run of the abstract bus: at
 /// each begin of a frame and in each slot all good nodes hold what it holds.
@@ -18,9 +19,16 @@ pub fn the_promise_is_kept()
     ensures { ThePromiseIsKept }
 {}
 
+/// Up to the first breach of the fault premise, a good BIU that asks for `r` slots owns at least `r`
+/// data slots in each frame, or an equal share of them (their number by that of the BIUs, rounded
+/// down) if `r` is more, whatever the other BIUs ask for.
+pub fn good_bius_get_their_share()
+    ensures { GoodBiusGetTheirShare }
+{}
+
 /// Every run of a lawful scenario keeps the whole promise, for any hand-ins: that of
-/// `the_promise_is_kept`, that of `rounds_stand_for_the_bus`, that of the lines of each slot's
-/// record, and that of the nodes that run event by event.
+/// `the_promise_is_kept`, `rounds_stand_for_the_bus` and `good_bius_get_their_share`, that of the
+/// lines of each slot's record, and that of the nodes that run event by event.
 pub fn runs_keep_the_promise()
     ensures { RunsKeepThePromise }
 {}
