@@ -110,5 +110,6 @@ pub record Promised (sc : Scenario) (hands : List HandIn) (given : List Record) 
   pub slots : All (IsRight sc hands) given  -- each record of a slot that was given has the right lines
   pub nodes : RunningNodesKeepThePromise sc  -- the running nodes keep the promise in every world of the scenario
 
+-- the run of the bus is one of which all of that holds
 abbrev pub KeepsItsPromise : Bus → Type 0
 KeepsItsPromise = ForItsRun Promised

@@ -45,7 +45,7 @@ pub record AnswersNext (before after : Bus) (old shown : HostRecord) (status : �
   pub gives : status ≡ 0 → GivesShown before after shown × KeepsItsPromise after
   pub stays : status ≡ 7 → (after ≡ before) × (shown ≡ old)
 
--- at 10 the handle has no bus, and nothing changes
+-- a bus gives its next record; a handle without a bus answers 10, and nothing changes
 abbrev pub NextOf : Option Bus → Option Bus → HostRecord → HostRecord → ℕ → Type 0
 NextOf None after old shown status = (after ≡ None) × (shown ≡ old) × (status ≡ 10)
 NextOf (Some before) after old shown status = IsSomeAnd after (λ b. AnswersNext before b old shown status)
@@ -65,7 +65,7 @@ pub record AnswersHand (biu word : ℕ) (before after : Bus) (status : ℕ) : Ty
   pub is : status ≡ number_of answer
   pub hands : Hands biu word before after answer
 
--- at 10 the handle has no bus, before and after
+-- a bus takes the word or refuses it; a handle without a bus answers 10, and has none after it
 abbrev pub HandOf : ℕ → ℕ → Option Bus → Option Bus → ℕ → Type 0
 HandOf biu word None after status = (after ≡ None) × (status ≡ 10)
 HandOf biu word (Some before) after status = IsSomeAnd after (λ b. AnswersHand biu word before b status)
