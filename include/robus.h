@@ -261,16 +261,15 @@ bool robus_node_free(robus_node *node);
  * What is proved holds whatever is handed in and whatever the scenario's faulty nodes say. The
  * clauses are in crates/rb_bus/specs. At each call, of the run that the bus stands for (HasRun) and
  * up to the first breach of the fault premise (Promised):
- *   first, whole     the records given are the first records of the run of the rules with these
- *                    words, and all of them once the run has ended
- *   headline         good nodes begin each slot near each other, deliver alike, hold one schedule
- *                    and convict no good node
- *   words            the word that was last handed to a good BIU is the word that all good BIUs
- *                    deliver from it, in each of its slots
- *   slots            each record of a slot has one delivery for each good BIU, all of one value, or
- *                    none at all; if the sender is good, the value is the word last handed to it
- *   machine, nodes   all good nodes are one machine, and the nodes that run event by event hold what
- *                    the run of the rules holds
+ *   first, whole  the records given are the first records of the run of the rules with these words,
+ *                 and all of them once the run has ended
+ *   slots         each record of a slot has one delivery for each good BIU, all of one value, or none
+ *                 at all; if the sender is good, the value is the word that it was handed last
+ *   keeps         good nodes begin each slot near each other, deliver alike, hold one schedule,
+ *                 convict no good node and are one machine; the nodes that run event by event hold
+ *                 what the run of the rules holds
+ *   words         the word that was handed last to a good BIU is what all good BIUs deliver from it,
+ *                 in each of its slots
  */
 typedef struct robus_bus {
     bool there;   /* whether there is a bus */

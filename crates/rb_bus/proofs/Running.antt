@@ -4,17 +4,15 @@ use Rattle.std.proofs.lemmas.List.Elements.{All-cons, All-head, All-nil, All-tai
 use Rattle.rb_base.specs.Nodes.Side.{Biu}
 use Rattle.rb_rules.specs.Book.{Record}
 use Rattle.rb_rules.specs.Goodness.{Scenario, is_good}
-use Rattle.rb_rules.specs.Headline.{Headline}
 use Rattle.rb_rules.specs.Lawful.{IsLawful}
 use Rattle.rb_rules.specs.Ports.{HandIn, with_state}
 use Rattle.rb_rules.specs.Rounds.{records_of}
 use Rattle.rb_rules.specs.WorldStep.{IsPrefix, World, first_world, frame_in, hand}
 use Rattle.rb_laws_agreement.proofs.TablesHold.{held-delivered}
 use Rattle.rb_laws_events.proofs.EventsHold.{events-hold}
-use Rattle.rb_laws_events.proofs.NodesPromise.{keep-the-promise}
-use Rattle.rb_laws_groups.proofs.Rightness.{records-right}
 use Rattle.rb_laws_groups.specs.Lines.{IsRight}
-use Rattle.rb_laws_promise.proofs.Promise.{promise, stands}
+use Rattle.rb_laws_promise.proofs.Whole.{kept}
+use Rattle.rb_laws_promise.specs.Promise.{KeepsThePromise}
 use Rattle.rb_scenario.specs.Acceptance.{IsAccepted, as_scenario}
 use Rattle.rb_scenario.specs.declared.scenario.Scenario.{Scenario as Accepted}
 use Rattle.rb_world.specs.declared.last.Last.{Last}
@@ -159,15 +157,13 @@ all-first P (x ∷ xs) ys all = All-cons P x xs (All-head P x (xs ++ ys) all) (a
 pub promised : (b : Bus) → KeepsItsPromise b
 promised b sc hands given over is =
     let lawful : IsLawful sc = subst IsLawful is.bus_is is.stands.lawful in
-    let h : Headline sc hands = promise sc hands lawful in
+    let k : KeepsThePromise sc hands = kept sc hands lawful in
     record {
       first = first;
       whole = λ e. whole (is.over_is ∙ e);
-      headline = h;
-      machine = stands sc hands lawful;
-      words = held-delivered sc hands lawful h.words;
-      slots = all-first (IsRight sc hands) given first.0 (subst (All (IsRight sc hands)) first.1 (records-right sc hands lawful));
-      nodes = keep-the-promise sc lawful;
+      slots = all-first (IsRight sc hands) given first.0 (subst (All (IsRight sc hands)) first.1 k.records);
+      keeps = k;
+      words = held-delivered sc hands lawful k.headline.words;
     }
   where
     records-are : records_of b.world.bus is.world.hands ≡ records_of sc hands

@@ -2,15 +2,13 @@
 use Rattle.std.specs.Prelude.{ℕ, ◌≡◌, All, Bool, true, false, Option, Some, None, List, [], ◌∷◌, ◌++◌, Result, Ok, Err, get_or, length, slice_get}
 use Rattle.rb_base.specs.Nodes.Side.{Biu}
 use Rattle.rb_laws_agreement.specs.Held.{DeliverTheHeldWord}
-use Rattle.rb_laws_events.specs.Promise.{RunningNodesKeepThePromise}
 use Rattle.rb_laws_groups.specs.Lines.{IsRight}
+use Rattle.rb_laws_promise.specs.Promise.{KeepsThePromise}
 use Rattle.rb_rules.specs.Book.{Record}
 use Rattle.rb_rules.specs.Goodness.{Scenario, is_good}
-use Rattle.rb_rules.specs.Headline.{Headline}
 use Rattle.rb_rules.specs.Lawful.{IsLawful}
 use Rattle.rb_rules.specs.Ports.{HandIn}
 use Rattle.rb_rules.specs.Rounds.{records_of}
-use Rattle.rb_rules.specs.StandsFor.{StandsFor}
 use Rattle.rb_rules.specs.WorldStep.{IsPrefix, World, frame_in}
 use Rattle.rb_scenario.specs.Acceptance.{IsAccepted, as_scenario}
 use Rattle.rb_scenario.specs.declared.scenario.Scenario.{Scenario as Accepted}
@@ -104,11 +102,9 @@ Hands biu word before after (Err not.NoTable) =
 pub record Promised (sc : Scenario) (hands : List HandIn) (given : List Record) (over : Bool) : Type 0 where
   pub first : IsPrefix given (records_of sc hands)  -- they are the first records of the rounds with all that was handed in
   pub whole : over ≡ true → given ≡ records_of sc hands  -- they are all of those records once the run has ended
-  pub headline : Headline sc hands  -- the bus keeps its promise up to the first breach
-  pub machine : StandsFor sc hands  -- all good nodes are one machine
-  pub words : DeliverTheHeldWord sc hands  -- all good BIUs deliver the word that a good BIU's table was handed last
   pub slots : All (IsRight sc hands) given  -- each record of a slot that was given has the right lines
-  pub nodes : RunningNodesKeepThePromise sc  -- the running nodes keep the promise in every world of the scenario
+  pub keeps : KeepsThePromise sc hands  -- the run keeps the promise of the bus up to the first breach
+  pub words : DeliverTheHeldWord sc hands  -- all good BIUs deliver the word that a good BIU's table was handed last
 
 -- the run of the bus is one of which all of that holds
 abbrev pub KeepsItsPromise : Bus → Type 0
