@@ -1,5 +1,6 @@
 -- A bus in a host's hands, and its promise.
-use Rattle.std.specs.Prelude.{ℕ, ◌≡◌, All, Bool, true, false, Option, Some, None, List, [], ◌∷◌, ◌++◌, Result, Ok, Err, get_or, length, slice_get}
+use Rattle.std.specs.Prelude.{ℕ, ◌≡◌, All, Bool, true, false, Option, Some, None, List, [], ◌∷◌, ◌++◌}
+use Rattle.std.specs.Prelude.{Result, Ok, Err, get_or, length, slice_get}
 use Rattle.rb_base.specs.Nodes.Side.{Biu}
 use Rattle.rb_laws_agreement.specs.Held.{DeliverTheHeldWord}
 use Rattle.rb_laws_groups.specs.Lines.{IsRight}
@@ -23,89 +24,119 @@ use Rattle.rb_bus.specs.declared.bus.NotHanded.TheVariants as not
 
 -- The run of a bus.
 
--- the bus runs scenario `sc`; `hands` were handed in so far, and the records `given` were given; `over` says whether the run has ended
-pub record HasRun (sc : Scenario) (hands : List HandIn) (given : List Record) (over : Bool) (b : Bus) : Type 0 where
+pub record Run : Type 0 where
+  pub scenario : Scenario
+  pub hands : List HandIn  -- the words that were handed in so far
+  pub given : List Record  -- the records that were given so far
+  pub over : Bool  -- whether the run has ended
+
+-- the run of a scenario before its first record
+abbrev pub first_run : Scenario → Run
+first_run sc = record { scenario = sc; hands = []; given = []; over = false }
+
+-- the run with one more record given
+abbrev pub with_record : Run → Record → Run
+with_record run r = record run { given = run.given ++ r ∷ []; over = is_last (Some r) }
+
+-- the run with one more word handed in
+abbrev pub with_word : Run → HandIn → Run
+with_word run word = record run { hands = run.hands ++ word ∷ [] }
+
+-- the records of the rounds, with all that was handed in
+abbrev pub records_in : Run → List Record
+records_in run = records_of run.scenario run.hands
+
+-- the bus is in this run
+pub record HasRun (run : Run) (b : Bus) : Type 0 where
   pub world : World
   pub stands : Stands b.world world
-  pub bus_is : b.world.bus ≡ sc
-  pub hands_are : world.hands ≡ hands
-  pub given_are : world.book.given ≡ given
-  pub over_is : world.book.ended ≡ over
-  pub access_is : IsAccessOf sc b.access
+  pub bus_is : b.world.bus ≡ run.scenario
+  pub hands_are : world.hands ≡ run.hands
+  pub given_are : world.book.given ≡ run.given
+  pub over_is : world.book.ended ≡ run.over
+  pub access_is : IsAccessOf run.scenario b.access
   pub begun_is : b.begun ≡ frame_in world.turn
 
--- P holds of the run of the bus
-abbrev pub ForItsRun : (Scenario → List HandIn → List Record → Bool → Type 0) → Bus → Type 0
-ForItsRun P b =
-    (sc : Scenario) (hands : List HandIn) (given : List Record) (over : Bool) → HasRun sc hands given over b → P sc hands given over
+-- P holds of the run that the bus is in
+abbrev pub ForItsRun : (Run → Type 0) → Bus → Type 0
+ForItsRun P b = (run : Run) → HasRun run b → P run
 
--- the text is that of an accepted scenario, the scenario is lawful, and no record of its run has been given
+-- the text is that of an accepted scenario, which is lawful, and its run is before the first record
 pub record Opens (text : List ℕ) (b : Bus) : Type 0 where
   pub accepted : Accepted
   pub is : IsAccepted text accepted
   pub lawful : IsLawful (as_scenario accepted)
-  pub runs : HasRun (as_scenario accepted) [] [] false b
+  pub runs : HasRun (first_run (as_scenario accepted)) b
 
 -- Records.
 
--- if n records were given before, this is record n of the rounds with all that was handed in, counted from 0, and now it is given too
-pub record GivesNext (sc : Scenario) (hands : List HandIn) (given : List Record) (r : Record) (after : Bus) : Type 0 where
-  pub is_next : slice_get (records_of sc hands) (length given) ≡ Some r
-  pub runs : HasRun sc hands (given ++ r ∷ []) (is_last (Some r)) after
+-- after n records this is record n of the rounds, counted from 0, and now it is given too
+pub record GivesNext (run : Run) (r : Record) (after : Bus) : Type 0 where
+  pub is_next : slice_get (records_in run) (length run.given) ≡ Some r
+  pub runs : HasRun (with_record run r) after
 
--- the run has ended, and this is its last record once more
-pub record GivesLastAgain (sc : Scenario) (hands : List HandIn) (given : List Record) (r : Record) (after : Bus) : Type 0 where
+-- this is the last of the records given, once more
+pub record GivesLastAgain (run : Run) (r : Record) (after : Bus) : Type 0 where
   pub others : List Record
-  pub is : given ≡ others ++ r ∷ []
-  pub runs : HasRun sc hands given true after
+  pub is : run.given ≡ others ++ r ∷ []
+  pub runs : HasRun run after
 
--- a run that has not ended gives its next record, and one that has ended gives its last record again
-abbrev pub GivesRecord : Scenario → List HandIn → List Record → Bool → Record → Bus → Type 0
-GivesRecord sc hands given false r after = GivesNext sc hands given r after
-GivesRecord sc hands given true r after = GivesLastAgain sc hands given r after
+-- a run gives its next record, and one that has ended gives its last record again
+pub record GivesRecord (run : Run) (r : Record) (after : Bus) : Type 0 where
+  pub next : run.over ≡ false → GivesNext run r after
+  pub again : run.over ≡ true → GivesLastAgain run r after
 
--- a call gives a record as a turn; words may then be handed in if that record begins a frame
+-- a call gives a record as a turn; words may be handed in next if that record begins a frame
 pub record Gives (before after : Bus) (turn : Turn) : Type 0 where
   pub given_now : Record
   pub turn_is : record_of turn ≡ Some given_now
   pub begins : after.begun ≡ frame_in (Some given_now)
-  pub gives : ForItsRun (λ sc hands given over. GivesRecord sc hands given over given_now after) before
+  pub gives : ForItsRun (λ run. GivesRecord run given_now after) before
 
 -- Words.
 
--- the word is handed to the BIU's table, for the frame that the last record began; other BIUs may still be handed theirs
-pub record HandsIn (sc : Scenario) (hands : List HandIn) (given : List Record) (over : Bool) (biu word : ℕ) (before after : Bus) : Type 0 where
+-- The word is handed to the BIU's table, for the frame that the last record began. Other BIUs may
+-- still be handed theirs
+pub record HandsIn (run : Run) (biu word : ℕ) (before after : Bus) : Type 0 where
   pub frame : ℕ
   pub now : before.begun ≡ Some frame
-  pub good : is_good sc Biu biu frame 0 ≡ true
-  pub table : get_or sc.apps biu 0 ≡ 0
+  pub good : is_good run.scenario Biu biu frame 0 ≡ true
+  pub table : get_or run.scenario.apps biu 0 ≡ 0
   pub again : after.begun ≡ before.begun
-  pub runs : HasRun sc (hands ++ record { frame = frame; biu = biu; state = word } ∷ []) given over after
+  pub runs : HasRun (with_word run (record { frame = frame; biu = biu; state = word })) after
 
 -- the bus has no such BIU, or the BIU is not good as the frame begins
-pub record IsNotGood (sc : Scenario) (biu : ℕ) (b : Bus) : Type 0 where
+pub record IsNotGood (run : Run) (biu : ℕ) (b : Bus) : Type 0 where
   pub frame : ℕ
   pub now : b.begun ≡ Some frame
-  pub not_good : is_good sc Biu biu frame 0 ≡ false
+  pub not_good : is_good run.scenario Biu biu frame 0 ≡ false
+
+-- the BIU's application is not a table
+abbrev pub HasNoTable : Run → ℕ → Type 0
+HasNoTable run biu = ¬ (get_or run.scenario.apps biu 0 ≡ 0)
 
 -- a call hands in a word, or it changes nothing and its answer says why
 abbrev pub Hands : ℕ → ℕ → Bus → Bus → Result (Unit {0}) NotHanded → Type 0
-Hands biu word before after (Ok done) = ForItsRun (λ sc hands given over. HandsIn sc hands given over biu word before after) before
+Hands biu word before after (Ok done) = ForItsRun (λ run. HandsIn run biu word before after) before
 Hands biu word before after (Err not.NoFrame) = (after ≡ before) × (before.begun ≡ None)
-Hands biu word before after (Err not.NotGood) = (after ≡ before) × ForItsRun (λ sc hands given over. IsNotGood sc biu before) before
+Hands biu word before after (Err not.NotGood) =
+    (after ≡ before) × ForItsRun (λ run. IsNotGood run biu before) before
 Hands biu word before after (Err not.NoTable) =
-    (after ≡ before) × ForItsRun (λ sc hands given over. ¬ (get_or sc.apps biu 0 ≡ 0)) before
+    (after ≡ before) × ForItsRun (λ run. HasNoTable run biu) before
 
 -- The promise.
 
--- what the records given are worth, whatever was handed in
-pub record Promised (sc : Scenario) (hands : List HandIn) (given : List Record) (over : Bool) : Type 0 where
-  pub first : IsPrefix given (records_of sc hands)  -- they are the first records of the rounds with all that was handed in
-  pub whole : over ≡ true → given ≡ records_of sc hands  -- they are all of those records once the run has ended
-  pub slots : All (IsRight sc hands) given  -- each record of a slot that was given has the right lines
-  pub keeps : KeepsThePromise sc hands  -- the run keeps the promise of the bus up to the first breach
-  pub words : DeliverTheHeldWord sc hands  -- all good BIUs deliver the word that a good BIU's table was handed last
+-- What the records given are worth, whatever was handed in. They are the first records of the rounds
+-- (`first`), and all of them once the run has ended (`whole`); each record of a slot has the right
+-- lines (`slots`). The run keeps the promise of the bus up to its first breach (`keeps`), and all good
+-- BIUs deliver the word that the table of a good BIU was handed last (`words`)
+pub record Promised (run : Run) : Type 0 where
+  pub first : IsPrefix run.given (records_in run)
+  pub whole : run.over ≡ true → run.given ≡ records_in run
+  pub slots : All (IsRight run.scenario run.hands) run.given
+  pub keeps : KeepsThePromise run.scenario run.hands
+  pub words : DeliverTheHeldWord run.scenario run.hands
 
--- the run of the bus is one of which all of that holds
+-- the run that the bus is in is one of which all of that holds
 abbrev pub KeepsItsPromise : Bus → Type 0
 KeepsItsPromise = ForItsRun Promised

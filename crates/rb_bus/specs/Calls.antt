@@ -1,5 +1,6 @@
 -- What the calls over a handle promise.
-use Rattle.std.specs.Prelude.{ℕ, ◌≡◌, ◌⊎◌, Option, Some, None, IfErr, IsSomeAnd, List, OnErr, OnOk, Result, Ok, Err, unwrap_or}
+use Rattle.std.specs.Prelude.{ℕ, ◌≡◌, ◌⊎◌, Option, Some, None, IfErr, IsSomeAnd, List, OnErr, OnOk}
+use Rattle.std.specs.Prelude.{Result, Ok, Err, unwrap_or}
 use Rattle.rb_rules.specs.Book.{Record}
 use Rattle.rb_rules.specs.WorldStep.{frame_in}
 use Rattle.rb_scenario.specs.Acceptance.{IsRefused}
@@ -20,7 +21,11 @@ use Rattle.rb_bus.specs.declared.record.HostRecord.{HostRecord}
 abbrev pub opening_of : Result (Unit {0}) Refusal → Opening
 opening_of (Ok done) = record { status = 0; code = 0; number = 0 }
 opening_of (Err OutOfMemory) = record { status = 7; code = 0; number = 0 }
-opening_of (Err why) = record { status = 3; code = unwrap_or (code_of why) 0; number = unwrap_or (detail_of why) 0 }
+opening_of (Err why) = record {
+  status = 3;
+  code = unwrap_or (code_of why) 0;
+  number = unwrap_or (detail_of why) 0;
+}
 
 -- the handle has the bus of the scenario in the text, or it has none and the answer says why
 pub record IsOpened (text : List ℕ) (after : Option Bus) (o : Opening) : Type 0 where
@@ -35,7 +40,7 @@ pub record IsOpened (text : List ℕ) (after : Option Bus) (o : Opening) : Type 
 -- a record is given, and the struct shows it
 pub record GivesShown (before after : Bus) (shown : HostRecord) : Type 0 where
   pub given_now : Record
-  pub gives : ForItsRun (λ sc hands given over. GivesRecord sc hands given over given_now after) before
+  pub gives : ForItsRun (λ run. GivesRecord run given_now after) before
   pub begins : after.begun ≡ frame_in (Some given_now)
   pub shows : Shows shown given_now
 
@@ -48,7 +53,8 @@ pub record AnswersNext (before after : Bus) (old shown : HostRecord) (status : �
 -- a bus gives its next record; a handle without a bus answers 10, and nothing changes
 abbrev pub NextOf : Option Bus → Option Bus → HostRecord → HostRecord → ℕ → Type 0
 NextOf None after old shown status = (after ≡ None) × (shown ≡ old) × (status ≡ 10)
-NextOf (Some before) after old shown status = IsSomeAnd after (λ b. AnswersNext before b old shown status)
+NextOf (Some before) after old shown status =
+    IsSomeAnd after (λ b. AnswersNext before b old shown status)
 
 -- Words.
 
@@ -68,4 +74,5 @@ pub record AnswersHand (biu word : ℕ) (before after : Bus) (status : ℕ) : Ty
 -- a bus takes the word or refuses it; a handle without a bus answers 10, and has none after it
 abbrev pub HandOf : ℕ → ℕ → Option Bus → Option Bus → ℕ → Type 0
 HandOf biu word None after status = (after ≡ None) × (status ≡ 10)
-HandOf biu word (Some before) after status = IsSomeAnd after (λ b. AnswersHand biu word before b status)
+HandOf biu word (Some before) after status =
+    IsSomeAnd after (λ b. AnswersHand biu word before b status)

@@ -1,5 +1,5 @@
 -- A record as the host sees it.
-use Rattle.std.specs.Prelude.{ℕ, ◌≡◌, true, false, List, length, map, take}
+use Rattle.std.specs.Prelude.{ℕ, ◌≡◌, Bool, true, false, List, length, map, take}
 use Rattle.rb_base.specs.declared.node.NodeName.{NodeName}
 use Rattle.rb_base.specs.declared.node.NodeName.TheVariants as name
 use Rattle.rb_base.specs.declared.values.Heard.{Heard}
@@ -21,7 +21,12 @@ use Rattle.rb_bus.specs.declared.record.HostRecord.{HostRecord}
 -- a node of this kind and number
 abbrev pub node_of : ℕ → ℕ → NodeLine → HostNode
 node_of kind index l = record {
-  kind = kind; index = index; convicted_bius = l.biu; convicted_rmus = l.rmu; tick = l.tick; time = l.time;
+  kind = kind;
+  index = index;
+  convicted_bius = l.biu;
+  convicted_rmus = l.rmu;
+  tick = l.tick;
+  time = l.time;
 }
 
 -- a node by its name: kind 0 is a BIU, kind 1 an RMU
@@ -35,10 +40,14 @@ node_shown l = node_named l l.node
 abbrev pub port_shown : PortLine → HostPort
 port_shown l = record { biu = l.biu; losses = l.losses; state = l.state }
 
+-- a delivery of this word, or of none
+abbrev pub delivery_with : SlotLine → Bool → ℕ → HostDelivery
+delivery_with l none word = record { receiver = l.receiver; sender = l.sender; none = none; word = word }
+
 -- a delivery by its value
 abbrev pub delivery_of : SlotLine → Heard → HostDelivery
-delivery_of l (Word word) = record { receiver = l.receiver; sender = l.sender; none = false; word = word }
-delivery_of l Fault = record { receiver = l.receiver; sender = l.sender; none = true; word = 0 }
+delivery_of l (Word word) = delivery_with l false word
+delivery_of l Fault = delivery_with l true 0
 
 abbrev pub delivery_shown : SlotLine → HostDelivery
 delivery_shown l = delivery_of l l.value
@@ -51,7 +60,8 @@ cause_number cause.TwoSided = 3
 -- Records.
 
 -- the struct shows the record of a frame
-pub record ShowsFrame (h : HostRecord) (frame : ℕ) (nodes : List NodeLine) (ports : List PortLine) : Type 0 where
+pub record ShowsFrame (h : HostRecord) (frame : ℕ) (nodes : List NodeLine) (ports : List PortLine)
+    : Type 0 where
   pub what : h.what ≡ 1
   pub frame_is : h.frame ≡ frame
   pub node_count : h.node_count ≡ length nodes

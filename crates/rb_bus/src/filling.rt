@@ -2,7 +2,8 @@
 ghost use Rattle.std.specs.Prelude.{◌≡◌, ◌≤◌, Some, length, map, take};
 ghost use Rattle.rb_rules.specs.Book.{Record};
 ghost use Rattle.rb_world_book.specs.Records.{record_of};
-ghost use Rattle.rb_bus.specs.Shown.{Shows, ShowsBreach, ShowsFrame, ShowsSlot, delivery_shown, node_shown, port_shown};
+ghost use Rattle.rb_bus.specs.Shown.{Shows, ShowsBreach, ShowsFrame, ShowsSlot};
+ghost use Rattle.rb_bus.specs.Shown.{delivery_shown, node_shown, port_shown};
 
 use crate::record::{
     HostDelivery, HostNode, HostPort, HostRecord, cause_number, delivery_shown, node_shown,

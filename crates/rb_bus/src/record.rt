@@ -42,8 +42,8 @@ pub struct HostDelivery {
 
 /// A record of a run. `what` is 1 for the record of a frame, which has `frame`, the first
 /// `node_count` of `nodes` and the first `port_count` of `ports`. It is 2 for the record of a slot,
-/// which has `frame`, `slot` and the first `delivery_count` of `deliveries`. It is 3 for the end. It
-/// is 4 for a breach, which has `frame`, `slot`, `stage` and `cause`, 1 to 3.
+/// which has `frame`, `slot` and the first `delivery_count` of `deliveries`. It is 3 for the end.
+/// It is 4 for a breach, which has `frame`, `slot`, `stage` and `cause`, 1 to 3.
 #[repr(C)]
 #[derive(Clone, Copy, Debug, PartialEq, Eq)]
 pub struct HostRecord {

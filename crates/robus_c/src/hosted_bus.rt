@@ -30,8 +30,8 @@ pub extern "C" fn robus_bus_next(alloc: Global, bus: &mut Handle, shown: &mut Ho
 
 /// Hands a word to the table of a BIU. The BIU offers that word in each of its slots, from the
 /// frame that has just begun until it is handed another word. The status is 0, or says why nothing
-/// changes: 10, there is no bus; 14, the last record does not begin a frame; 15, the bus has no such
-/// BIU, or the BIU is not good as the frame begins; 16, the BIU's application is not a table.
+/// changes: 10, there is no bus; 14, the last record does not begin a frame; 15, the bus has no
+/// such BIU, or the BIU is not good as the frame begins; 16, the BIU's application is not a table.
 #[unsafe(no_mangle)]
 pub extern "C" fn robus_bus_hand(alloc: Global, bus: &mut Handle, biu: u8, word: u32) -> u8
     ensures { HandOf biu word (bus_in bus.old) (bus_in bus.new) result }
