@@ -266,8 +266,9 @@ bool robus_node_free(robus_node *node);
  *   slots         each record of a slot has one delivery for each good BIU, all of one value, or none
  *                 at all; if the sender is good, the value is the word that it was handed last
  *   keeps         good nodes begin each slot near each other, deliver alike, hold one schedule,
- *                 convict no good node and are one machine; the nodes that run event by event hold
- *                 what the run of the rules holds
+ *                 convict no good node and are one machine; each good BIU owns the data slots that
+ *                 it asks for, up to an equal share; the nodes that run event by event hold what
+ *                 the run of the rules holds
  *   words         the word that was handed last to a good BIU is what all good BIUs deliver from it,
  *                 in each of its slots
  */

@@ -2,11 +2,11 @@
  * went. examples/c/loop.toml is a scenario for it.
  *
  * B0 measures the pitch and moves the elevator. B1, B2 and B3 are replicas of one controller: each
- * computes an elevator angle from the pitch that it delivers. B0 moves the elevator to the middle of
- * the three angles that it delivers, so one replica may say anything. A word is an angle in
+ * computes an elevator angle from the pitch that it delivers. B0 moves the elevator to the middle
+ * of the three angles that it delivers, so one replica may say anything. A word is an angle in
  * microradians, as a signed number. A frame is a control period, and a unit of the bus's time is a
- * nanosecond. What B0 measures as frame k begins reaches the replicas in frame k, their angles reach
- * B0 in frame k + 1, and the elevator moves as frame k + 2 begins. */
+ * nanosecond. What B0 measures as frame k begins reaches the replicas in frame k, their angles
+ * reach B0 in frame k + 1, and the elevator moves as frame k + 2 begins. */
 #include <robus.h>
 #include <stdio.h>
 #include <stdlib.h>
@@ -70,8 +70,8 @@ static void deliver(struct software *software, const robus_record *slot)
     }
 }
 
-/* Compares the deliveries of a slot with each other and with the word that the sender was handed. A
- * BIU is good in a slot if it is one of the receivers. */
+/* Compares the deliveries of a slot with each other and with the word that the sender was handed.
+ * A BIU is good in a slot if it is one of the receivers. */
 static void count(struct tally *tally, const robus_record *slot, const uint32_t *handed)
 {
     const robus_bus_delivery *all = slot->deliveries;
@@ -87,8 +87,8 @@ static void count(struct tally *tally, const robus_record *slot, const uint32_t 
     tally->as_given += good && as_given;
 }
 
-/* A frame begins: the airframe has flown up to here, the elevator moves, and each good BIU is handed
- * its word. */
+/* A frame begins: the airframe has flown up to here, the elevator moves, and each good BIU is
+ * handed its word. */
 static void begin(robus_bus *bus, const robus_record *frame, struct airframe *airframe,
                   struct software *software, uint32_t *handed)
 {

@@ -1,4 +1,4 @@
-/* What the hostile programs share: numbers at random, bytes before a page that may not be touched, and
+/* What the hostile programs share: random numbers, bytes before a page that may not be touched, and
  * spoilt copies of files. A program that fails says so by its name, HOSTILE. */
 #include <robus.h>
 #include <stdio.h>
@@ -21,7 +21,8 @@ enum { PAGE = 4096, MOST = 1 << 23 };
 /* MOST bytes before a page that may not be touched. */
 static inline uint8_t *fenced(void)
 {
-    uint8_t *at = mmap(NULL, MOST + PAGE, PROT_READ | PROT_WRITE, MAP_PRIVATE | MAP_ANONYMOUS, -1, 0);
+    int how = PROT_READ | PROT_WRITE;
+    uint8_t *at = mmap(NULL, MOST + PAGE, how, MAP_PRIVATE | MAP_ANONYMOUS, -1, 0);
     if (at == MAP_FAILED || mprotect(at + MOST, PAGE, PROT_NONE) != 0) {
         fprintf(stderr, "%s: no memory\n", HOSTILE);
         exit(2);
@@ -47,7 +48,8 @@ static inline struct bytes read_file(const char *path)
     return found;
 }
 
-/* Up to `edits` edits of a text in place: a byte is another, a part is gone, or a part is there twice. */
+/* Edits a text in place, `edits` times: a byte is another, a part is gone, or one is there twice.
+ * Gives its new length. */
 static inline size_t spoil(uint8_t *room, size_t length, uint64_t edits)
 {
     for (; edits > 0 && length > 1; edits--) {

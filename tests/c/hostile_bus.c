@@ -1,7 +1,7 @@
 /* hostile_bus COUNT SEED FILE..: COUNT calls in any order on three buses, with texts that are the
- * files, spoilt copies of them or random bytes, any BIU and any word. Texts and records end at a page
- * that may not be touched. What is not a record's own may not change. Ends with 1 at the first answer
- * that robus.h does not allow. */
+ * files, spoilt copies of them or random bytes, any BIU and any word. Texts and records end at a
+ * page that may not be touched. What is not a record's own may not change. Ends with 1 at the first
+ * answer that robus.h does not allow. */
 #define HOSTILE "hostile_bus"
 #include "hostile.h"
 
@@ -26,8 +26,8 @@ static void must(bool holds, const char *what)
     }
 }
 
-/* A text that breaks one rule, the code of the rule, and the number that follows the rule's name, by
- * docs/SCENARIOS.md. */
+/* A text that breaks one rule, the code of the rule, and the number that follows the rule's name,
+ * by docs/SCENARIOS.md. */
 static const struct { const char *text; uint8_t code; uint64_t number; } refused[] = {
     {"biu = ", 1, 0},
     {"biu = 1", 2, 0},
@@ -45,16 +45,22 @@ static void fixed_calls(void)
     robus_bus bus = {0};
     static robus_record record;
     must(robus_bus_next(&bus, &record) == ROBUS_NO_BUS, "a record of no bus");
-    must(robus_bus_hand(&bus, 0, 1) == ROBUS_NO_BUS && !robus_bus_free(&bus), "a bus that nobody opened");
+    must(robus_bus_hand(&bus, 0, 1) == ROBUS_NO_BUS, "a word for no bus");
+    must(!robus_bus_free(&bus), "a bus that nobody opened");
     for (size_t i = 0; i < sizeof refused / sizeof *refused; i++) {
-        robus_opening o = robus_bus_open(&bus, (const uint8_t *)refused[i].text, strlen(refused[i].text));
-        must(o.status == ROBUS_REFUSED && o.code == refused[i].code && o.number == refused[i].number && !bus.there, refused[i].text);
+        const char *text = refused[i].text;
+        robus_opening o = robus_bus_open(&bus, (const uint8_t *)text, strlen(text));
+        must(o.status == ROBUS_REFUSED && !bus.there, text);
+        must(o.code == refused[i].code && o.number == refused[i].number, text);
     }
-    const char *text = "biu = 3\nrmu = 1\nslots = 3\nframes = 1\napps = [\"table\", \"counter\", \"table\"]\n"
+    const char *text = "biu = 3\nrmu = 1\nslots = 3\nframes = 1\n"
+                       "apps = [\"table\", \"counter\", \"table\"]\n"
                        "[[fault]]\nnode = \"B2\"\nframe = 0\nslot = 0\n";
-    must(robus_bus_open(&bus, (const uint8_t *)text, strlen(text)).status == ROBUS_DONE, "a bus is refused");
+    robus_opening o = robus_bus_open(&bus, (const uint8_t *)text, strlen(text));
+    must(o.status == ROBUS_DONE && o.code == 0 && o.number == 0, "a bus is refused");
     must(robus_bus_hand(&bus, 0, 1) == ROBUS_NO_FRAME, "handed in before the first record");
-    must(robus_bus_next(&bus, &record) == ROBUS_DONE && record.what == ROBUS_RECORD_FRAME, "no frame first");
+    must(robus_bus_next(&bus, &record) == ROBUS_DONE, "no first record");
+    must(record.what == ROBUS_RECORD_FRAME, "another record first");
     static const uint8_t answers[] = {ROBUS_DONE, ROBUS_NO_TABLE, ROBUS_NOT_GOOD, ROBUS_NOT_GOOD};
     for (uint8_t biu = 0; biu < 4; biu++)
         must(robus_bus_hand(&bus, biu, 77) == answers[biu], "another answer to a word");
@@ -66,8 +72,9 @@ static void open_some(struct known *k, uint8_t *fence, const struct bytes *files
 {
     struct bytes text = some_input(fence, files, count);
     robus_opening o = robus_bus_open(&k->bus, text.at, text.length);
-    must(o.status == ROBUS_DONE || o.status == ROBUS_REFUSED || o.status == ROBUS_NO_MEMORY, "no such status");
-    must((o.status == ROBUS_REFUSED) == (1 <= o.code && o.code <= 11), "a code without a refusal");
+    bool refusal = o.status == ROBUS_REFUSED;
+    must(refusal || o.status == ROBUS_DONE || o.status == ROBUS_NO_MEMORY, "no such status");
+    must(refusal == (1 <= o.code && o.code <= 11), "a code without a refusal");
     must((o.code == 6) == (1 <= o.number && o.number <= 7), "an inequality of another rule");
     must(k->bus.there == (o.status == ROBUS_DONE), "a bus beside a refusal");
     *k = (struct known){.bus = k->bus, .there = o.status == ROBUS_DONE};
@@ -98,12 +105,14 @@ static robus_record own_fields(const robus_record *r, uint8_t pattern)
 /* A frame begins behind the one before; its ports are those of the good BIUs. */
 static void see_frame(struct known *k, const robus_record *r)
 {
-    must(r->node_count <= 32 && r->port_count <= 16 && r->port_count <= r->node_count, "more than there is room for");
+    must(r->node_count <= 32 && r->port_count <= 16, "more than there is room for");
+    must(r->port_count <= r->node_count, "more ports than nodes");
     must(r->frame == (k->what == 0 ? 0 : k->frame + 1), "not the next frame");
     k->frame = r->frame, k->good = 0;
     for (int i = 0; i < r->port_count; i++) {
-        must(r->nodes[i].kind == ROBUS_BIU && r->nodes[i].index == r->ports[i].biu, "a port of no good BIU");
-        k->good |= 1u << r->ports[i].biu;
+        uint8_t biu = r->ports[i].biu;
+        must(r->nodes[i].kind == ROBUS_BIU && r->nodes[i].index == biu, "a port of no good BIU");
+        k->good |= 1u << biu;
     }
 }
 
@@ -113,7 +122,8 @@ static void see_slot(const struct known *k, const robus_record *r)
     const robus_bus_delivery *all = r->deliveries;
     must(r->delivery_count <= 16 && r->frame == k->frame, "a slot of another frame");
     for (int i = 0; i < r->delivery_count; i++) {
-        must(all[i].sender == all[0].sender && all[i].none == all[0].none && all[i].word == all[0].word, "good BIUs differ");
+        must(all[i].sender == all[0].sender, "a slot of two senders");
+        must(all[i].none == all[0].none && all[i].word == all[0].word, "good BIUs differ");
         must(i == 0 || all[i - 1].receiver < all[i].receiver, "receivers out of order");
         must(!all[i].none || all[i].word == 0, "a word that is none");
     }
@@ -155,8 +165,11 @@ static void hand_some(struct known *k, unsigned long *handed)
     uint8_t biu = below(3) == 0 ? below(256) : below(6);
     uint8_t status = robus_bus_hand(&k->bus, biu, (uint32_t)below(UINT64_C(1) << 32));
     bool good = biu < 16 && (k->good >> biu & 1);
-    uint8_t due = !k->there ? ROBUS_NO_BUS : k->what != ROBUS_RECORD_FRAME ? ROBUS_NO_FRAME : !good ? ROBUS_NOT_GOOD : ROBUS_DONE;
-    must(status == due || (due == ROBUS_DONE && status == ROBUS_NO_TABLE), "another answer to a word");
+    uint8_t due = !k->there ? ROBUS_NO_BUS
+        : k->what != ROBUS_RECORD_FRAME ? ROBUS_NO_FRAME
+        : !good ? ROBUS_NOT_GOOD : ROBUS_DONE;
+    bool no_table = due == ROBUS_DONE && status == ROBUS_NO_TABLE;
+    must(status == due || no_table, "another answer to a word");
     *handed += status == ROBUS_DONE;
 }
 
@@ -197,6 +210,7 @@ int main(int argc, char **argv)
     for (size_t i = 0; i < files_count; i++)
         free(files[i].at);
     free(files);
-    printf("buses: %lu calls; %lu opened, %lu records, %lu words handed in\n", count, opened, records, handed);
+    printf("buses: %lu calls; %lu opened, %lu records, %lu words handed in\n", count, opened,
+           records, handed);
     return 0;
 }

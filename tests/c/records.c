@@ -7,13 +7,14 @@
 static void print_frame(const robus_record *r)
 {
     for (int i = 0; i < r->node_count; i++)
-        printf("e %" PRIu32 " %c%u %" PRIu64 " %" PRIu64 "\n", r->frame, "BR"[r->nodes[i].kind], r->nodes[i].index,
-               r->nodes[i].tick, r->nodes[i].time);
+        printf("e %" PRIu32 " %c%u %" PRIu64 " %" PRIu64 "\n", r->frame, "BR"[r->nodes[i].kind],
+               r->nodes[i].index, r->nodes[i].tick, r->nodes[i].time);
     for (int i = 0; i < r->node_count; i++)
-        printf("c %" PRIu32 " %c%u %u %u\n", r->frame, "BR"[r->nodes[i].kind], r->nodes[i].index,
-               r->nodes[i].convicted_bius, r->nodes[i].convicted_rmus);
+        printf("c %" PRIu32 " %c%u %u %u\n", r->frame, "BR"[r->nodes[i].kind],
+               r->nodes[i].index, r->nodes[i].convicted_bius, r->nodes[i].convicted_rmus);
     for (int i = 0; i < r->port_count; i++)
-        printf("p %" PRIu32 " B%u %" PRIu64 " %u\n", r->frame, r->ports[i].biu, r->ports[i].state, r->ports[i].losses);
+        printf("p %" PRIu32 " B%u %" PRIu64 " %u\n", r->frame, r->ports[i].biu, r->ports[i].state,
+               r->ports[i].losses);
 }
 
 static void print_slot(const robus_record *r)
