@@ -327,8 +327,8 @@ enum {
                                 differently by different good nodes */
 };
 
-/* A record. Only the fields that its `what` names are written; every other field, and every entry
- * of an array behind its count, is as it was before the call. */
+/* A record. Only the fields that its `what` names are written. Every other field, and every entry of
+ * an array behind its count, is as it was before the call; this is tested and not proved. */
 typedef struct robus_record {
     uint8_t what;
     uint8_t cause;
