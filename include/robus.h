@@ -233,13 +233,12 @@ bool robus_node_free(robus_node *node);
  *     robus_bus bus = {0};
  *     static robus_record record;
  *     robus_opening opening = robus_bus_open(&bus, text, length);
- *     do {
- *         robus_bus_next(&bus, &record);
+ *     while (robus_bus_next(&bus, &record) == ROBUS_DONE && record.what < ROBUS_RECORD_END) {
  *         if (record.what == ROBUS_RECORD_SLOT)
  *             deliver(record.deliveries, record.delivery_count);
- *         else if (record.what == ROBUS_RECORD_FRAME)
+ *         else
  *             robus_bus_hand(&bus, 0, word_of_b0(record.frame));
- *     } while (record.what < ROBUS_RECORD_END);
+ *     }
  *     robus_bus_free(&bus);
  *
  * Time. Times are in reference units and ticks are counted by a node's own clock, as in
@@ -263,14 +262,14 @@ bool robus_node_free(robus_node *node);
  * up to the first breach of the fault premise (Promised):
  *   first, whole  the records given are the first records of the run of the rules with these words,
  *                 and all of them once the run has ended
- *   slots         each record of a slot has one delivery for each good BIU, all of one value, or none
- *                 at all; if the sender is good, the value is the word that it was handed last
+ *   slots         each record of a slot has no deliveries, or one for each BIU that is good in it,
+ *                 all of one value; if the sender is good, that is the word that it was handed last
  *   keeps         good nodes begin each slot near each other, deliver alike, hold one schedule,
  *                 convict no good node and are one machine; each good BIU owns the data slots that
  *                 it asks for, up to an equal share; the nodes that run event by event hold what
  *                 the run of the rules holds
- *   words         the word that was handed last to a good BIU is what all good BIUs deliver from it,
- *                 in each of its slots
+ *   words         all good BIUs deliver the word that a good BIU was handed last, in each slot that
+ *                 it owns
  */
 typedef struct robus_bus {
     bool there;   /* whether there is a bus */
@@ -327,8 +326,8 @@ enum {
                                 differently by different good nodes */
 };
 
-/* A record. Only the fields that its `what` names are written. Every other field, and every entry of
- * an array behind its count, is as it was before the call; this is tested and not proved. */
+/* A record. Only the fields that its `what` names are written. Every other field, and every entry
+ * of an array behind its count, is as it was before the call; this is tested and not proved. */
 typedef struct robus_record {
     uint8_t what;
     uint8_t cause;
@@ -354,8 +353,8 @@ enum {
  * before its first record. The run takes all its memory here.
  *
  * IsOpened (specs/Calls.antt):
- *   opens    at ROBUS_DONE the text is that of an accepted scenario, which is lawful, and the bus is
- *            at the start of its run
+ *   opens    at ROBUS_DONE the text is that of an accepted scenario, which is lawful, and the bus
+ *            is at the start of its run
  *   refused  at ROBUS_REFUSED `code` and `number` name the first rule that the text breaks
  *   none     at ROBUS_REFUSED and ROBUS_NO_MEMORY the handle has no bus */
 robus_opening robus_bus_open(robus_bus *bus, const uint8_t *text, size_t length);
