@@ -1,4 +1,5 @@
-/* ROBUS as a library: the three programs as calls over bytes in memory, and one node of a bus as a core that a host drives.
+/* ROBUS as a library: the three programs as calls over bytes in memory, one node of a bus as a core that a host drives, and a whole bus
+ * that runs the host's own software.
  *
  *   cc -I include report.c crates/robus_c/out/librobus.a -o report
  *
@@ -220,6 +221,164 @@ uint64_t robus_node_pass(robus_node *node, uint64_t ticks);
 
 /* Gives the node's memory back; the handle then has no node. Whether it had one. */
 bool robus_node_free(robus_node *node);
+
+/* A BUS IN A HOST'S HANDS
+ *
+ * A whole bus, simulated from a scenario, whose BIUs say what the host's own software gives them.
+ * The host opens the bus from the scenario's text and takes one record after another: a frame
+ * begins, a slot is delivered, the run ends, or the fault premise is broken. After the record of a
+ * frame it hands each good BIU the word that this BIU offers in its slots. examples/c/loop.c closes
+ * a control loop over a bus in this way.
+ *
+ *     robus_bus bus = {0};
+ *     static robus_record record;
+ *     robus_opening opening = robus_bus_open(&bus, text, length);
+ *     while (robus_bus_next(&bus, &record) == ROBUS_DONE && record.what < ROBUS_RECORD_END) {
+ *         if (record.what == ROBUS_RECORD_SLOT)
+ *             deliver(record.deliveries, record.delivery_count);
+ *         else
+ *             robus_bus_hand(&bus, 0, word_of_b0(record.frame));
+ *     }
+ *     robus_bus_free(&bus);
+ *
+ * Time. Times are in reference units and ticks are counted by a node's own clock, as in
+ * docs/SCENARIOS.md. A word is handed in for a whole frame. What is delivered in frame k can be
+ * answered in frame k + 1 at the soonest. A run has at most 4096 frames, so a loop has at most 4096
+ * cycles. The last frame record has the number `frames` of the scenario and no slots behind it: a
+ * word that is handed in after it is accepted and never offered.
+ *
+ * Ownership. The handle is the caller's: a struct that begins as zeros, `robus_bus bus = {0};`. It
+ * may be moved, and it is never copied, since the copy would have the same bus. Its fields are for
+ * these calls alone. The bus is in memory that robus_bus_open takes by malloc, and robus_bus_free
+ * gives that memory back. robus_bus_next takes a few small blocks and gives them back before it
+ * returns. The text may be freed when robus_bus_open returns. One handle is in one call at a time.
+ * Threads may call at once, each with handles of its own. A bus stays on the thread that opened it.
+ *
+ * Any calls in any order, with any bytes and any numbers, have an answer. A call that is not done
+ * changes neither the bus nor the record.
+ *
+ * What is proved holds whatever is handed in and whatever the scenario's faulty nodes say. The
+ * clauses are in crates/rb_bus/specs. At each call, of the run that the bus stands for (HasRun) and
+ * up to the first breach of the fault premise (Promised):
+ *   first, whole  the records given are the first records of the run of the rules with these words,
+ *                 and all of them once the run has ended
+ *   slots         each record of a slot has no deliveries, or one for each BIU that is good in it,
+ *                 all of one value; if the sender is good, that is the word that it was handed last
+ *   keeps         good nodes begin each slot near each other, deliver alike, hold one schedule,
+ *                 convict no good node and are one machine; each good BIU owns the data slots that
+ *                 it asks for, up to an equal share; the nodes that run event by event hold what
+ *                 the run of the rules holds
+ *   words         all good BIUs deliver the word that a good BIU was handed last, in each slot that
+ *                 it owns
+ */
+typedef struct robus_bus {
+    bool there;   /* whether there is a bus */
+    uint8_t *run; /* where it lies */
+} robus_bus;
+
+/* The answer to a scenario's text. */
+typedef struct robus_opening {
+    uint8_t status;  /* ROBUS_DONE, ROBUS_REFUSED or ROBUS_NO_MEMORY */
+    uint8_t code;    /* if refused, the code of the first rule that the text breaks, 1 to 11
+                        (docs/SCENARIOS.md); else 0 */
+    uint64_t number; /* if refused by code 6, the inequality of the plan that fails first, 1 to 7;
+                        else 0 */
+} robus_opening;
+
+/* A good node as a frame begins. */
+typedef struct robus_bus_node {
+    uint8_t kind;            /* ROBUS_BIU or ROBUS_RMU */
+    uint8_t index;           /* its number among the nodes of its kind, from 0 */
+    uint16_t convicted_bius; /* the BIUs that it holds convicted: bit i is the BIU with number i */
+    uint16_t convicted_rmus; /* the RMUs that it holds convicted */
+    uint64_t tick;           /* its first tick of the frame, by its own clock */
+    uint64_t time;           /* when that tick begins, in reference units */
+} robus_bus_node;
+
+/* The port of a good BIU as a frame begins. */
+typedef struct robus_bus_port {
+    uint8_t biu;
+    uint8_t losses; /* how many of its last 64 deliveries were none */
+    uint64_t state; /* the state of its application: a table's is the word that it offers */
+} robus_bus_port;
+
+/* What a good BIU delivers in a slot. */
+typedef struct robus_bus_delivery {
+    uint8_t receiver; /* the BIU that delivers */
+    uint8_t sender;   /* the BIU that owns the slot */
+    bool none;        /* no word is delivered, and `word` is 0 */
+    uint32_t word;
+} robus_bus_delivery;
+
+enum {
+    ROBUS_RECORD_FRAME = 1, /* has frame, nodes and ports */
+    ROBUS_RECORD_SLOT = 2,  /* has frame, slot and deliveries, one for each good BIU */
+    ROBUS_RECORD_END = 3,   /* all frames of the scenario are done */
+    ROBUS_RECORD_BREACH = 4 /* has frame, slot, stage and cause: the first stage at which the fault
+                               premise fails, and with it every promise */
+};
+
+enum {
+    ROBUS_FEW_GOOD_BIUS = 1, /* the good BIUs do not outnumber the faulty ones that are trusted and
+                                were heard in this frame */
+    ROBUS_FEW_GOOD_RMUS = 2, /* the good RMUs do not outnumber such RMUs */
+    ROBUS_TWO_SIDED = 3      /* a faulty BIU and a faulty RMU that are trusted were each heard
+                                differently by different good nodes */
+};
+
+/* A record. Only the fields that its `what` names are written. Every other field, and every entry
+ * of an array behind its count, is as it was before the call; this is tested and not proved. */
+typedef struct robus_record {
+    uint8_t what;
+    uint8_t cause;
+    uint8_t stage;
+    uint8_t node_count;
+    uint8_t port_count;
+    uint8_t delivery_count;
+    uint16_t slot;
+    uint32_t frame;
+    robus_bus_node nodes[32];          /* the first node_count of them: BIUs, then RMUs */
+    robus_bus_port ports[16];          /* the first port_count */
+    robus_bus_delivery deliveries[16]; /* the first delivery_count; none if nobody owns the slot */
+} robus_record;
+
+enum {
+    ROBUS_NO_BUS = 10,   /* the handle has no bus */
+    ROBUS_NO_FRAME = 14, /* the last record does not begin a frame */
+    ROBUS_NOT_GOOD = 15, /* the bus has no such BIU, or the BIU is not good as the frame begins */
+    ROBUS_NO_TABLE = 16  /* the scenario gives the BIU another application than "table" */
+};
+
+/* Frees the bus of the handle, if there is one, and puts the bus of the scenario in `text` into it,
+ * before its first record. The run takes all its memory here.
+ *
+ * IsOpened (specs/Calls.antt):
+ *   opens    at ROBUS_DONE the text is that of an accepted scenario, which is lawful, and the bus
+ *            is at the start of its run
+ *   refused  at ROBUS_REFUSED `code` and `number` name the first rule that the text breaks
+ *   none     at ROBUS_REFUSED and ROBUS_NO_MEMORY the handle has no bus */
+robus_opening robus_bus_open(robus_bus *bus, const uint8_t *text, size_t length);
+
+/* Writes the next record. After the last one, ROBUS_RECORD_END or ROBUS_RECORD_BREACH, that record
+ * comes again. ROBUS_DONE; or ROBUS_NO_MEMORY or ROBUS_NO_BUS, and nothing changes.
+ *
+ * NextOf: at ROBUS_DONE, if n records were given before, this is record n of the run of the rules
+ * with all that was handed in (GivesNext), the struct shows it (Shows, specs/Shown.antt), and the
+ * promise above holds (KeepsItsPromise, specs/Buses.antt). */
+uint8_t robus_bus_next(robus_bus *bus, robus_record *record);
+
+/* Hands a word to the table of the BIU with this number. The BIU offers that word in each of its
+ * slots, from the frame that has just begun until it is handed another word; before the first it
+ * offers the scenario's word. ROBUS_DONE; or ROBUS_NO_BUS, ROBUS_NO_FRAME, ROBUS_NOT_GOOD or
+ * ROBUS_NO_TABLE, the first that applies, and nothing changes.
+ *
+ * HandOf: at ROBUS_DONE the BIU is good, has a table, and the word is handed in for the frame that
+ * the last record began (HandsIn, specs/Buses.antt). At each other status that status is true of
+ * the bus: a good BIU with a table cannot be refused after the record of a frame. */
+uint8_t robus_bus_hand(robus_bus *bus, uint8_t biu, uint32_t word);
+
+/* Gives the memory of the bus back; the handle then has no bus. Whether it had one. */
+bool robus_bus_free(robus_bus *bus);
 
 #ifdef __cplusplus
 }

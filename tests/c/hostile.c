@@ -1,54 +1,12 @@
 /* hostile COUNT SEED FILE..: gives each call COUNT inputs, random bytes and spoilt copies of the files, with words of all kinds and room for
  * few bytes or many. Words, input and output end at a page that may not be touched, and the output begins behind bytes that may not change.
  * Ends with 1 at the first answer that is none. */
-#include <robus.h>
-#include <stdio.h>
-#include <stdlib.h>
-#include <string.h>
-#include <sys/mman.h>
+#define HOSTILE "hostile"
+#include "hostile.h"
 
 typedef robus_answer call(const uint8_t *, size_t, const uint8_t *, size_t, uint8_t *, size_t);
 
-static uint64_t state;
-
-static uint64_t below(uint64_t bound)
-{
-    state ^= state << 13;
-    state ^= state >> 7;
-    state ^= state << 17;
-    return bound == 0 ? 0 : state % bound;
-}
-
-enum { PAGE = 4096, MOST = 1 << 23, GUARD = 32 };
-
-/* MOST bytes before a page that may not be touched. */
-static uint8_t *fenced(void)
-{
-    uint8_t *at = mmap(NULL, MOST + PAGE, PROT_READ | PROT_WRITE, MAP_PRIVATE | MAP_ANONYMOUS, -1, 0);
-    if (at == MAP_FAILED || mprotect(at + MOST, PAGE, PROT_NONE) != 0) {
-        fprintf(stderr, "hostile: no memory\n");
-        exit(2);
-    }
-    return at;
-}
-
-struct bytes {
-    uint8_t *at;
-    size_t length;
-};
-
-static struct bytes read_file(const char *path)
-{
-    FILE *file = fopen(path, "rb");
-    struct bytes found = {malloc(1 << 20), 0};
-    if (file == NULL || found.at == NULL) {
-        fprintf(stderr, "hostile: %s cannot be read\n", path);
-        exit(2);
-    }
-    found.length = fread(found.at, 1, 1 << 20, file);
-    fclose(file);
-    return found;
-}
+enum { GUARD = 32 };
 
 #define WORDS(text) {(uint8_t *)text, sizeof text - 1}
 static const struct bytes known[] = {
@@ -69,33 +27,6 @@ static struct bytes some_words(uint8_t *fence)
     if (length > 0 && below(6) == 0)
         at[below(length)] = below(256);
     return (struct bytes){at, length};
-}
-
-/* Random bytes, or a copy of a file in which some bytes are others, a part is gone or one stands twice. */
-static struct bytes some_input(uint8_t *fence, const struct bytes *files, size_t count)
-{
-    static uint8_t room[1 << 21];
-    size_t length;
-    if (count == 0 || below(5) == 0) {
-        length = below(300);
-        for (size_t i = 0; i < length; i++)
-            room[i] = below(256);
-    } else {
-        struct bytes from = files[below(count)];
-        length = from.length;
-        memcpy(room, from.at, length);
-        for (uint64_t edits = below(4); edits > 0 && length > 1; edits--) {
-            size_t i = below(length), part = below(length - i) % 40;
-            switch (below(4)) {
-            case 0: room[i] = below(256); break;
-            case 1: room[i] = '0' + below(10); break;
-            case 2: memmove(room + i, room + i + part, length - i - part); length -= part; break;
-            default: memmove(room + i + part, room + i, length - i); length += part; break;
-            }
-        }
-    }
-    memcpy(fence + MOST - length, room, length);
-    return (struct bytes){fence + MOST - length, length};
 }
 
 static int is_wrong(const char *what, const char *name, unsigned long number, robus_answer answer)

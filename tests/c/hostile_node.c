@@ -1,33 +1,10 @@
 /* hostile_node COUNT SEED: COUNT times a node of some seat, mostly a good one, is given calls in any order: ticks with any word, bytes of any
  * kind from any number, messages of another node with some bits changed, passes of any length, and calls without a node. What it is handed
  * ends at a page that may not be touched. Ends with 1 at the first answer that is none. */
-#include <robus.h>
-#include <stdio.h>
-#include <stdlib.h>
-#include <string.h>
-#include <sys/mman.h>
+#define HOSTILE "hostile_node"
+#include "hostile.h"
 
-static uint64_t state;
-
-static uint64_t below(uint64_t bound)
-{
-    state ^= state << 13;
-    state ^= state >> 7;
-    state ^= state << 17;
-    return bound == 0 ? 0 : state % bound;
-}
-
-enum { PAGE = 4096, MOST = 1 << 16 };
-
-static uint8_t *fenced(void)
-{
-    uint8_t *at = mmap(NULL, MOST + PAGE, PROT_READ | PROT_WRITE, MAP_PRIVATE | MAP_ANONYMOUS, -1, 0);
-    if (at == MAP_FAILED || mprotect(at + MOST, PAGE, PROT_NONE) != 0) {
-        fprintf(stderr, "hostile_node: no memory\n");
-        exit(2);
-    }
-    return at;
-}
+enum { LONGEST = 1 << 16 };
 
 static const robus_seat good = {.biu = 4, .rmu = 3, .slots = 8, .version = 1, .u = 10000, .r = 1, .dmin = 5000, .dmax = 15000,
                                 .l = 15, .h = 6, .v = 18, .z = 20, .c = 1, .p = 60200};
@@ -91,7 +68,7 @@ int main(int argc, char **argv)
             must(want.what <= ROBUS_WANTS_WORD, "no such want", number);
             switch (below(6)) {
             case 0: case 1: {
-                size_t length = below(6) == 0 ? below(MOST) : below(20);
+                size_t length = below(6) == 0 ? below(LONGEST) : below(20);
                 uint8_t *bytes = fence + MOST - length;
                 for (size_t i = 0; i < length && i < 64; i++)
                     bytes[i] = below(256);

@@ -1,6 +1,6 @@
-//! The three programs as calls for C, over bytes in memory, and a node core over a handle. No call
-//! keeps anything else: several threads of a host may call at once, each with bytes and handles of
-//! its own.
+//! The three programs as calls for C, over bytes in memory, and a node core and a bus over handles.
+//! No call keeps anything else: several threads of a host may call at once, each with bytes and
+//! handles of its own.
 #![tactic(auto)]
 
 ghost use Rattle.robus_c.specs.Bridge.{IsBridgeAnswer};
@@ -18,6 +18,7 @@ pub mod answer;
 mod bridge;
 mod bus;
 mod copying;
+mod hosted_bus;
 mod node;
 mod picture;
 mod program;

@@ -1,0 +1,4 @@
+mod Answering
+mod Boxes
+mod Dropped
+mod Running

@@ -1,0 +1,10 @@
+-- The lines before this one are at the front.
+use Rattle.std.proofs.Common.{◌≡◌, length, map, take}
+use Rattle.rb_bus.specs.Shown.{delivery_shown}
+use Rattle.rb_bus.proofs.filling.put_deliveries.Given as goal
+
+abbrev pub invariant-loop-i : goal.invariant-loop-i
+invariant-loop-i l = record {
+  front : take l.i l.shown ≡ map delivery_shown (take l.i l.lines);
+  room : length l.shown ≡ 16;
+}

@@ -1,0 +1,6 @@
+pub mod Access
+pub mod Buses
+pub mod Calls
+pub mod Handles
+pub mod Owns
+pub mod Shown

@@ -1,0 +1,25 @@
+-- What a handle owns: the memory of its bus.
+use Rattle.std.specs.Prelude.{Option, Some, None}
+use Rattle.std.specs.Coded.{Coded, coded_option}
+use base.Fml.{Fml, ftrue}
+use denote.RawPtr.{Ptr}
+use Rattle.std.specs.Box.Ownership.{box_owns}
+use Rattle.std.specs.Global.{Global}
+use Rattle.std_heap.specs.contracts.GlobalAllocator.TheImpl.{ghosts}
+use Rattle.rb_bus.specs.contracts.bus.Bus.{the_row}
+
+-- the bus, if there is one
+abbrev pub Kept : Type 0
+Kept = Option the_row.Denot
+
+-- the one allocator
+abbrev heap : Global
+heap = record { memory = record { seal = tt } }
+
+-- the bus is at the pointer, in a block of the allocator
+abbrev pub held_owns : Ptr → Kept → Fml
+held_owns p None = ftrue
+held_owns p (Some b) = box_owns (ghosts.dealloc_token heap) the_row p b
+
+abbrev pub kept_coded : Coded Kept
+kept_coded = coded_option the_row.coded
