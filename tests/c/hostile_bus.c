@@ -198,7 +198,7 @@ int main(int argc, char **argv)
         } else if (which < 6 || (!k->there && below(4) > 0)) {
             open_some(k, text_fence, files, files_count);
             opened += k->there;
-        } else if (which < 150) {
+        } else if (which < (k->what == ROBUS_RECORD_FRAME ? 80 : 190)) {
             next_one(k, record);
             records += k->there;
         } else {

@@ -25,7 +25,7 @@ use Rattle.rb_world.specs.Worlds.{KeptWorld, Stands, last_of}
 use Rattle.rb_world_book.specs.Records.{record_of}
 use Rattle.rb_world_book.specs.declared.turn.Turn.{Turn}
 use Rattle.rb_bus.specs.Access.{IsAccessOf}
-use Rattle.rb_bus.specs.Buses.{Gives, GivesLastAgain, GivesNext, GivesRecord, HandsIn, HasRun, KeepsItsPromise}
+use Rattle.rb_bus.specs.Buses.{Gives, GivesLastAgain, GivesNext, HandsIn, HasRun, KeepsItsPromise}
 use Rattle.rb_bus.specs.Buses.{ForItsRun, Opens, Run, records_in}
 use Rattle.rb_bus.specs.declared.access.Access.{Access}
 use Rattle.rb_bus.specs.declared.bus.Bus.{Bus}

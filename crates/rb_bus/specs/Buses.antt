@@ -1,5 +1,5 @@
 -- A bus in a host's hands, and its promise.
-use Rattle.std.specs.Prelude.{ℕ, ◌≡◌, All, Bool, true, false, Option, Some, None, List, [], ◌∷◌, ◌++◌}
+use Rattle.std.specs.Prelude.{ℕ, ◌≡◌, All, Bool, true, false, Some, None, List, [], ◌∷◌, ◌++◌}
 use Rattle.std.specs.Prelude.{Result, Ok, Err, get_or, length, slice_get}
 use Rattle.rb_base.specs.Nodes.Side.{Biu}
 use Rattle.rb_laws_agreement.specs.Held.{DeliverTheHeldWord}
@@ -20,7 +20,7 @@ use Rattle.rb_world_book.specs.declared.turn.Turn.{Turn}
 use Rattle.rb_bus.specs.Access.{IsAccessOf}
 use Rattle.rb_bus.specs.declared.bus.Bus.{Bus}
 use Rattle.rb_bus.specs.declared.bus.NotHanded.{NotHanded}
-use Rattle.rb_bus.specs.declared.bus.NotHanded.TheVariants as not
+use Rattle.rb_bus.specs.declared.bus.NotHanded.TheVariants as refusal
 
 -- The run of a bus.
 
@@ -118,10 +118,10 @@ HasNoTable run biu = ¬ (get_or run.scenario.apps biu 0 ≡ 0)
 -- a call hands in a word, or it changes nothing and its answer says why
 abbrev pub Hands : ℕ → ℕ → Bus → Bus → Result (Unit {0}) NotHanded → Type 0
 Hands biu word before after (Ok done) = ForItsRun (λ run. HandsIn run biu word before after) before
-Hands biu word before after (Err not.NoFrame) = (after ≡ before) × (before.begun ≡ None)
-Hands biu word before after (Err not.NotGood) =
+Hands biu word before after (Err refusal.NoFrame) = (after ≡ before) × (before.begun ≡ None)
+Hands biu word before after (Err refusal.NotGood) =
     (after ≡ before) × ForItsRun (λ run. IsNotGood run biu before) before
-Hands biu word before after (Err not.NoTable) =
+Hands biu word before after (Err refusal.NoTable) =
     (after ≡ before) × ForItsRun (λ run. HasNoTable run biu) before
 
 -- The promise.

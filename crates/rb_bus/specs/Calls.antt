@@ -11,7 +11,7 @@ use Rattle.rb_bus.specs.Buses.{ForItsRun, GivesRecord, Hands, KeepsItsPromise, O
 use Rattle.rb_bus.specs.Shown.{Shows}
 use Rattle.rb_bus.specs.declared.bus.Bus.{Bus}
 use Rattle.rb_bus.specs.declared.bus.NotHanded.{NotHanded}
-use Rattle.rb_bus.specs.declared.bus.NotHanded.TheVariants as not
+use Rattle.rb_bus.specs.declared.bus.NotHanded.TheVariants as refusal
 use Rattle.rb_bus.specs.declared.calls.Opening.{Opening}
 use Rattle.rb_bus.specs.declared.record.HostRecord.{HostRecord}
 
@@ -61,9 +61,9 @@ NextOf (Some before) after old shown status =
 -- the status of an answer
 abbrev pub number_of : Result (Unit {0}) NotHanded → ℕ
 number_of (Ok done) = 0
-number_of (Err not.NoFrame) = 14
-number_of (Err not.NotGood) = 15
-number_of (Err not.NoTable) = 16
+number_of (Err refusal.NoFrame) = 14
+number_of (Err refusal.NotGood) = 15
+number_of (Err refusal.NoTable) = 16
 
 -- the word is handed in, or nothing changes; the status says which, and why
 pub record AnswersHand (biu word : ℕ) (before after : Bus) (status : ℕ) : Type 0 where
