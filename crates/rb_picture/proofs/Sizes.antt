@@ -15,13 +15,21 @@ chosen false a b n most first second = second refl
 up_to : (n bound size most : ℕ) → size * bound ≤ most → nat_le n bound ≡ true → size * n ≤ most
 up_to n bound size most room is = let few : n ≤ bound = leb-true n bound is in omega (arith, mul-le size n size bound (omega arith) few, room)
 
-columns_fit : (n : ℕ) → n ≤ 320
-    → (if nat_le n 16 then 20 else if nat_le n 32 then 10 else if nat_le n 64 then 5 else if nat_le n 160 then 2 else 1) * n ≤ 320
-columns_fit n small =
+-- the widths of columns, from this many slots on
+abbrev many : ℕ → ℕ
+many n = if nat_le n 16 then 20 else if nat_le n 32 then 10 else if nat_le n 64 then 5 else if nat_le n 160 then 2 else 1
+
+many_fit : (n : ℕ) → n ≤ 320 → many n * n ≤ 320
+many_fit n small =
     chosen (nat_le n 16) 20 (if nat_le n 32 then 10 else if nat_le n 64 then 5 else if nat_le n 160 then 2 else 1) n 320 (up_to n 16 20 320 (omega arith))
     (λ _. chosen (nat_le n 32) 10 (if nat_le n 64 then 5 else if nat_le n 160 then 2 else 1) n 320 (up_to n 32 10 320 (omega arith))
     (λ _. chosen (nat_le n 64) 5 (if nat_le n 160 then 2 else 1) n 320 (up_to n 64 5 320 (omega arith))
     (λ _. chosen (nat_le n 160) 2 1 n 320 (up_to n 160 2 320 (omega arith)) (λ _. omega (arith, small)))))
+
+columns_fit : (n : ℕ) → n ≤ 320 → (if nat_le n 5 then 64 else if nat_le n 8 then 40 else many n) * n ≤ 320
+columns_fit n small =
+    chosen (nat_le n 5) 64 (if nat_le n 8 then 40 else many n) n 320 (up_to n 5 64 320 (omega arith))
+    (λ _. chosen (nat_le n 8) 40 (many n) n 320 (up_to n 8 40 320 (omega arith)) (λ _. many_fit n small))
 
 rows_fit : (n : ℕ) → (if nat_le n 300 then 12 else if nat_le n 600 then 6 else 3) * min n 1200 ≤ 3600
 rows_fit n =
@@ -34,7 +42,7 @@ rows_fit n =
 bands_fit : (n : ℕ) → n ≤ 4800 → (n + 1199) / 1200 ≤ 4
 bands_fit n small = omega (arith, small, div-mul-le_self (n + 1199) 1200)
 
-width_fits : (columns bands : ℕ) → columns ≤ 320 → bands ≤ 4 → max 640 (20 + (120 + columns) * bands) ≤ 2000
+width_fits : (columns bands : ℕ) → columns ≤ 320 → bands ≤ 4 → max 440 (20 + (120 + columns) * bands) ≤ 2000
 width_fits columns bands narrow few =
     max-le (omega arith) (omega (arith, mul-le (120 + columns) bands 440 4 (omega (arith, narrow)) few))
 

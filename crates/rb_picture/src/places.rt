@@ -1,6 +1,6 @@
 //! Where things stand in a picture.
 ghost use Rattle.std.specs.Prelude.{◌≡◌, ◌^◌, ◌<◌, ◌≤◌};
-ghost use Rattle.rb_picture.specs.Places.{breach_area, cell_area, cell_width, column_left, grid_area, panel_area, panel_height, panel_top, picture_height, picture_width, row_of, row_top, rows_of, slots_of, strip_area, tick_area};
+ghost use Rattle.rb_picture.specs.Places.{breach_area, cell_area, cell_width, close_area, column_left, grid_area, grid_left, is_behind, panel_area, panel_height, panel_top, panels_of, picture_height, picture_width, row_of, row_top, rows_of, slots_of, strip_area, tick_area};
 
 use crate::extent::Extent;
 use crate::line::DeliveryLine;
@@ -31,6 +31,25 @@ fn row_of(extent: Extent, node: NodeName) -> u64
     }
 }
 
+/// Whether the frame is the one that would follow the run.
+pub(crate) fn is_behind(extent: Extent, frame: u32) -> bool
+    ensures { result ≡ is_behind extent frame }
+{
+    u64::from(frame) == extent.run && extent.busy <= u64::from(frame)
+}
+
+fn panels_of(extent: Extent) -> u64
+    ensures value { result ≡ panels_of extent }
+    ensures most { result ≤ 4294967296 }
+{
+    let (first, last) = (u64::from(extent.first), u64::from(extent.last));
+    if is_behind(extent, extent.last) {
+        last.saturating_sub(first)
+    } else {
+        (last + 1).saturating_sub(first)
+    }
+}
+
 fn panel_height(extent: Extent) -> u64
     ensures value { result ≡ panel_height extent }
     ensures least { 88 ≤ result }
@@ -43,7 +62,7 @@ pub(crate) fn panel_top(extent: Extent, frame: u32) -> u64
     ensures value { result ≡ panel_top extent frame }
     ensures most { result < 2 ^ 54 }
 {
-    92 + panel_height(extent) * u64::from(frame.saturating_sub(extent.first))
+    180 + panel_height(extent) * u64::from(frame.saturating_sub(extent.first))
 }
 
 pub(crate) fn row_top(extent: Extent, frame: u32, row: u64) -> u64
@@ -53,6 +72,14 @@ pub(crate) fn row_top(extent: Extent, frame: u32, row: u64) -> u64
     ensures most { result < 2 ^ 55 }
 {
     panel_top(extent, frame) + 68 + 20 * row
+}
+
+pub(crate) fn grid_left(extent: Extent) -> u64
+    ensures value { result ≡ grid_left extent }
+    ensures least { 196 ≤ result }
+    ensures most { result ≤ 284 }
+{
+    if extent.spread == 0 { 196 } else { 284 }
 }
 
 pub(crate) fn cell_width(extent: Extent) -> u64
@@ -73,23 +100,27 @@ pub(crate) fn column_left(extent: Extent, slot: u32) -> u64
     ensures value { result ≡ column_left extent slot }
     ensures most { result < 2 ^ 39 }
 {
-    284 + cell_width(extent) * u64::from(slot.saturating_sub(u32::from(extent.low)))
+    grid_left(extent) + cell_width(extent) * u64::from(slot.saturating_sub(u32::from(extent.low)))
 }
 
 pub(crate) fn picture_width(extent: Extent) -> u64
     ensures value { result ≡ picture_width extent }
-    ensures least { 640 ≤ result }
+    ensures least { 440 ≤ result }
 {
-    let columns = 340 + cell_width(extent) * slots_of(extent);
+    let columns = grid_left(extent) + 56 + cell_width(extent) * slots_of(extent);
     let senders = 40 + 60 * u64::from(extent.bius);
-    senders.max(columns).max(640)
+    senders.max(columns).max(440)
 }
 
 pub(crate) fn picture_height(extent: Extent) -> u64
     ensures { result ≡ picture_height extent }
 {
-    let panels = (u64::from(extent.last) + 1).saturating_sub(u64::from(extent.first));
-    92 + panel_height(extent) * panels
+    let panels = 180 + panel_height(extent) * panels_of(extent);
+    if is_behind(extent, extent.last) {
+        panels + 72
+    } else {
+        panels
+    }
 }
 
 pub(crate) fn panel_area(extent: Extent, frame: u32) -> Area
@@ -100,6 +131,17 @@ pub(crate) fn panel_area(extent: Extent, frame: u32) -> Area
         y: panel_top(extent, frame),
         width: picture_width(extent) - 16,
         height: panel_height(extent) - 8,
+    }
+}
+
+pub(crate) fn close_area(extent: Extent, frame: u32) -> Area
+    ensures { result ≡ close_area extent frame }
+{
+    Area {
+        x: 8,
+        y: panel_top(extent, frame),
+        width: picture_width(extent) - 16,
+        height: 64,
     }
 }
 
@@ -118,7 +160,7 @@ pub(crate) fn grid_area(extent: Extent, frame: u32) -> Area
     ensures { result ≡ grid_area extent frame }
 {
     Area {
-        x: 284,
+        x: grid_left(extent),
         y: row_top(extent, frame, 0),
         width: cell_width(extent) * slots_of(extent),
         height: 20 * u64::from(extent.bius),
