@@ -41,7 +41,7 @@ adds_breach_words t place cause = adds_more (adds_label _ _ _ _ _ _) (adds_label
 
 adds_breach : (extent : Extent) (t : List ℕ) (place : Place) (cause : Cause) → AddsContent t (with_breach extent t place cause)
 unfolding with_breach
-adds_breach extent t place cause = adds_more (adds_breach_words _ place cause) (adds_box _ _ _)
+adds_breach extent t place cause = adds_more (adds_breach_words _ place cause) (adds_more (adds_label _ _ _ _ _ _) (adds_box _ _ _))
 
 adds_ending : (t : List ℕ) → AddsContent t (with_ending t)
 unfolding with_ending

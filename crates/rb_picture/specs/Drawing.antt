@@ -63,13 +63,16 @@ unfoldable pub with_breach_words : List ℕ → Place → Cause → List ℕ
 with_breach_words text place cause =
     with_label (with_label text 20 48 (codes "cause") (place_words place) []) 20 66 (codes "cause") (cause_words cause) []
 
--- a breach: a line in the place, and the words
+-- a breach: a line in the place, what is not known of it, and the words
 unfoldable pub with_breach : Extent → List ℕ → Place → Cause → List ℕ
-with_breach extent text place cause = with_breach_words (with_box text (breach_area extent place) (codes "breach")) place cause
+with_breach extent text place cause =
+    with_breach_words (with_label (with_box text (breach_area extent place) (codes "breach"))
+    112 (panel_top extent place.frame + 24) (codes "note") (codes "a report does not say who broke the premise") [])
+    place cause
 
 -- under the title, that the run came to its end
 unfoldable pub with_ending : List ℕ → List ℕ
-with_ending text = with_label text 20 48 (codes "note") (codes "The run came to its end.") []
+with_ending text = with_label text 20 52 (codes "note") (codes "The run came to its end.") []
 
 -- the owner of a slot stands at its column
 unfoldable pub with_owner : Extent → List ℕ → Column → List ℕ
@@ -123,7 +126,7 @@ with_states extent frame facts text =
 
 -- the unit of a spread that is not 0
 abbrev pub spread_unit : Extent → List ℕ
-spread_unit extent = if extent.spread == 0 then [] else codes " units of time"
+spread_unit extent = if extent.spread == 0 then [] else codes " time units"
 
 -- the spread of a frame's begins
 abbrev pub spread_words : Begins → List ℕ

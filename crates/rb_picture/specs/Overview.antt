@@ -30,14 +30,7 @@ row_height extent =
     else 3
 
 abbrev pub slot_width : Extent → ℕ
-slot_width extent =
-    if nat_le (slots_of extent) 5 then 64
-    else if nat_le (slots_of extent) 8 then 40
-    else if nat_le (slots_of extent) 16 then 20
-    else if nat_le (slots_of extent) 32 then 10
-    else if nat_le (slots_of extent) 64 then 5
-    else if nat_le (slots_of extent) 160 then 2
-    else 1
+slot_width extent = max 1 (min 80 (320 / max 1 (slots_of extent)))
 
 -- the number of a frame, its cells, and two names
 abbrev pub band_width : Extent → ℕ

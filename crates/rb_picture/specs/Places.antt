@@ -41,8 +41,12 @@ abbrev pub grid_left : Extent → ℕ
 grid_left extent = if extent.spread == 0 then 196 else 284
 
 -- room for the longest word
+abbrev pub word_width : Extent → ℕ
+word_width extent = if nat_lt extent.word 1000 then 36 else if nat_lt extent.word 1000000 then 58 else 84
+
+-- the columns fill the picture
 abbrev pub cell_width : Extent → ℕ
-cell_width extent = if nat_lt extent.word 1000 then 36 else if nat_lt extent.word 1000000 then 58 else 84
+cell_width extent = max (word_width extent) (min 84 ((416 - grid_left extent) / max 1 (slots_of extent)))
 
 abbrev pub column_left : Extent → ℕ → ℕ
 column_left extent slot = grid_left extent + cell_width extent * (slot - extent.low)
@@ -61,9 +65,12 @@ picture_width extent = max 440 (max (40 + 60 * extent.bius) (grid_left extent + 
 abbrev pub picture_height : Extent → ℕ
 picture_height extent = 180 + panel_height extent * panels_of extent + (if is_behind extent extent.last then 72 else 0)
 
--- so many units of time are one pixel
-abbrev pub scale_of : Extent → ℕ
-scale_of extent = extent.spread / 160 + 1
+-- how many pixels a time is from the first begin: 160 for the greatest spread, or a few less if the spread is too large to multiply
+abbrev pub offset_of : Extent → ℕ → ℕ
+offset_of extent after =
+    if nat_lt extent.spread 4294967296
+    then min after extent.spread * 160 / max 1 extent.spread
+    else after / (extent.spread / 160 + 1)
 
 abbrev pub panel_area : Extent → ℕ → Area
 panel_area extent frame =
@@ -83,7 +90,7 @@ grid_area extent frame =
 -- how long after the first begin a node begins the frame; no further than the strip
 abbrev pub tick_area : Extent → ℕ → NodeName → ℕ → Area
 tick_area extent frame node after =
-    record { x = 94 + min (after / scale_of extent) 160; y = row_top extent frame (row_of extent node) + 3; width = 4; height = 14 }
+    record { x = 94 + min (offset_of extent after) 160; y = row_top extent frame (row_of extent node) + 3; width = 4; height = 14 }
 
 abbrev pub cell_area : Extent → DeliveryLine → Area
 cell_area extent l =

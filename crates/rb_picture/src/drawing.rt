@@ -104,7 +104,7 @@ pub(crate) fn push_breach_words(
     push_label(out, 20, 66, "cause", cause_words(cause), "")
 }
 
-/// A breach: a line in its place, and the words.
+/// A breach: a line in its place, what is not known of it, and the words.
 #[tactic(auto, unfolding(crate::specs::Drawing::with_breach))]
 pub(crate) fn push_breach(
     out: &mut Vec<u8>,
@@ -114,7 +114,10 @@ pub(crate) fn push_breach(
 ) -> Result<(), OutOfMemory>
     ensures { OnOk result (out.new.items ≡ with_breach extent out.old.items place cause) }
 {
+    let y = panel_top(extent, place.frame) + 24;
+    let unknown = "a report does not say who broke the premise";
     push_box(out, breach_area(extent, place), "breach")?;
+    push_label(out, 112, y, "note", unknown, "")?;
     push_breach_words(out, place, cause)
 }
 
@@ -123,7 +126,7 @@ pub(crate) fn push_breach(
 pub(crate) fn push_ending(out: &mut Vec<u8>) -> Result<(), OutOfMemory>
     ensures { OnOk result (out.new.items ≡ with_ending out.old.items) }
 {
-    push_label(out, 20, 48, "note", "The run came to its end.", "")
+    push_label(out, 20, 52, "note", "The run came to its end.", "")
 }
 
 /// The owner of a slot stands at its column.
@@ -294,7 +297,7 @@ fn spread_unit(extent: Extent) -> &'static str
     if extent.spread == 0 {
         ""
     } else {
-        " units of time"
+        " time units"
     }
 }
 

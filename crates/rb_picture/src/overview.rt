@@ -37,29 +37,14 @@ fn row_height(extent: Extent) -> u64
 
 fn slot_width(extent: Extent) -> u64
     ensures value { result ≡ slot_width extent }
-    ensures most { result ≤ 64 }
+    ensures most { result ≤ 80 }
 {
-    let slots = slots_of(extent);
-    if slots <= 5 {
-        64
-    } else if slots <= 8 {
-        40
-    } else if slots <= 16 {
-        20
-    } else if slots <= 32 {
-        10
-    } else if slots <= 64 {
-        5
-    } else if slots <= 160 {
-        2
-    } else {
-        1
-    }
+    (320 / slots_of(extent).max(1)).min(80).max(1)
 }
 
 fn band_width(extent: Extent) -> u64
     ensures value { result ≡ band_width extent }
-    ensures most { result ≤ 274877907000 }
+    ensures most { result ≤ 343597384000 }
 {
     120 + slot_width(extent) * slots_of(extent)
 }

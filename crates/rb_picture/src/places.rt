@@ -1,6 +1,6 @@
 //! Where things stand in a picture.
 ghost use Rattle.std.specs.Prelude.{◌≡◌, ◌^◌, ◌<◌, ◌≤◌};
-ghost use Rattle.rb_picture.specs.Places.{breach_area, cell_area, cell_width, close_area, column_left, grid_area, grid_left, is_behind, panel_area, panel_height, panel_top, panels_of, picture_height, picture_width, row_of, row_top, rows_of, slots_of, strip_area, tick_area};
+ghost use Rattle.rb_picture.specs.Places.{breach_area, cell_area, cell_width, close_area, column_left, grid_area, grid_left, is_behind, panel_area, panel_height, panel_top, panels_of, picture_height, picture_width, offset_of, row_of, row_top, rows_of, slots_of, strip_area, tick_area, word_width};
 
 use crate::extent::Extent;
 use crate::line::DeliveryLine;
@@ -82,8 +82,8 @@ pub(crate) fn grid_left(extent: Extent) -> u64
     if extent.spread == 0 { 196 } else { 284 }
 }
 
-pub(crate) fn cell_width(extent: Extent) -> u64
-    ensures value { result ≡ cell_width extent }
+fn word_width(extent: Extent) -> u64
+    ensures value { result ≡ word_width extent }
     ensures least { 36 ≤ result }
     ensures most { result ≤ 84 }
 {
@@ -94,6 +94,15 @@ pub(crate) fn cell_width(extent: Extent) -> u64
     } else {
         84
     }
+}
+
+pub(crate) fn cell_width(extent: Extent) -> u64
+    ensures value { result ≡ cell_width extent }
+    ensures least { 36 ≤ result }
+    ensures most { result ≤ 84 }
+{
+    let room = (416 - grid_left(extent)) / slots_of(extent).max(1);
+    word_width(extent).max(room.min(84))
 }
 
 pub(crate) fn column_left(extent: Extent, slot: u32) -> u64
@@ -167,11 +176,23 @@ pub(crate) fn grid_area(extent: Extent, frame: u32) -> Area
     }
 }
 
+// How many pixels a time is from the first begin.
+fn offset_of(extent: Extent, after: u64) -> u64
+    ensures { result ≡ offset_of extent after }
+{
+    let spread = extent.spread;
+    if spread < 4_294_967_296 {
+        after.min(spread) * 160 / spread.max(1)
+    } else {
+        after / (spread / 160 + 1)
+    }
+}
+
 pub(crate) fn tick_area(extent: Extent, frame: u32, node: NodeName, after: u64) -> Area
     ensures { result ≡ tick_area extent frame node after }
 {
     Area {
-        x: 94 + (after / (extent.spread / 160 + 1)).min(160),
+        x: 94 + offset_of(extent, after).min(160),
         y: row_top(extent, frame, row_of(extent, node)) + 3,
         width: 4,
         height: 14,
