@@ -162,7 +162,7 @@ rank set i = size (set_of (λ j. has (set_of (λ k. nat_lt k i)) j && has set j)
 -- the name of a node that is in the set, in a row of names behind so many others
 unfoldable pub with_named : ℕ → ℕ → List ℕ → ℕ → ℕ → List ℕ → ℕ → List ℕ
 with_named x y letter before set text i =
-    if has set i then with_label text (x + 28 * (before + rank set i)) y (codes "newcomer") letter (decimal i) else text
+    if has set i then with_label text (x + 34 * (before + rank set i)) y (codes "newcomer") letter (decimal i) else text
 
 unfoldable pub with_named_of : ℕ → ℕ → List ℕ → ℕ → ℕ → List ℕ → List ℕ
 with_named_of x y letter before set text = each_below (with_named x y letter before set) 16 text

@@ -59,8 +59,12 @@ is_wide extent = nat_lt 12 (slots_of extent)
 abbrev pub names_left : Extent → ℕ
 names_left extent = grid_left extent + 8 + cell_width extent * slots_of extent
 
+-- room behind the columns, for the names if there are any
+abbrev pub margin : Extent → ℕ
+margin extent = if is_wide extent then 56 else 24
+
 abbrev pub picture_width : Extent → ℕ
-picture_width extent = max 440 (max (40 + 60 * extent.bius) (grid_left extent + 56 + cell_width extent * slots_of extent))
+picture_width extent = max 440 (max (40 + 60 * extent.bius) (grid_left extent + margin extent + cell_width extent * slots_of extent))
 
 abbrev pub picture_height : Extent → ℕ
 picture_height extent = 180 + panel_height extent * panels_of extent + (if is_behind extent extent.last then 72 else 0)

@@ -409,7 +409,7 @@ fn push_named(out: &mut Vec<u8>, letter: &str, names: Names, number: u8) -> Resu
         ≡ with_named names.x names.y letter.now names.before names.set out.old.items number) }
 {
     if NodeSet::<Biu>::from_bits(names.set).has(number) {
-        let x = names.x + 28 * (u64::from(names.before) + rank(names.set, number));
+        let x = names.x + 34 * (u64::from(names.before) + rank(names.set, number));
         return push_numbered(out, x, names.y, "newcomer", letter, number);
     }
     Ok(())

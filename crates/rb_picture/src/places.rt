@@ -1,6 +1,6 @@
 //! Where things stand in a picture.
 ghost use Rattle.std.specs.Prelude.{◌≡◌, ◌^◌, ◌<◌, ◌≤◌};
-ghost use Rattle.rb_picture.specs.Places.{breach_area, cell_area, cell_width, close_area, column_left, grid_area, grid_left, is_behind, panel_area, panel_height, panel_top, panels_of, picture_height, picture_width, offset_of, row_of, row_top, rows_of, slots_of, strip_area, tick_area, word_width};
+ghost use Rattle.rb_picture.specs.Places.{breach_area, cell_area, cell_width, close_area, column_left, grid_area, grid_left, is_behind, margin, panel_area, panel_height, panel_top, panels_of, picture_height, picture_width, offset_of, row_of, row_top, rows_of, slots_of, strip_area, tick_area, word_width};
 
 use crate::extent::Extent;
 use crate::line::DeliveryLine;
@@ -112,11 +112,19 @@ pub(crate) fn column_left(extent: Extent, slot: u32) -> u64
     grid_left(extent) + cell_width(extent) * u64::from(slot.saturating_sub(u32::from(extent.low)))
 }
 
+// Room behind the columns, for the names if there are any.
+fn margin(extent: Extent) -> u64
+    ensures value { result ≡ margin extent }
+    ensures most { result ≤ 56 }
+{
+    if 12 < slots_of(extent) { 56 } else { 24 }
+}
+
 pub(crate) fn picture_width(extent: Extent) -> u64
     ensures value { result ≡ picture_width extent }
     ensures least { 440 ≤ result }
 {
-    let columns = grid_left(extent) + 56 + cell_width(extent) * slots_of(extent);
+    let columns = grid_left(extent) + margin(extent) + cell_width(extent) * slots_of(extent);
     let senders = 40 + 60 * u64::from(extent.bius);
     senders.max(columns).max(440)
 }
