@@ -37,11 +37,11 @@ adds_tick extent t frame node after = adds_either (is_behind extent frame) _ _ _
 
 adds_breach_words : (t : List ℕ) (place : Place) (cause : Cause) → AddsContent t (with_breach_words t place cause)
 unfolding with_breach_words
-adds_breach_words t place cause = adds_more (adds_label _ _ _ _ _ _) (adds_label _ _ _ _ _ _)
+adds_breach_words t place cause = adds_more (adds_label _ _ _ _ _ _) (adds_more (adds_label _ _ _ _ _ _) (adds_label _ _ _ _ _ _))
 
 adds_breach : (extent : Extent) (t : List ℕ) (place : Place) (cause : Cause) → AddsContent t (with_breach extent t place cause)
 unfolding with_breach
-adds_breach extent t place cause = adds_more (adds_breach_words _ place cause) (adds_more (adds_label _ _ _ _ _ _) (adds_box _ _ _))
+adds_breach extent t place cause = adds_more (adds_breach_words _ place cause) (adds_box _ _ _)
 
 adds_ending : (t : List ℕ) → AddsContent t (with_ending t)
 unfolding with_ending
@@ -99,7 +99,7 @@ adds_states extent frame facts t =
 adds_axis : (extent : Extent) (frame : ℕ) (t : List ℕ) → AddsContent t (with_axis extent frame t)
 unfolding with_axis
 adds_axis extent frame t =
-    adds_either (extent.spread == 0) _ _ _ adds_nothing (adds_more (adds_label _ _ _ _ _ _) (adds_more (adds_label _ _ _ _ _ _) (adds_box _ _ _)))
+    adds_either (extent.spread == 0) _ _ _ adds_nothing (adds_more (adds_label _ _ _ _ _ _) (adds_more (adds_label _ _ _ _ _ _) (adds_more (adds_label _ _ _ _ _ _) (adds_box _ _ _))))
 
 adds_ground : (extent : Extent) (frame : ℕ) (facts : Facts) (t : List ℕ) → AddsContent t (with_ground extent frame facts t)
 unfolding with_ground

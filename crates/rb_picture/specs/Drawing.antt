@@ -48,27 +48,33 @@ unfoldable pub with_tick : Extent → List ℕ → ℕ → NodeName → ℕ → 
 with_tick extent text frame node after =
     if is_behind extent frame then text else with_box text (tick_area extent frame node after) (codes "tick")
 
--- a cause, and what it means
+-- a cause, behind the place
+abbrev pub cause_name : Cause → List ℕ
+cause_name FewGoodBiu = codes ": FewGoodBiu"
+cause_name FewGoodRmu = codes ": FewGoodRmu"
+cause_name TwoSided = codes ": TwoSided"
+
+-- and what it means
 abbrev pub cause_words : Cause → List ℕ
-cause_words FewGoodBiu = codes "FewGoodBiu: the good BIUs are no majority"
-cause_words FewGoodRmu = codes "FewGoodRmu: the good RMUs are no majority"
-cause_words TwoSided = codes "TwoSided: one BIU, one RMU told two things"
+cause_words FewGoodBiu = codes "the good BIUs are no majority"
+cause_words FewGoodRmu = codes "the good RMUs are no majority"
+cause_words TwoSided = codes "one BIU, one RMU told two things"
 
 -- where the run broke off
 abbrev pub place_words : Place → List ℕ
 place_words place = ((((codes "Breach in frame " ++ decimal place.frame) ++ codes ", slot ") ++ decimal place.slot) ++ codes ", stage ") ++ decimal place.stage
 
--- under the title, where and why the run broke off
+-- under the title, where and why the run broke off, and what a report does not say
 unfoldable pub with_breach_words : List ℕ → Place → Cause → List ℕ
 with_breach_words text place cause =
-    with_label (with_label text 20 48 (codes "cause") (place_words place) []) 20 66 (codes "cause") (cause_words cause) []
+    with_label (with_label (with_label text
+    20 48 (codes "cause") (place_words place) (cause_name cause))
+    20 66 (codes "cause") (cause_words cause) [])
+    262 66 (codes "note") (codes "a report names no culprit") []
 
--- a breach: a line in the place, what is not known of it, and the words
+-- a breach: a line in the place, and the words
 unfoldable pub with_breach : Extent → List ℕ → Place → Cause → List ℕ
-with_breach extent text place cause =
-    with_breach_words (with_label (with_box text (breach_area extent place) (codes "breach"))
-    112 (panel_top extent place.frame + 24) (codes "note") (codes "a report does not say who broke the premise") [])
-    place cause
+with_breach extent text place cause = with_breach_words (with_box text (breach_area extent place) (codes "breach")) place cause
 
 -- under the title, that the run came to its end
 unfoldable pub with_ending : List ℕ → List ℕ
@@ -126,7 +132,7 @@ with_states extent frame facts text =
 
 -- the unit of a spread that is not 0
 abbrev pub spread_unit : Extent → List ℕ
-spread_unit extent = if extent.spread == 0 then [] else codes " time units"
+spread_unit extent = if extent.spread == 0 then [] else codes " units of time"
 
 -- the spread of a frame's begins
 abbrev pub spread_words : Begins → List ℕ
@@ -136,8 +142,9 @@ spread_words begins = codes "spread " ++ decimal (spread_of begins)
 unfoldable pub with_axis : Extent → ℕ → List ℕ → List ℕ
 with_axis extent frame text =
     if extent.spread == 0 then text
-    else with_label (with_label (with_box text
+    else with_label (with_label (with_label (with_box text
     (strip_area extent frame) (codes "strip"))
+    92 (panel_top extent frame + 46) (codes "scale") (codes "time after the first node") [])
     92 (panel_top extent frame + 62) (codes "scale") (codes "0") [])
     260 (panel_top extent frame + 62) (codes "most") [] (decimal extent.spread)
 
@@ -146,7 +153,7 @@ unfoldable pub with_ground : Extent → ℕ → Facts → List ℕ → List ℕ
 with_ground extent frame facts text =
     with_box (with_label (with_label (with_label (with_box text (panel_area extent frame) (codes "panel"))
     20 (panel_top extent frame + 24) (codes "title") (codes "frame ") (decimal frame))
-    92 (panel_top extent frame + 46) (codes "note") (spread_words facts.begins) (spread_unit extent))
+    150 (panel_top extent frame + 24) (codes "note") (spread_words facts.begins) (spread_unit extent))
     (grid_left extent - 13) (panel_top extent frame + 46) (codes "slot") (codes "slot") [])
     (grid_area extent frame) (codes "grid")
 

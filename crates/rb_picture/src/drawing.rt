@@ -3,7 +3,7 @@ ghost use Rattle.std.specs.Prelude.{◌≡◌, ◌<◌, ◌≤◌, ◌^◌, OnOk
 ghost use Rattle.rb_report.specs.Report.{heard_text};
 ghost use Rattle.rb_picture.specs.Markup.{with_label};
 ghost use Rattle.rb_picture.specs.Headings.{frames_words, last_whole, run_words, with_frames, with_heading};
-ghost use Rattle.rb_picture.specs.Drawing.{cause_words, look_of, nobody_of, place_words, rank, spread_unit, spread_words, with_absence, with_absent, with_axis, with_breach, with_breach_words, with_cell, with_close, with_cross, with_ending, with_ground, with_legend, with_marks, with_name, with_named, with_named_of, with_names_in, with_names_of, with_owner, with_panel, with_sender, with_senders, with_slot_number, with_slots, with_state, with_states, with_states_of, with_strokes, with_whole};
+ghost use Rattle.rb_picture.specs.Drawing.{cause_name, cause_words, look_of, nobody_of, place_words, rank, spread_unit, spread_words, with_absence, with_absent, with_axis, with_breach, with_breach_words, with_cell, with_close, with_cross, with_ending, with_ground, with_legend, with_marks, with_name, with_named, with_named_of, with_names_in, with_names_of, with_owner, with_panel, with_sender, with_senders, with_slot_number, with_slots, with_state, with_states, with_states_of, with_strokes, with_whole};
 
 use crate::column::Column;
 use crate::extent::{Begins, Extent, Facts, Nodes, Rows};
@@ -43,13 +43,23 @@ fn look_of(sender: u64) -> &'static str
     }
 }
 
+fn cause_name(cause: Cause) -> &'static str
+    ensures { result.now ≡ cause_name cause }
+{
+    match cause {
+        Cause::FewGoodBiu => ": FewGoodBiu",
+        Cause::FewGoodRmu => ": FewGoodRmu",
+        Cause::TwoSided => ": TwoSided",
+    }
+}
+
 fn cause_words(cause: Cause) -> &'static str
     ensures { result.now ≡ cause_words cause }
 {
     match cause {
-        Cause::FewGoodBiu => "FewGoodBiu: the good BIUs are no majority",
-        Cause::FewGoodRmu => "FewGoodRmu: the good RMUs are no majority",
-        Cause::TwoSided => "TwoSided: one BIU, one RMU told two things",
+        Cause::FewGoodBiu => "the good BIUs are no majority",
+        Cause::FewGoodRmu => "the good RMUs are no majority",
+        Cause::TwoSided => "one BIU, one RMU told two things",
     }
 }
 
@@ -91,7 +101,7 @@ fn place_words(place: Place) -> ArrayString<96>
     words
 }
 
-/// Under the title, where and why the run broke off.
+/// Under the title, where and why the run broke off, and what a report does not say.
 #[tactic(auto, unfolding(crate::specs::Drawing::with_breach_words))]
 pub(crate) fn push_breach_words(
     out: &mut Vec<u8>,
@@ -100,11 +110,13 @@ pub(crate) fn push_breach_words(
 ) -> Result<(), OutOfMemory>
     ensures { OnOk result (out.new.items ≡ with_breach_words out.old.items place cause) }
 {
-    push_label(out, 20, 48, "cause", place_words(place).as_str(), "")?;
-    push_label(out, 20, 66, "cause", cause_words(cause), "")
+    let place = place_words(place);
+    push_label(out, 20, 48, "cause", place.as_str(), cause_name(cause))?;
+    push_label(out, 20, 66, "cause", cause_words(cause), "")?;
+    push_label(out, 262, 66, "note", "a report names no culprit", "")
 }
 
-/// A breach: a line in its place, what is not known of it, and the words.
+/// A breach: a line in its place, and the words.
 #[tactic(auto, unfolding(crate::specs::Drawing::with_breach))]
 pub(crate) fn push_breach(
     out: &mut Vec<u8>,
@@ -114,10 +126,7 @@ pub(crate) fn push_breach(
 ) -> Result<(), OutOfMemory>
     ensures { OnOk result (out.new.items ≡ with_breach extent out.old.items place cause) }
 {
-    let y = panel_top(extent, place.frame) + 24;
-    let unknown = "a report does not say who broke the premise";
     push_box(out, breach_area(extent, place), "breach")?;
-    push_label(out, 112, y, "note", unknown, "")?;
     push_breach_words(out, place, cause)
 }
 
@@ -297,7 +306,7 @@ fn spread_unit(extent: Extent) -> &'static str
     if extent.spread == 0 {
         ""
     } else {
-        " time units"
+        " units of time"
     }
 }
 
@@ -312,19 +321,13 @@ fn spread_words(begins: Begins) -> ArrayString<96>
 }
 
 // How far apart nodes begin a frame.
-fn push_spread(
-    out: &mut Vec<u8>,
-    extent: Extent,
-    x: u64,
-    y: u64,
-    begins: Begins,
-) -> Result<(), OutOfMemory>
+fn push_spread(out: &mut Vec<u8>, extent: Extent, y: u64, begins: Begins) -> Result<(), OutOfMemory>
     ensures { OnOk result (out.new.items
-        ≡ with_label out.old.items x y (codes "note") (spread_words begins) (spread_unit extent)) }
+        ≡ with_label out.old.items 150 y (codes "note") (spread_words begins) (spread_unit extent)) }
 {
     push_label(
         out,
-        x,
+        150,
         y,
         "note",
         spread_words(begins).as_str(),
@@ -340,10 +343,11 @@ fn push_axis(out: &mut Vec<u8>, extent: Extent, frame: u32) -> Result<(), OutOfM
     if extent.spread == 0 {
         return Ok(());
     }
-    let y = panel_top(extent, frame) + 62;
+    let top = panel_top(extent, frame);
     push_box(out, strip_area(extent, frame), "strip")?;
-    push_label(out, 92, y, "scale", "0", "")?;
-    push_numbered(out, 260, y, "most", "", extent.spread)
+    push_label(out, 92, top + 46, "scale", "time after the first node", "")?;
+    push_label(out, 92, top + 62, "scale", "0", "")?;
+    push_numbered(out, 260, top + 62, "most", "", extent.spread)
 }
 
 #[tactic(auto, unfolding(crate::specs::Drawing::with_ground))]
@@ -358,7 +362,7 @@ fn push_ground(
     let top = panel_top(extent, frame);
     push_box(out, panel_area(extent, frame), "panel")?;
     push_numbered(out, 20, top + 24, "title", "frame ", frame)?;
-    push_spread(out, extent, 92, top + 46, facts.begins)?;
+    push_spread(out, extent, top + 24, facts.begins)?;
     push_label(out, grid_left(extent) - 13, top + 46, "slot", "slot", "")?;
     push_box(out, grid_area(extent, frame), "grid")
 }
@@ -475,7 +479,7 @@ fn push_close(
     let top = panel_top(extent, frame);
     push_box(out, close_area(extent, frame), "panel")?;
     push_label(out, 20, top + 24, "title", "after the run", "")?;
-    push_spread(out, extent, 150, top + 24, facts.begins)?;
+    push_spread(out, extent, top + 24, facts.begins)?;
     push_label(
         out,
         20,
