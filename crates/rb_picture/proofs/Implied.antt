@@ -1,5 +1,5 @@
 -- the faulty nodes that a lost majority implies
-use Rattle.std.proofs.Common.{◌≡◌, ◌∙◌, ℕ, ◌+◌, ◌*◌, ◌<◌, ◌≤◌, nat_lt, ◌||◌, true, false, min, inl, inr, arith, sym}
+use Rattle.std.proofs.Common.{◌≡◌, ◌∙◌, ℕ, ◌+◌, ◌*◌, ◌<◌, ◌≤◌, nat_lt, ◌||◌, inl, inr, arith, sym}
 use Rattle.std.proofs.Math.Nat.{min-le_right}
 use Rattle.std.proofs.lemmas.Bool.{or_cases, or_from, or_left, or_right}
 use Rattle.rb_base.specs.Nodes.{has, set_of, size}
