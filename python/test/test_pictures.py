@@ -1,4 +1,4 @@
-"""The pictures of docs/pictures show what the second model reports, where docs/robus_picture.md says.
+"""docs/pictures show what the second model reports, in the places of docs/robus_picture.md.
 
 test_library looks whether robus_picture draws exactly these pictures."""
 from __future__ import annotations
