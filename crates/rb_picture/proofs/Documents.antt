@@ -1,5 +1,5 @@
 -- a picture is one element
-use Rattle.std.proofs.Common.{ℕ, ◌+◌, ◌&&◌, nat_lt, not, List, [], ◌∷◌, codes}
+use Rattle.std.proofs.Common.{ℕ, ◌+◌, ◌-◌, ◌%◌, ◌==◌, ◌&&◌, nat_lt, not, List, [], ◌∷◌, codes}
 use Rattle.rb_base.specs.Nodes.{has, size}
 use Rattle.rb_base.specs.declared.node.NodeName.{NodeName}
 use Rattle.rb_base.specs.declared.values.Place.{Place}
@@ -14,13 +14,13 @@ use Rattle.rb_picture.specs.declared.sheet.Sheet.{Sheet}
 use Rattle.rb_picture.specs.declared.sheet.View.{View}
 use Rattle.rb_picture.specs.declared.sheet.View.TheVariants.{Panels, Overview}
 use Rattle.rb_picture.specs.Headings.{with_frames, with_heading, with_key}
-use Rattle.rb_picture.specs.Overview.{is_numbered, newly, with_break, with_break_words, with_frame_number, with_newcomer, with_newcomers, with_newcomers_of, with_outcomes, with_row, with_sign, with_signature, with_signs, with_slot_range, with_square}
+use Rattle.rb_picture.specs.Overview.{band_rows, is_numbered, newcomers, slot_step, with_axes, with_axes_at, with_break, with_frame_number, with_line, with_outcomes, with_row, with_sign, with_signature, with_signs, with_slot_name, with_slot_names, with_square}
 use Rattle.rb_picture.specs.Sheets.{sheet_height, sheet_width}
 use Rattle.rb_picture.specs.Content.{AddsContent}
 use Rattle.rb_picture.specs.Markup.{with_opening}
 use Rattle.rb_picture.specs.Extents.{biu_rows, rmu_rows}
-use Rattle.rb_picture.specs.Places.{is_wide, slots_of}
-use Rattle.rb_picture.specs.Drawing.{follows, with_breach, with_cell, with_absence, with_cross, with_ending, with_ground, with_last_panel, with_legend, with_marks, with_name, with_names, with_names_of, with_owner, with_panel, with_sender, with_senders, with_slot_number, with_slots, with_state, with_states, with_states_of, with_strokes, with_tick}
+use Rattle.rb_picture.specs.Places.{is_behind, is_wide, slots_of}
+use Rattle.rb_picture.specs.Drawing.{with_absence, with_absent, with_axis, with_breach, with_breach_words, with_cell, with_close, with_cross, with_ending, with_ground, with_legend, with_marks, with_name, with_named, with_named_of, with_names, with_names_in, with_names_of, with_owner, with_panel, with_sender, with_senders, with_slot_number, with_slots, with_state, with_states, with_states_of, with_strokes, with_tick, with_whole}
 use Rattle.rb_picture.specs.Picture.{Piece, picture_text, pieces_of, with_part, with_piece, with_pieces}
 use Rattle.rb_picture.specs.Picture.Piece.{Ground, Head, Tick, Cell, Break, Ending}
 use Rattle.rb_picture.specs.Laws.{IsWellFormed}
@@ -33,19 +33,19 @@ adds_cell extent t l = adds_more (adds_label _ _ _ _ _ _) (adds_box _ _ _)
 
 adds_tick : (extent : Extent) (t : List ℕ) (frame : ℕ) (node : NodeName) (after : ℕ) → AddsContent t (with_tick extent t frame node after)
 unfolding with_tick
-adds_tick extent t frame node after = adds_box _ _ _
+adds_tick extent t frame node after = adds_either (is_behind extent frame) _ _ _ adds_nothing (adds_box _ _ _)
+
+adds_breach_words : (t : List ℕ) (place : Place) (cause : Cause) → AddsContent t (with_breach_words t place cause)
+unfolding with_breach_words
+adds_breach_words t place cause = adds_more (adds_label _ _ _ _ _ _) (adds_more (adds_label _ _ _ _ _ _) (adds_label _ _ _ _ _ _))
 
 adds_breach : (extent : Extent) (t : List ℕ) (place : Place) (cause : Cause) → AddsContent t (with_breach extent t place cause)
 unfolding with_breach
-adds_breach extent t place cause = adds_more (adds_label _ _ _ _ _ _) (adds_more (adds_label _ _ _ _ _ _) (adds_more (adds_label _ _ _ _ _ _) (adds_box _ _ _)))
+adds_breach extent t place cause = adds_more (adds_breach_words _ place cause) (adds_box _ _ _)
 
-adds_ending : (t : List ℕ) (frames : ℕ) → AddsContent t (with_ending t frames)
+adds_ending : (t : List ℕ) → AddsContent t (with_ending t)
 unfolding with_ending
-adds_ending t frames = adds_label _ _ _ _ _ _
-
-adds_last_panel : (extent : Extent) (t : List ℕ) (frames : ℕ) → AddsContent t (with_last_panel extent t frames)
-unfolding with_last_panel
-adds_last_panel extent t frames = adds_if (follows extent frames) _ _ (adds_label _ _ _ _ _ _)
+adds_ending t = adds_label _ _ _ _ _ _
 
 adds_owner : (extent : Extent) (t : List ℕ) (column : Column) → AddsContent t (with_owner extent t column)
 unfolding with_owner
@@ -96,17 +96,45 @@ adds_states extent frame facts t =
     adds_more (adds_states_of extent frame (rmu_rows extent facts) (with_states_of extent frame (biu_rows extent facts) t))
     (adds_states_of extent frame (biu_rows extent facts) t)
 
+adds_axis : (extent : Extent) (frame : ℕ) (t : List ℕ) → AddsContent t (with_axis extent frame t)
+unfolding with_axis
+adds_axis extent frame t =
+    adds_either (extent.spread == 0) _ _ _ adds_nothing (adds_more (adds_label _ _ _ _ _ _) (adds_more (adds_label _ _ _ _ _ _) (adds_more (adds_label _ _ _ _ _ _) (adds_box _ _ _))))
+
 adds_ground : (extent : Extent) (frame : ℕ) (facts : Facts) (t : List ℕ) → AddsContent t (with_ground extent frame facts t)
 unfolding with_ground
 adds_ground extent frame facts t =
-    adds_more (adds_box _ _ _) (adds_more (adds_box _ _ _) (adds_more (adds_label _ _ _ _ _ _) (adds_more (adds_label _ _ _ _ _ _) (adds_more (adds_label _ _ _ _ _ _) (adds_box _ _ _)))))
+    adds_more (adds_box _ _ _) (adds_more (adds_label _ _ _ _ _ _) (adds_more (adds_label _ _ _ _ _ _) (adds_more (adds_label _ _ _ _ _ _) (adds_box _ _ _))))
+
+adds_whole : (extent : Extent) (frame : ℕ) (facts : Facts) (t : List ℕ) → AddsContent t (with_whole extent frame facts t)
+unfolding with_whole
+adds_whole extent frame facts t =
+    adds_more (adds_states extent frame facts _)
+    (adds_more (adds_slots extent frame _)
+    (adds_more (adds_names extent frame _)
+    (adds_more (adds_axis extent frame _) (adds_ground extent frame facts t))))
+
+adds_named : (x y : ℕ) (letter : List ℕ) (before set : ℕ) (t : List ℕ) (i : ℕ) → AddsContent t (with_named x y letter before set t i)
+unfolding with_named
+adds_named x y letter before set t i = adds_if (has set i) _ _ (adds_label _ _ _ _ _ _)
+
+adds_named_of : (x y : ℕ) (letter : List ℕ) (before set : ℕ) (t : List ℕ) → AddsContent t (with_named_of x y letter before set t)
+unfolding with_named_of
+adds_named_of x y letter before set t = adds_each (with_named x y letter before set) (adds_named x y letter before set) 16 t
+
+adds_names_in : (x y : ℕ) (nodes : Nodes) (t : List ℕ) → AddsContent t (with_names_in x y nodes t)
+unfolding with_names_in
+adds_names_in x y nodes t = adds_more (adds_named_of x y (codes "R") (size nodes.biu) nodes.rmu _) (adds_named_of x y (codes "B") 0 nodes.biu t)
+
+adds_close : (extent : Extent) (frame : ℕ) (facts : Facts) (t : List ℕ) → AddsContent t (with_close extent frame facts t)
+unfolding with_close
+adds_close extent frame facts t =
+    adds_more (adds_names_in _ _ facts.convicted _)
+    (adds_more (adds_label _ _ _ _ _ _) (adds_more (adds_label _ _ _ _ _ _) (adds_more (adds_label _ _ _ _ _ _) (adds_box _ _ _))))
 
 adds_panel : (extent : Extent) (frame : ℕ) (facts : Facts) (t : List ℕ) → AddsContent t (with_panel extent frame facts t)
 unfolding with_panel
-adds_panel extent frame facts t =
-    adds_more (adds_states extent frame facts (with_slots extent frame (with_names extent frame (with_ground extent frame facts t))))
-    (adds_more (adds_slots extent frame (with_names extent frame (with_ground extent frame facts t)))
-    (adds_more (adds_names extent frame (with_ground extent frame facts t)) (adds_ground extent frame facts t)))
+adds_panel extent frame facts t = adds_either (is_behind extent frame) _ _ _ (adds_close extent frame facts t) (adds_whole extent frame facts t)
 
 adds_sender : (t : List ℕ) (i : ℕ) → AddsContent t (with_sender t i)
 unfolding with_sender
@@ -121,52 +149,55 @@ adds_strokes : (t : List ℕ) → AddsContent t (with_strokes t)
 unfolding with_strokes
 adds_strokes t = adds_more (adds_label _ _ _ _ _ _) (adds_more (adds_box _ _ _) (adds_more (adds_label _ _ _ _ _ _) (adds_box _ _ _)))
 
+adds_absent : (t : List ℕ) → AddsContent t (with_absent t)
+unfolding with_absent
+adds_absent t = adds_more (adds_label _ _ _ _ _ _) (adds_label _ _ _ _ _ _)
+
 adds_senders : (extent : Extent) (t : List ℕ) → AddsContent t (with_senders extent t)
 unfolding with_senders
 adds_senders extent t = adds_each with_sender adds_sender extent.bius t
 
 adds_legend : (extent : Extent) (t : List ℕ) → AddsContent t (with_legend extent t)
 unfolding with_legend
-adds_legend extent t =
-    adds_more (adds_strokes (with_marks (with_senders extent t))) (adds_more (adds_marks (with_senders extent t)) (adds_senders extent t))
-
-adds_newcomer : (extent : Extent) (frame : ℕ) (letter : List ℕ) (before set : ℕ) (t : List ℕ) (i : ℕ) → AddsContent t (with_newcomer extent frame letter before set t i)
-unfolding with_newcomer
-adds_newcomer extent frame letter before set t i = adds_if (has set i) _ _ (adds_label _ _ _ _ _ _)
-
-adds_newcomers_of : (extent : Extent) (frame : ℕ) (letter : List ℕ) (before set : ℕ) (t : List ℕ) → AddsContent t (with_newcomers_of extent frame letter before set t)
-unfolding with_newcomers_of
-adds_newcomers_of extent frame letter before set t =
-    adds_each (with_newcomer extent frame letter before set) (adds_newcomer extent frame letter before set) 16 t
-
-adds_newcomers : (extent : Extent) (frame : ℕ) (before after : Nodes) (t : List ℕ) → AddsContent t (with_newcomers extent frame before after t)
-unfolding with_newcomers
-adds_newcomers extent frame before after t =
-    adds_more (adds_newcomers_of extent frame (codes "R") (size (newly before.biu after.biu)) (newly before.rmu after.rmu)
-    (with_newcomers_of extent frame (codes "B") 0 (newly before.biu after.biu) t))
-    (adds_newcomers_of extent frame (codes "B") 0 (newly before.biu after.biu) t)
+adds_legend extent t = adds_more (adds_absent _) (adds_more (adds_strokes _) (adds_more (adds_marks _) (adds_senders extent t)))
 
 adds_frame_number : (extent : Extent) (t : List ℕ) (frame : ℕ) → AddsContent t (with_frame_number extent t frame)
 unfolding with_frame_number
 adds_frame_number extent t frame = adds_if (is_numbered extent frame) _ _ (adds_label _ _ _ _ _ _)
 
+adds_slot_name : (extent : Extent) (frame : ℕ) (t : List ℕ) (i : ℕ) → AddsContent t (with_slot_name extent frame t i)
+unfolding with_slot_name
+adds_slot_name extent frame t i = adds_if ((extent.low + i) % slot_step extent == 0) _ _ (adds_label _ _ _ _ _ _)
+
+adds_slot_names : (extent : Extent) (frame : ℕ) (t : List ℕ) → AddsContent t (with_slot_names extent frame t)
+unfolding with_slot_names
+adds_slot_names extent frame t = adds_each (with_slot_name extent frame) (adds_slot_name extent frame) (slots_of extent) t
+
+adds_axes : (extent : Extent) (frame : ℕ) (t : List ℕ) → AddsContent t (with_axes extent frame t)
+unfolding with_axes
+adds_axes extent frame t = adds_more (adds_slot_names extent frame _) (adds_more (adds_label _ _ _ _ _ _) (adds_label _ _ _ _ _ _))
+
+adds_axes_at : (extent : Extent) (frame : ℕ) (t : List ℕ) → AddsContent t (with_axes_at extent frame t)
+unfolding with_axes_at
+adds_axes_at extent frame t = adds_if ((frame - extent.first) % band_rows == 0) _ _ (adds_axes extent frame t)
+
+adds_line : (extent : Extent) (frame : ℕ) (t : List ℕ) → AddsContent t (with_line extent frame t)
+unfolding with_line
+adds_line extent frame t =
+    adds_either (is_behind extent frame) _ _ _ (adds_label _ _ _ _ _ _) (adds_more (adds_frame_number extent _ frame) (adds_box _ _ _))
+
 adds_row : (extent : Extent) (frame : ℕ) (before after : Nodes) (t : List ℕ) → AddsContent t (with_row extent frame before after t)
 unfolding with_row
 adds_row extent frame before after t =
-    adds_more (adds_newcomers extent frame before after _) (adds_more (adds_frame_number extent _ frame) (adds_box _ _ _))
+    adds_more (adds_names_in _ _ (newcomers before after) _) (adds_more (adds_line extent frame _) (adds_axes_at extent frame t))
 
 adds_square : (extent : Extent) (t : List ℕ) (column : Column) → AddsContent t (with_square extent t column)
 unfolding with_square
 adds_square extent t column = adds_box _ _ _
 
-adds_break_words : (t : List ℕ) (place : Place) (cause : Cause) → AddsContent t (with_break_words t place cause)
-unfolding with_break_words
-adds_break_words t place cause =
-    adds_more (adds_label _ _ _ _ _ _) (adds_more (adds_label _ _ _ _ _ _) (adds_more (adds_label _ _ _ _ _ _) (adds_label _ _ _ _ _ _)))
-
 adds_break : (extent : Extent) (t : List ℕ) (place : Place) (cause : Cause) → AddsContent t (with_break extent t place cause)
 unfolding with_break
-adds_break extent t place cause = adds_more (adds_break_words _ place cause) (adds_box _ _ _)
+adds_break extent t place cause = adds_more (adds_breach_words _ place cause) (adds_box _ _ _)
 
 adds_sign : (t : List ℕ) (x y : ℕ) (look meaning : List ℕ) → AddsContent t (with_sign t x y look meaning)
 unfolding with_sign
@@ -181,18 +212,13 @@ unfolding with_signs
 adds_signs t =
     adds_more (adds_label _ _ _ _ _ _) (adds_more (adds_label _ _ _ _ _ _) (adds_more (adds_sign _ _ _ _ _) (adds_sign _ _ _ _ _)))
 
-adds_slot_range : (extent : Extent) (t : List ℕ) → AddsContent t (with_slot_range extent t)
-unfolding with_slot_range
-adds_slot_range extent t = adds_more (adds_label _ _ _ _ _ _) (adds_label _ _ _ _ _ _)
-
-adds_signature : (extent : Extent) (t : List ℕ) → AddsContent t (with_signature extent t)
+adds_signature : (t : List ℕ) → AddsContent t (with_signature t)
 unfolding with_signature
-adds_signature extent t = adds_more (adds_slot_range extent _) (adds_more (adds_signs _) (adds_outcomes t))
+adds_signature t = adds_more (adds_signs _) (adds_outcomes t)
 
 adds_frames : (extent : Extent) (t : List ℕ) → AddsContent t (with_frames extent t)
 unfolding with_frames
-adds_frames extent t =
-    adds_either (nat_lt extent.last extent.first) _ _ _ (adds_label _ _ _ _ _ _) (adds_more (adds_label _ _ _ _ _ _) (adds_label _ _ _ _ _ _))
+adds_frames extent t = adds_label _ _ _ _ _ _
 
 adds_heading : (sheet : Sheet) (t : List ℕ) → AddsContent t (with_heading sheet t)
 unfolding with_heading
@@ -200,7 +226,7 @@ adds_heading sheet t = adds_more (adds_frames sheet.extent _) (adds_box _ _ _)
 
 adds_key : (view : View) (extent : Extent) (t : List ℕ) → AddsContent t (with_key view extent t)
 adds_key Panels extent t = adds_legend extent t
-adds_key Overview extent t = adds_signature extent t
+adds_key Overview extent t = adds_signature t
 
 adds_part : (view : View) (extent : Extent) (t : List ℕ) (p : Piece) → AddsContent t (with_part view extent t p)
 adds_part Panels extent t (Ground frame before facts) = adds_panel extent frame facts t
@@ -208,13 +234,13 @@ adds_part Panels extent t (Head column) = adds_owner extent t column
 adds_part Panels extent t (Tick frame node after) = adds_tick extent t frame node after
 adds_part Panels extent t (Cell l) = adds_cell extent t l
 adds_part Panels extent t (Break place cause) = adds_breach extent t place cause
-adds_part Panels extent t (Ending frames) = adds_more (adds_last_panel extent _ frames) (adds_ending t frames)
+adds_part Panels extent t (Ending frames) = adds_ending t
 adds_part Overview extent t (Ground frame before facts) = adds_row extent frame before.convicted facts.convicted t
 adds_part Overview extent t (Head column) = adds_square extent t column
 adds_part Overview extent t (Tick frame node after) = adds_nothing
 adds_part Overview extent t (Cell l) = adds_nothing
 adds_part Overview extent t (Break place cause) = adds_break extent t place cause
-adds_part Overview extent t (Ending frames) = adds_ending t frames
+adds_part Overview extent t (Ending frames) = adds_ending t
 
 adds_pieces : (sheet : Sheet) (t : List ℕ) (ps : List Piece) → AddsContent t (with_pieces sheet t ps)
 adds_pieces sheet t [] = adds_nothing

@@ -1,6 +1,7 @@
 pub mod Cells
 pub mod WellFormed
 pub mod Sizes
+pub mod Implied
 pub mod Openings
 pub mod Documents
 pub mod Orders

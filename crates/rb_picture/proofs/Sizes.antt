@@ -1,6 +1,6 @@
 -- how large an overview is
-use Rattle.std.proofs.Common.{◌≡◌, ℕ, ◌+◌, ◌*◌, ◌/◌, ◌≤◌, min, max, nat_le, Bool, true, false, if◌then◌else◌, arith, refl}
-use Rattle.std.proofs.Math.Nat.{div-mul-le_self, max-le, min-le_left, min-le_right}
+use Rattle.std.proofs.Common.{◌≡◌, ℕ, zero, suc, ◌+◌, ◌*◌, ◌/◌, ◌<◌, ◌≤◌, min, max, nat_le, Bool, true, false, if◌then◌else◌, arith, refl}
+use Rattle.std.proofs.Math.Nat.{div-mul-le_self, le-max_left, le-max_right, lt-div-mul-add, max-le, min-le_left, min-le_right}
 use Rattle.std.proofs.lemmas.Bool.{leb-true}
 use Rattle.std.proofs.lemmas.Nat.{mul-le}
 use Rattle.rb_picture.specs.Overview.{frames_of, slot_width}
@@ -12,16 +12,21 @@ chosen : (test : Bool) (a b n most : ℕ) → (test ≡ true → a * n ≤ most)
 chosen true a b n most first second = first refl
 chosen false a b n most first second = second refl
 
-up_to : (n bound size most : ℕ) → size * bound ≤ most → nat_le n bound ≡ true → size * n ≤ most
-up_to n bound size most room is = let few : n ≤ bound = leb-true n bound is in omega (arith, mul-le size n size bound (omega arith) few, room)
+-- a share of 320 is not 0
+not_none : (q n : ℕ) → 320 < q * n + n → n ≤ 320 → 1 ≤ q
+not_none zero n less small = absurd (omega (arith, less, small))
+not_none (suc q) n less small = omega arith
 
-columns_fit : (n : ℕ) → n ≤ 320
-    → (if nat_le n 16 then 20 else if nat_le n 32 then 10 else if nat_le n 64 then 5 else if nat_le n 160 then 2 else 1) * n ≤ 320
+share_fits : (n m q w : ℕ) → n ≤ m → w ≤ q → q * m ≤ 320 → w * n ≤ 320
+share_fits n m q w narrow few room = omega (arith, mul-le w n q m few narrow, room)
+
+columns_fit : (n : ℕ) → n ≤ 320 → max 1 (min 80 (320 / max 1 n)) * n ≤ 320
 columns_fit n small =
-    chosen (nat_le n 16) 20 (if nat_le n 32 then 10 else if nat_le n 64 then 5 else if nat_le n 160 then 2 else 1) n 320 (up_to n 16 20 320 (omega arith))
-    (λ _. chosen (nat_le n 32) 10 (if nat_le n 64 then 5 else if nat_le n 160 then 2 else 1) n 320 (up_to n 32 10 320 (omega arith))
-    (λ _. chosen (nat_le n 64) 5 (if nat_le n 160 then 2 else 1) n 320 (up_to n 64 5 320 (omega arith))
-    (λ _. chosen (nat_le n 160) 2 1 n 320 (up_to n 160 2 320 (omega arith)) (λ _. omega (arith, small)))))
+    share_fits n (max 1 n) (320 / max 1 n) (max 1 (min 80 (320 / max 1 n))) (le-max_right 1 n)
+    (max-le
+    (not_none (320 / max 1 n) (max 1 n) (lt-div-mul-add (omega (arith, le-max_left 1 n))) (max-le (omega arith) small))
+    (min-le_right 80 (320 / max 1 n)))
+    (div-mul-le_self 320 (max 1 n))
 
 rows_fit : (n : ℕ) → (if nat_le n 300 then 12 else if nat_le n 600 then 6 else 3) * min n 1200 ≤ 3600
 rows_fit n =
@@ -34,7 +39,7 @@ rows_fit n =
 bands_fit : (n : ℕ) → n ≤ 4800 → (n + 1199) / 1200 ≤ 4
 bands_fit n small = omega (arith, small, div-mul-le_self (n + 1199) 1200)
 
-width_fits : (columns bands : ℕ) → columns ≤ 320 → bands ≤ 4 → max 640 (20 + (120 + columns) * bands) ≤ 2000
+width_fits : (columns bands : ℕ) → columns ≤ 320 → bands ≤ 4 → max 440 (20 + (120 + columns) * bands) ≤ 2000
 width_fits columns bands narrow few =
     max-le (omega arith) (omega (arith, mul-le (120 + columns) bands 440 4 (omega (arith, narrow)) few))
 

@@ -6,21 +6,21 @@ use Rattle.rb_picture.specs.declared.line.Line.{Line}
 use Rattle.rb_base.specs.declared.values.Heard.{Heard}
 use Rattle.rb_picture.specs.declared.drawn.Stand.{Stand}
 use Rattle.rb_picture.specs.declared.sheet.Sheet.{Sheet}
-use Rattle.rb_picture.specs.declared.extent.Begins.{Begins}
 use Rattle.rb_picture.specs.declared.extent.Extent.{Extent}
 use Rattle.rb_picture.specs.declared.extent.Facts.{Facts}
-use Rattle.rb_picture.specs.Extents.{begins_after, extent_after, extent_from, facts_after, facts_from, mark_of, top_below}
+use Rattle.rb_picture.specs.declared.extent.Newest.{Newest}
+use Rattle.rb_picture.specs.Extents.{extent_after, extent_from, facts_after, facts_from, mark_of, newest_after, top_below}
 use Rattle.rb_picture.specs.Markup.{each_below}
 use Rattle.rb_picture.specs.Columns.{all_bring, brings, line_mark}
 use Rattle.rb_picture.specs.Picture.{Piece, pieces_at, pieces_from, stand_with, with_piece, with_pieces}
 
-pub extent_turn : (extent : Extent) (begins : Begins) (ls : List Line) (i : ℕ) (d : Line) → i < length ls
-    → extent_from extent begins (drop i ls)
-    ≡ extent_from (extent_after extent (begins_after begins (get_or ls i d)) (get_or ls i d)) (begins_after begins (get_or ls i d)) (drop (i + 1) ls)
-extent_turn extent begins ls i d below = at_drop_more (extent_from extent begins) ls i d below
+pub extent_turn : (extent : Extent) (newest : Newest) (ls : List Line) (i : ℕ) (d : Line) → i < length ls
+    → extent_from extent newest (drop i ls)
+    ≡ extent_from (extent_after extent (newest_after newest (get_or ls i d)).facts (get_or ls i d)) (newest_after newest (get_or ls i d)) (drop (i + 1) ls)
+extent_turn extent newest ls i d below = at_drop_more (extent_from extent newest) ls i d below
 
-pub extent_end : (extent : Extent) (begins : Begins) (ls : List Line) (i : ℕ) → length ls ≤ i → extent_from extent begins (drop i ls) ≡ extent
-extent_end extent begins ls i end = at_drop_all (extent_from extent begins) ls i end
+pub extent_end : (extent : Extent) (newest : Newest) (ls : List Line) (i : ℕ) → length ls ≤ i → extent_from extent newest (drop i ls) ≡ extent
+extent_end extent newest ls i end = at_drop_all (extent_from extent newest) ls i end
 
 pub facts_turn : (mark : ℕ) (facts : Facts) (ls : List Line) (i : ℕ) (d : Line) → i < length ls
     → facts_from mark facts (drop i ls)

@@ -1,15 +1,19 @@
 -- What the lines of the frames asked for span: nodes, slots, words and times.
-use Rattle.std.specs.Prelude.{ℕ, zero, suc, ◌+◌, ◌-◌, ◌^◌, min, max, nat_lt, nat_le, ◌==◌, ◌&&◌, ◌||◌, Bool, true, if◌then◌else◌, List, [], ◌∷◌}
-use Rattle.rb_base.specs.Nodes.{has, set_of}
+use Rattle.std.specs.Prelude.{ℕ, zero, suc, ◌+◌, ◌-◌, ◌*◌, ◌^◌, min, max, nat_lt, nat_le, ◌==◌, ◌&&◌, ◌||◌, Bool, true, if◌then◌else◌, List, [], ◌∷◌}
+use Rattle.rb_base.specs.Nodes.{has, set_of, size}
 use Rattle.rb_base.specs.declared.node.NodeName.{NodeName}
 use Rattle.rb_base.specs.declared.node.NodeName.TheVariants.{Biu, Rmu}
 use Rattle.rb_base.specs.declared.values.Heard.{Heard}
 use Rattle.rb_base.specs.declared.values.Heard.TheVariants.{Word, Fault}
+use Rattle.rb_base.specs.declared.values.Place.{Place}
+use Rattle.rb_rules.specs.declared.cause.Cause.{Cause}
+use Rattle.rb_rules.specs.declared.cause.Cause.TheVariants.{FewGoodBiu, FewGoodRmu, TwoSided}
 use Rattle.rb_picture.specs.declared.line.Line.{Line}
 use Rattle.rb_picture.specs.declared.line.Line.TheVariants as line
 use Rattle.rb_picture.specs.declared.extent.Extent.{Extent}
 use Rattle.rb_picture.specs.declared.extent.Begins.{Begins}
 use Rattle.rb_picture.specs.declared.extent.Facts.{Facts}
+use Rattle.rb_picture.specs.declared.extent.Newest.{Newest}
 use Rattle.rb_picture.specs.declared.extent.Nodes.{Nodes}
 use Rattle.rb_picture.specs.declared.extent.Rows.{Rows}
 
@@ -51,7 +55,7 @@ spread_of begins = begins.greatest - begins.least
 
 -- nothing spans nothing
 abbrev pub no_extent : Extent
-no_extent = record { first = 2 ^ 32 - 1; bius = 0; rmus = 0; low = 2 ^ 16 - 1; high = 0; word = 0; spread = 0; last = 0 }
+no_extent = record { first = 2 ^ 32 - 1; bius = 0; rmus = 0; low = 2 ^ 16 - 1; high = 0; word = 0; spread = 0; last = 0; busy = 0; run = 2 ^ 32 }
 
 abbrev pub with_frame : Extent → ℕ → Extent
 with_frame extent frame = record extent { first = min extent.first frame; last = max extent.last frame }
@@ -72,33 +76,6 @@ with_word extent Fault = extent
 
 abbrev pub with_spread : Extent → ℕ → Extent
 with_spread extent spread = record extent { spread = max extent.spread spread }
-
--- the begins of the newest frame after one more line
-abbrev pub begins_after : Begins → Line → Begins
-begins_after begins (line.Epoch l) = with_begin begins l.frame l.time
-begins_after begins (line.Convicted l) = begins
-begins_after begins (line.Port l) = begins
-begins_after begins (line.Delivery l) = begins
-begins_after begins (line.End frames) = begins
-begins_after begins (line.Breach place cause) = begins
-
--- what is spanned with one more line, with which the newest frame has begun like this
-abbrev pub extent_after : Extent → Begins → Line → Extent
-extent_after extent begins (line.Epoch l) = with_spread (with_node (with_frame extent l.frame) l.node) (spread_of begins)
-extent_after extent begins (line.Convicted l) = with_sets (with_node (with_frame extent l.frame) l.node) l.biu l.rmu
-extent_after extent begins (line.Port l) = with_node (with_frame extent l.frame) (Biu l.biu)
-extent_after extent begins (line.Delivery l) =
-    with_word (with_slot (with_node (with_node (with_frame extent l.frame) (Biu l.receiver)) (Biu l.sender)) l.slot) l.value
-extent_after extent begins (line.End frames) = extent
-extent_after extent begins (line.Breach place cause) = with_slot (with_frame extent place.frame) place.slot
-
--- what lines span
-abbrev pub extent_from : Extent → Begins → List Line → Extent
-extent_from extent begins [] = extent
-extent_from extent begins (l ∷ lines) = extent_from (extent_after extent (begins_after begins l) l) (begins_after begins l) lines
-
-abbrev pub extent_of : List Line → Extent
-extent_of lines = extent_from no_extent no_begins lines
 
 -- one more than the frame of a line, and this number for the end of a run
 abbrev pub mark_of : ℕ → Line → ℕ
@@ -144,6 +121,53 @@ facts_after facts (line.Port l) = with_present facts (Biu l.biu)
 facts_after facts (line.Delivery l) = with_present facts (Biu l.receiver)
 facts_after facts (line.End frames) = facts
 facts_after facts (line.Breach place cause) = facts
+
+-- the newest frame, by one more than its number, and what its lines say
+abbrev pub no_newest : Newest
+no_newest = record { mark = 0; facts = no_facts }
+
+-- the newest frame after one more line
+unfoldable pub newest_after : Newest → Line → Newest
+newest_after newest l =
+    if mark_of newest.mark l == newest.mark
+    then record { mark = newest.mark; facts = facts_after newest.facts l }
+    else record { mark = mark_of newest.mark l; facts = facts_after no_facts l }
+
+-- something is delivered in the frame, or the run breaks off in it
+abbrev pub with_busy : Extent → ℕ → Extent
+with_busy extent frame = record extent { busy = max extent.busy (frame + 1) }
+
+-- how many nodes of a kind the bus has at least if these good nodes do not outnumber the others that are not convicted
+unfoldable pub least_rows : ℕ → ℕ → ℕ
+least_rows present convicted = min 16 (2 * size present + size convicted)
+
+-- room for the faulty nodes that a breach in the first slot of a frame implies
+abbrev pub with_cause : Extent → Facts → Cause → Extent
+with_cause extent facts FewGoodBiu = record extent { bius = max extent.bius (least_rows facts.present.biu facts.convicted.biu) }
+with_cause extent facts FewGoodRmu = record extent { rmus = max extent.rmus (least_rows facts.present.rmu facts.convicted.rmu) }
+with_cause extent facts TwoSided = extent
+
+abbrev pub with_breach : Extent → Facts → Place → Cause → Extent
+with_breach extent facts place cause = if place.slot == 0 then with_cause extent facts cause else extent
+
+-- what is spanned with one more line, after which this is known of the newest frame
+abbrev pub extent_after : Extent → Facts → Line → Extent
+extent_after extent facts (line.Epoch l) = with_spread (with_node (with_frame extent l.frame) l.node) (spread_of facts.begins)
+extent_after extent facts (line.Convicted l) = with_sets (with_node (with_frame extent l.frame) l.node) l.biu l.rmu
+extent_after extent facts (line.Port l) = with_node (with_frame extent l.frame) (Biu l.biu)
+extent_after extent facts (line.Delivery l) =
+    with_word (with_slot (with_node (with_node (with_busy (with_frame extent l.frame) l.frame) (Biu l.receiver)) (Biu l.sender)) l.slot) l.value
+extent_after extent facts (line.End frames) = record extent { run = frames }
+extent_after extent facts (line.Breach place cause) =
+    with_breach (with_slot (with_busy (with_frame extent place.frame) place.frame) place.slot) facts place cause
+
+-- what lines span
+abbrev pub extent_from : Extent → Newest → List Line → Extent
+extent_from extent newest [] = extent
+extent_from extent newest (l ∷ lines) = extent_from (extent_after extent (newest_after newest l).facts l) (newest_after newest l) lines
+
+abbrev pub extent_of : List Line → Extent
+extent_of lines = extent_from no_extent no_newest lines
 
 -- what the lines of a frame say, which come first. The frame is that with this number less one
 abbrev pub facts_from : ℕ → Facts → List Line → Facts

@@ -1,5 +1,5 @@
 -- What stands above all frames.
-use Rattle.std.specs.Prelude.{ℕ, List, [], codes, nat_lt, if◌then◌else◌}
+use Rattle.std.specs.Prelude.{ℕ, ◌-◌, ◌==◌, List, ◌++◌, [], codes, nat_lt, if◌then◌else◌}
 use Rattle.std.specs.Fmt.{decimal}
 use Rattle.rb_picture.specs.declared.extent.Extent.{Extent}
 use Rattle.rb_picture.specs.declared.sheet.Sheet.{Sheet}
@@ -8,14 +8,27 @@ use Rattle.rb_picture.specs.declared.sheet.View.TheVariants.{Panels, Overview}
 use Rattle.rb_picture.specs.Drawing.{with_legend}
 use Rattle.rb_picture.specs.Markup.{with_box, with_label}
 use Rattle.rb_picture.specs.Overview.{with_signature}
+use Rattle.rb_picture.specs.Places.{is_behind}
 use Rattle.rb_picture.specs.Sheets.{sheet_height, sheet_width}
 
--- the first and the last frame that are drawn, where any is
+-- the last whole frame that is drawn
+abbrev pub last_whole : Extent → ℕ
+last_whole extent = if is_behind extent extent.last then extent.last - 1 else extent.last
+
+-- which of the run's frames are drawn
+abbrev pub frames_words : Extent → List ℕ
+frames_words extent =
+    if nat_lt extent.last extent.first then codes "No frame"
+    else if is_behind extent extent.first then codes "After the last frame"
+    else if extent.first == last_whole extent then codes "Frame " ++ decimal extent.first
+    else ((codes "Frames " ++ decimal extent.first) ++ codes " to ") ++ decimal (last_whole extent)
+
+-- how many frames the run has, if it came to its end
+abbrev pub run_words : Extent → List ℕ
+run_words extent = if nat_lt extent.run 4294967296 then codes " of " ++ decimal extent.run else []
+
 unfoldable pub with_frames : Extent → List ℕ → List ℕ
-with_frames extent text = if nat_lt extent.last extent.first
-    then with_label text 20 28 (codes "title") (codes "no frame") []
-    else with_label (with_label text 20 28 (codes "title") (codes "first frame ") (decimal extent.first))
-    220 28 (codes "title") (codes "last frame ") (decimal extent.last)
+with_frames extent text = with_label text 20 28 (codes "title") (frames_words extent) (run_words extent)
 
 -- the page, and the frames that are drawn
 unfoldable pub with_heading : Sheet → List ℕ → List ℕ
@@ -25,4 +38,4 @@ with_heading sheet text =
 -- what colours and signs mean
 abbrev pub with_key : View → Extent → List ℕ → List ℕ
 with_key Panels extent text = with_legend extent text
-with_key Overview extent text = with_signature extent text
+with_key Overview extent text = with_signature text

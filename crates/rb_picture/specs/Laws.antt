@@ -1,10 +1,12 @@
 -- What holds of every picture.
-use Rattle.std.specs.Prelude.{ℕ, ◌≡◌, List, [], ◌∷◌}
+use Rattle.std.specs.Prelude.{ℕ, ◌≡◌, ◌<◌, ◌≤◌, nat_lt, true, false, List, [], ◌∷◌}
+use Rattle.rb_base.specs.Nodes.{has, size}
 use Rattle.rb_picture.specs.declared.line.Line.{Line}
 use Rattle.rb_picture.specs.declared.line.Line.TheVariants as line
 use Rattle.rb_picture.specs.declared.line.DeliveryLine.{DeliveryLine}
 use Rattle.rb_picture.specs.declared.sheet.Sheet.{Sheet}
 use Rattle.rb_picture.specs.Content.{IsDocument}
+use Rattle.rb_picture.specs.Extents.{least_rows}
 use Rattle.rb_picture.specs.Picture.{Piece, picture_text, pieces_of}
 use Rattle.rb_picture.specs.Picture.Piece.{Ground, Head, Tick, Cell, Break, Ending}
 
@@ -35,3 +37,18 @@ OneCellEach = (lines : List Line) → cells_of (pieces_of lines) ≡ deliveries_
 -- its text is one element, in which all others nest and close and all text is escaped
 abbrev pub IsWellFormed : Type 0
 IsWellFormed = (style : List ℕ) (sheet : Sheet) (lines : List Line) → IsDocument (picture_text style sheet lines)
+
+-- the good nodes of a kind do not outnumber the faulty ones that were heard; nodes are below the count, and no node is in two of the three sets
+pub record HasLostMajority (count good faulty convicted : ℕ) : Type 0 where
+  pub at_most_16 : count ≤ 16
+  pub few_good : size good ≤ size faulty
+  pub good_in_bus : (i : ℕ) → i < 16 → has good i ≡ true → nat_lt i count ≡ true
+  pub faulty_in_bus : (i : ℕ) → i < 16 → has faulty i ≡ true → nat_lt i count ≡ true
+  pub convicted_in_bus : (i : ℕ) → i < 16 → has convicted i ≡ true → nat_lt i count ≡ true
+  pub faulty_not_good : (i : ℕ) → i < 16 → has good i ≡ true → has faulty i ≡ false
+  pub good_trusted : (i : ℕ) → i < 16 → has good i ≡ true → has convicted i ≡ false
+  pub faulty_trusted : (i : ℕ) → i < 16 → has faulty i ≡ true → has convicted i ≡ false
+
+-- the rows that a breach in the first slot adds are of nodes that the bus has
+abbrev pub RowsAreImplied : Type 0
+RowsAreImplied = (count good faulty convicted : ℕ) → HasLostMajority count good faulty convicted → least_rows good convicted ≤ count

@@ -1,7 +1,7 @@
 -- An overview: a row for each frame, a cell for each slot, in bands side by side.
-use Rattle.std.specs.Prelude.{ℕ, ◌+◌, ◌-◌, ◌*◌, ◌/◌, ◌%◌, min, max, nat_le, nat_lt, ◌==◌, ◌&&◌, not, Bool, if◌then◌else◌, List, [], codes}
+use Rattle.std.specs.Prelude.{ℕ, ◌+◌, ◌-◌, ◌*◌, ◌/◌, ◌%◌, min, max, nat_le, ◌==◌, ◌&&◌, not, Bool, if◌then◌else◌, List, [], codes}
 use Rattle.std.specs.Fmt.{decimal}
-use Rattle.rb_base.specs.Nodes.{has, set_of, size}
+use Rattle.rb_base.specs.Nodes.{has, set_of}
 use Rattle.rb_base.specs.declared.values.Place.{Place}
 use Rattle.rb_rules.specs.declared.cause.Cause.{Cause}
 use Rattle.rb_picture.specs.declared.column.Column.{Column}
@@ -10,9 +10,9 @@ use Rattle.rb_picture.specs.declared.column.Outcome.TheVariants.{Agree, Silent, 
 use Rattle.rb_picture.specs.declared.extent.Extent.{Extent}
 use Rattle.rb_picture.specs.declared.extent.Nodes.{Nodes}
 use Rattle.rb_picture.specs.declared.markup.Area.{Area}
-use Rattle.rb_picture.specs.Drawing.{cause_words}
+use Rattle.rb_picture.specs.Drawing.{with_breach_words, with_names_in}
 use Rattle.rb_picture.specs.Markup.{each_below, with_box, with_label}
-use Rattle.rb_picture.specs.Places.{slots_of}
+use Rattle.rb_picture.specs.Places.{is_behind, slots_of}
 
 -- how many frames are drawn
 abbrev pub frames_of : Extent → ℕ
@@ -30,29 +30,24 @@ row_height extent =
     else 3
 
 abbrev pub slot_width : Extent → ℕ
-slot_width extent =
-    if nat_le (slots_of extent) 16 then 20
-    else if nat_le (slots_of extent) 32 then 10
-    else if nat_le (slots_of extent) 64 then 5
-    else if nat_le (slots_of extent) 160 then 2
-    else 1
+slot_width extent = max 1 (min 80 (320 / max 1 (slots_of extent)))
 
 -- the number of a frame, its cells, and two names
 abbrev pub band_width : Extent → ℕ
 band_width extent = 120 + slot_width extent * slots_of extent
 
 abbrev pub overview_width : Extent → ℕ
-overview_width extent = max 640 (20 + band_width extent * ((frames_of extent + 1199) / band_rows))
+overview_width extent = max 440 (20 + band_width extent * ((frames_of extent + 1199) / band_rows))
 
 abbrev pub overview_height : Extent → ℕ
-overview_height extent = 128 + row_height extent * min (frames_of extent) band_rows
+overview_height extent = 188 + row_height extent * min (frames_of extent) band_rows
 
 -- where a frame's row stands
 abbrev pub frame_left : Extent → ℕ → ℕ
 frame_left extent frame = 20 + band_width extent * ((frame - extent.first) / band_rows)
 
 abbrev pub frame_top : Extent → ℕ → ℕ
-frame_top extent frame = 116 + row_height extent * ((frame - extent.first) % band_rows)
+frame_top extent frame = 176 + row_height extent * ((frame - extent.first) % band_rows)
 
 -- its cells, and one of them
 abbrev pub row_area : Extent → ℕ → Area
@@ -71,37 +66,57 @@ row_end extent frame = frame_left extent frame + 52 + slot_width extent * slots_
 abbrev pub is_numbered : Extent → ℕ → Bool
 is_numbered extent frame = frame % (60 / row_height extent) == 0
 
+-- the number of a slot is written above its column where it is a multiple of this
+abbrev pub slot_step : Extent → ℕ
+slot_step extent =
+    if nat_le (slots_of extent) 16 then 1
+    else if nat_le (slots_of extent) 64 then 5
+    else 50
+
 -- the nodes of the second set that are not in the first
 abbrev pub newly : ℕ → ℕ → ℕ
 newly before after = set_of (λ i. has after i && not (has before i))
 
--- how many nodes of the set stand before this one
-abbrev pub rank : ℕ → ℕ → ℕ
-rank set i = size (set_of (λ j. has (set_of (λ k. nat_lt k i)) j && has set j))
-
--- the name of a node that is in the set, behind so many others
-unfoldable pub with_newcomer : Extent → ℕ → List ℕ → ℕ → ℕ → List ℕ → ℕ → List ℕ
-with_newcomer extent frame letter before set text i =
-    if has set i then with_label text (row_end extent frame + 24 * (before + rank set i)) (frame_top extent frame + 10) (codes "newcomer") letter (decimal i) else text
-
-unfoldable pub with_newcomers_of : Extent → ℕ → List ℕ → ℕ → ℕ → List ℕ → List ℕ
-with_newcomers_of extent frame letter before set text = each_below (with_newcomer extent frame letter before set) 16 text
-
--- the names of the nodes that are convicted now and were not before
-unfoldable pub with_newcomers : Extent → ℕ → Nodes → Nodes → List ℕ → List ℕ
-with_newcomers extent frame before after text =
-    with_newcomers_of extent frame (codes "R") (size (newly before.biu after.biu)) (newly before.rmu after.rmu)
-    (with_newcomers_of extent frame (codes "B") 0 (newly before.biu after.biu) text)
+-- the nodes that are convicted now and were not before
+abbrev pub newcomers : Nodes → Nodes → Nodes
+newcomers before after = record { biu = newly before.biu after.biu; rmu = newly before.rmu after.rmu }
 
 -- the number of a frame
 unfoldable pub with_frame_number : Extent → List ℕ → ℕ → List ℕ
 with_frame_number extent text frame =
     if is_numbered extent frame then with_label text (frame_left extent frame) (frame_top extent frame + 10) (codes "note") [] (decimal frame) else text
 
--- a frame's row, without its cells
+-- the number of a slot, above the row of a frame
+unfoldable pub with_slot_name : Extent → ℕ → List ℕ → ℕ → List ℕ
+with_slot_name extent frame text i =
+    if (extent.low + i) % slot_step extent == 0
+    then with_label text (frame_left extent frame + 48 + slot_width extent * i + slot_width extent / 2) 170 (codes "slot") [] (decimal (extent.low + i))
+    else text
+
+unfoldable pub with_slot_names : Extent → ℕ → List ℕ → List ℕ
+with_slot_names extent frame text = each_below (with_slot_name extent frame) (slots_of extent) text
+
+-- above the first row of a band, what its rows and columns are
+unfoldable pub with_axes : Extent → ℕ → List ℕ → List ℕ
+with_axes extent frame text =
+    with_slot_names extent frame (with_label (with_label text
+    (frame_left extent frame) 170 (codes "scale") (codes "frame") [])
+    (frame_left extent frame + 48) 156 (codes "scale") (codes "slot") [])
+
+unfoldable pub with_axes_at : Extent → ℕ → List ℕ → List ℕ
+with_axes_at extent frame text = if (frame - extent.first) % band_rows == 0 then with_axes extent frame text else text
+
+-- a frame's row without its cells: its number and its ground, or of the frame that would follow the run a word
+unfoldable pub with_line : Extent → ℕ → List ℕ → List ℕ
+with_line extent frame text =
+    if is_behind extent frame
+    then with_label text (frame_left extent frame) (frame_top extent frame + 10) (codes "note") (codes "after") []
+    else with_frame_number extent (with_box text (row_area extent frame) (codes "strip")) frame
+
+-- with the names of the nodes that are convicted now and were not before
 unfoldable pub with_row : Extent → ℕ → Nodes → Nodes → List ℕ → List ℕ
 with_row extent frame before after text =
-    with_newcomers extent frame before after (with_frame_number extent (with_box text (row_area extent frame) (codes "strip")) frame)
+    with_names_in (row_end extent frame) (frame_top extent frame + 10) (newcomers before after) (with_line extent frame (with_axes_at extent frame text))
 
 abbrev pub outcome_look : Outcome → List ℕ
 outcome_look Agree = codes "agree"
@@ -112,18 +127,9 @@ outcome_look Differ = codes "differ"
 unfoldable pub with_square : Extent → List ℕ → Column → List ℕ
 with_square extent text column = with_box text (square_area extent column.frame column.slot) (outcome_look column.outcome)
 
--- above all rows the frame, slot, stage and cause of a breach
-unfoldable pub with_break_words : List ℕ → Place → Cause → List ℕ
-with_break_words text place cause =
-    with_label (with_label (with_label (with_label text
-    20 104 (codes "cause") (codes "breach in frame ") (decimal place.frame))
-    170 104 (codes "cause") (codes "slot ") (decimal place.slot))
-    240 104 (codes "cause") (codes "stage ") (decimal place.stage))
-    300 104 (codes "cause") (cause_words cause) []
-
 -- a breach: its cell, and words
 unfoldable pub with_break : Extent → List ℕ → Place → Cause → List ℕ
-with_break extent text place cause = with_break_words (with_box text (square_area extent place.frame place.slot) (codes "breach")) place cause
+with_break extent text place cause = with_breach_words (with_box text (square_area extent place.frame place.slot) (codes "breach")) place cause
 
 -- a sign, and beside it what it means
 unfoldable pub with_sign : List ℕ → ℕ → ℕ → List ℕ → List ℕ → List ℕ
@@ -134,25 +140,18 @@ with_sign text x y look meaning =
 unfoldable pub with_outcomes : List ℕ → List ℕ
 with_outcomes text =
     with_sign (with_sign (with_sign text
-    20 40 (codes "agree") (codes "all deliver one word"))
-    190 40 (codes "silent") (codes "all deliver none"))
-    340 40 (codes "differ") (codes "not the same")
+    20 80 (codes "agree") (codes "all deliver one word"))
+    230 80 (codes "silent") (codes "all deliver none"))
+    20 102 (codes "differ") (codes "they do not deliver the same")
 
 -- what the other signs mean
 unfoldable pub with_signs : List ℕ → List ℕ
 with_signs text =
     with_label (with_label (with_sign (with_sign text
-    20 62 (codes "strip") (codes "nothing delivered"))
-    190 62 (codes "breach") (codes "breach"))
-    340 72 (codes "newcomer") (codes "R2") [])
-    366 72 (codes "note") (codes "convicted from this frame on") []
+    230 102 (codes "strip") (codes "nothing delivered"))
+    20 124 (codes "breach") (codes "breach of the fault premise"))
+    230 134 (codes "newcomer") (codes "R2") [])
+    256 134 (codes "note") (codes "convicted from this frame on") []
 
--- which slots the columns are
-unfoldable pub with_slot_range : Extent → List ℕ → List ℕ
-with_slot_range extent text =
-    with_label (with_label text
-    20 92 (codes "note") (codes "a row is a frame, a column a slot, from slot ") (decimal extent.low))
-    340 92 (codes "note") (codes "to slot ") (decimal (extent.high - 1))
-
-unfoldable pub with_signature : Extent → List ℕ → List ℕ
-with_signature extent text = with_slot_range extent (with_signs (with_outcomes text))
+unfoldable pub with_signature : List ℕ → List ℕ
+with_signature text = with_signs (with_outcomes text)

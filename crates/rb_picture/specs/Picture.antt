@@ -16,7 +16,7 @@ use Rattle.rb_picture.specs.declared.sheet.Sheet.{Sheet}
 use Rattle.rb_picture.specs.declared.sheet.View.{View}
 use Rattle.rb_picture.specs.declared.sheet.View.TheVariants.{Panels, Overview}
 use Rattle.rb_picture.specs.Columns.{column_with, no_column}
-use Rattle.rb_picture.specs.Drawing.{with_breach, with_cell, with_ending, with_last_panel, with_owner, with_panel, with_tick}
+use Rattle.rb_picture.specs.Drawing.{with_breach, with_cell, with_ending, with_owner, with_panel, with_tick}
 use Rattle.rb_picture.specs.Headings.{with_heading, with_key}
 use Rattle.rb_picture.specs.Overview.{with_break, with_row, with_square}
 use Rattle.rb_picture.specs.Sheets.{sheet_height, sheet_width}
@@ -39,13 +39,13 @@ with_part Panels extent text (Head column) = with_owner extent text column
 with_part Panels extent text (Tick frame node after) = with_tick extent text frame node after
 with_part Panels extent text (Cell l) = with_cell extent text l
 with_part Panels extent text (Break place cause) = with_breach extent text place cause
-with_part Panels extent text (Ending frames) = with_last_panel extent (with_ending text frames) frames
+with_part Panels extent text (Ending frames) = with_ending text
 with_part Overview extent text (Ground frame before facts) = with_row extent frame before.convicted facts.convicted text
 with_part Overview extent text (Head column) = with_square extent text column
 with_part Overview extent text (Tick frame node after) = text
 with_part Overview extent text (Cell l) = text
 with_part Overview extent text (Break place cause) = with_break extent text place cause
-with_part Overview extent text (Ending frames) = with_ending text frames
+with_part Overview extent text (Ending frames) = with_ending text
 
 abbrev pub with_piece : Sheet → List ℕ → Piece → List ℕ
 with_piece sheet text piece = with_part sheet.view sheet.extent text piece

@@ -1,18 +1,21 @@
 //! The parts of a picture.
-ghost use Rattle.std.specs.Prelude.{◌≡◌, ◌≤◌, OnOk, slice_index_or, codes, length};
+ghost use Rattle.std.specs.Prelude.{◌≡◌, ◌<◌, ◌≤◌, ◌^◌, OnOk, slice_index_or, codes, length};
 ghost use Rattle.rb_report.specs.Report.{heard_text};
-ghost use Rattle.rb_picture.specs.Headings.{with_frames, with_heading};
-ghost use Rattle.rb_picture.specs.Drawing.{cause_words, look_of, with_absence, with_breach, with_cell, with_cross, with_ending, with_ground, with_last_panel, with_legend, with_marks, with_name, with_names_of, with_owner, with_panel, with_sender, with_senders, with_slot_number, with_slots, with_state, with_states, with_states_of, with_strokes};
+ghost use Rattle.rb_picture.specs.Markup.{with_label};
+ghost use Rattle.rb_picture.specs.Headings.{frames_words, last_whole, run_words, with_frames, with_heading};
+ghost use Rattle.rb_picture.specs.Drawing.{cause_name, cause_words, look_of, nobody_of, place_words, rank, spread_unit, spread_words, with_absence, with_absent, with_axis, with_breach, with_breach_words, with_cell, with_close, with_cross, with_ending, with_ground, with_legend, with_marks, with_name, with_named, with_named_of, with_names_in, with_names_of, with_owner, with_panel, with_sender, with_senders, with_slot_number, with_slots, with_state, with_states, with_states_of, with_strokes, with_whole};
 
 use crate::column::Column;
-use crate::extent::{Extent, Facts, Rows};
+use crate::extent::{Begins, Extent, Facts, Nodes, Rows};
 use crate::line::DeliveryLine;
 use crate::markup::{Area, push_box, push_label, push_numbered};
 use crate::places::{
-    breach_area, cell_area, cell_width, column_left, grid_area, panel_area, panel_top, row_top,
-    slots_of, strip_area,
+    breach_area, cell_area, cell_width, close_area, column_left, grid_area, grid_left, is_behind,
+    panel_area, panel_top, row_top, slots_of, strip_area,
 };
 use crate::sheet::{Sheet, sheet_height, sheet_width};
+use arrayvec::ArrayString;
+use itoa::Buffer;
 use rb_base::{Biu, Heard, NodeSet, OutOfMemory, Place};
 use rb_rules::Cause;
 
@@ -40,13 +43,23 @@ fn look_of(sender: u64) -> &'static str
     }
 }
 
-pub(crate) fn cause_words(cause: Cause) -> &'static str
+fn cause_name(cause: Cause) -> &'static str
+    ensures { result.now ≡ cause_name cause }
+{
+    match cause {
+        Cause::FewGoodBiu => ": FewGoodBiu",
+        Cause::FewGoodRmu => ": FewGoodRmu",
+        Cause::TwoSided => ": TwoSided",
+    }
+}
+
+fn cause_words(cause: Cause) -> &'static str
     ensures { result.now ≡ cause_words cause }
 {
     match cause {
-        Cause::FewGoodBiu => "FewGoodBiu: the good BIUs are no majority",
-        Cause::FewGoodRmu => "FewGoodRmu: the good RMUs are no majority",
-        Cause::TwoSided => "TwoSided: one BIU, one RMU told two things",
+        Cause::FewGoodBiu => "the good BIUs are no majority",
+        Cause::FewGoodRmu => "the good RMUs are no majority",
+        Cause::TwoSided => "one BIU, one RMU told two things",
     }
 }
 
@@ -74,7 +87,36 @@ pub(crate) fn push_cell(
     }
 }
 
-/// A breach in its place.
+// Where the run broke off.
+fn place_words(place: Place) -> ArrayString<96>
+    ensures { result.bytes ≡ place_words place }
+{
+    let mut words = ArrayString::new();
+    words.push_str("Breach in frame ");
+    words.push_str(Buffer::new().format(place.frame));
+    words.push_str(", slot ");
+    words.push_str(Buffer::new().format(place.slot));
+    words.push_str(", stage ");
+    words.push_str(Buffer::new().format(place.stage));
+    words
+}
+
+/// Under the title, where and why the run broke off, and what a report does not say.
+#[tactic(auto, unfolding(crate::specs::Drawing::with_breach_words))]
+pub(crate) fn push_breach_words(
+    out: &mut Vec<u8>,
+    place: Place,
+    cause: Cause,
+) -> Result<(), OutOfMemory>
+    ensures { OnOk result (out.new.items ≡ with_breach_words out.old.items place cause) }
+{
+    let place = place_words(place);
+    push_label(out, 20, 48, "cause", place.as_str(), cause_name(cause))?;
+    push_label(out, 20, 66, "cause", cause_words(cause), "")?;
+    push_label(out, 262, 66, "note", "a report names no culprit", "")
+}
+
+/// A breach: a line in its place, and the words.
 #[tactic(auto, unfolding(crate::specs::Drawing::with_breach))]
 pub(crate) fn push_breach(
     out: &mut Vec<u8>,
@@ -84,43 +126,16 @@ pub(crate) fn push_breach(
 ) -> Result<(), OutOfMemory>
     ensures { OnOk result (out.new.items ≡ with_breach extent out.old.items place cause) }
 {
-    let y = panel_top(extent, place.frame) + 24;
     push_box(out, breach_area(extent, place), "breach")?;
-    push_numbered(out, 112, y, "cause", "breach in slot ", place.slot)?;
-    push_numbered(out, 250, y, "cause", "stage ", place.stage)?;
-    push_label(out, 306, y, "cause", cause_words(cause), "")
+    push_breach_words(out, place, cause)
 }
 
-/// The run came to its end.
+/// Under the title, that the run came to its end.
 #[tactic(auto, unfolding(crate::specs::Drawing::with_ending))]
-pub(crate) fn push_ending(out: &mut Vec<u8>, frames: u32) -> Result<(), OutOfMemory>
-    ensures { OnOk result (out.new.items ≡ with_ending out.old.items frames) }
+pub(crate) fn push_ending(out: &mut Vec<u8>) -> Result<(), OutOfMemory>
+    ensures { OnOk result (out.new.items ≡ with_ending out.old.items) }
 {
-    push_numbered(
-        out,
-        420,
-        28,
-        "note",
-        "frames to the end of the run: ",
-        frames,
-    )
-}
-
-/// The last panel of a run that came to its end says so.
-#[tactic(auto, unfolding(crate::specs::Drawing::with_last_panel))]
-pub(crate) fn push_last_panel(
-    out: &mut Vec<u8>,
-    extent: Extent,
-    frames: u32,
-) -> Result<(), OutOfMemory>
-    ensures { OnOk result (out.new.items ≡ with_last_panel extent out.old.items frames) }
-{
-    if frames == extent.last && extent.first <= extent.last {
-        let y = panel_top(extent, frames) + 24;
-        let note = "the run is over: this is the frame that would follow";
-        return push_label(out, 120, y, "note", note, "");
-    }
-    Ok(())
+    push_label(out, 20, 52, "note", "The run came to its end.", "")
 }
 
 /// The owner of a slot stands at its column.
@@ -154,7 +169,7 @@ fn push_name(
     push_numbered(out, 20, y, "name", letter, number)?;
     let slots = slots_of(extent);
     if 12 < slots {
-        let x = 292 + cell_width(extent) * slots;
+        let x = grid_left(extent) + 8 + cell_width(extent) * slots;
         return push_numbered(out, x, y, "name", letter, number);
     }
     Ok(())
@@ -190,7 +205,7 @@ fn push_slot_number(
     ensures { OnOk result (out.new.items ≡ with_slot_number extent frame out.old.items slot) }
 {
     let width = cell_width(extent);
-    let x = 284 + width * slot + width / 2;
+    let x = grid_left(extent) + width * slot + width / 2;
     let y = panel_top(extent, frame) + 46;
     let number = u64::from(extent.low) + slot;
     push_numbered(out, x, y, "slot", "", number)
@@ -224,7 +239,7 @@ fn push_absence(out: &mut Vec<u8>, y: u64, rows: Rows, number: u8) -> Result<(),
 {
     let present = NodeSet::<Biu>::from_bits(rows.present);
     if u16::from(number) < rows.count && !present.has(number) {
-        return push_label(out, 100, y, "note", "absent", "");
+        return push_label(out, 100, y, "absent", "absent", "");
     }
     Ok(())
 }
@@ -285,6 +300,56 @@ fn push_states(
     push_states_of(out, extent, frame, rmus)
 }
 
+fn spread_unit(extent: Extent) -> &'static str
+    ensures { result.now ≡ spread_unit extent }
+{
+    if extent.spread == 0 {
+        ""
+    } else {
+        " units of time"
+    }
+}
+
+fn spread_words(begins: Begins) -> ArrayString<96>
+    ensures { result.bytes ≡ spread_words begins }
+{
+    let spread = begins.greatest.saturating_sub(begins.least);
+    let mut words = ArrayString::new();
+    words.push_str("spread ");
+    words.push_str(Buffer::new().format(spread));
+    words
+}
+
+// How far apart nodes begin a frame.
+fn push_spread(out: &mut Vec<u8>, extent: Extent, y: u64, begins: Begins) -> Result<(), OutOfMemory>
+    ensures { OnOk result (out.new.items
+        ≡ with_label out.old.items 150 y (codes "note") (spread_words begins) (spread_unit extent)) }
+{
+    push_label(
+        out,
+        150,
+        y,
+        "note",
+        spread_words(begins).as_str(),
+        spread_unit(extent),
+    )
+}
+
+// The axis of the begins, where they spread.
+#[tactic(auto, unfolding(crate::specs::Drawing::with_axis))]
+fn push_axis(out: &mut Vec<u8>, extent: Extent, frame: u32) -> Result<(), OutOfMemory>
+    ensures { OnOk result (out.new.items ≡ with_axis extent frame out.old.items) }
+{
+    if extent.spread == 0 {
+        return Ok(());
+    }
+    let top = panel_top(extent, frame);
+    push_box(out, strip_area(extent, frame), "strip")?;
+    push_label(out, 92, top + 46, "scale", "time after the first node", "")?;
+    push_label(out, 92, top + 62, "scale", "0", "")?;
+    push_numbered(out, 260, top + 62, "most", "", extent.spread)
+}
+
 #[tactic(auto, unfolding(crate::specs::Drawing::with_ground))]
 fn push_ground(
     out: &mut Vec<u8>,
@@ -295,17 +360,139 @@ fn push_ground(
     ensures { OnOk result (out.new.items ≡ with_ground extent frame facts out.old.items) }
 {
     let top = panel_top(extent, frame);
-    let spread = facts.begins.greatest.saturating_sub(facts.begins.least);
     push_box(out, panel_area(extent, frame), "panel")?;
     push_numbered(out, 20, top + 24, "title", "frame ", frame)?;
-    push_numbered(out, 92, top + 46, "note", "spread ", spread)?;
-    push_label(out, 271, top + 46, "slot", "slot", "")?;
-    push_box(out, strip_area(extent, frame), "strip")?;
+    push_spread(out, extent, top + 24, facts.begins)?;
+    push_label(out, grid_left(extent) - 13, top + 46, "slot", "slot", "")?;
     push_box(out, grid_area(extent, frame), "grid")
 }
 
-/// A frame without what is in its cells.
-#[tactic(auto, unfolding(crate::specs::Drawing::with_panel, crate::specs::Drawing::with_names))]
+// A frame without what is in its cells.
+#[tactic(auto, unfolding(crate::specs::Drawing::with_whole, crate::specs::Drawing::with_names))]
+fn push_whole(
+    out: &mut Vec<u8>,
+    extent: Extent,
+    frame: u32,
+    facts: Facts,
+) -> Result<(), OutOfMemory>
+    ensures { OnOk result (out.new.items ≡ with_whole extent frame facts out.old.items) }
+{
+    push_ground(out, extent, frame, facts)?;
+    push_axis(out, extent, frame)?;
+    push_names_of(out, extent, frame, "B", 0, extent.bius)?;
+    push_names_of(out, extent, frame, "R", extent.bius, extent.rmus)?;
+    push_slots(out, extent, frame)?;
+    push_states(out, extent, frame, facts)
+}
+
+// How many nodes of the set stand before this one.
+fn rank(set: u16, number: u8) -> u64
+    requires { number ≤ 15 }
+    ensures value { result ≡ rank set number }
+    ensures most { result ≤ 16 }
+{
+    let lower = NodeSet::<Biu>::first(number).intersection(NodeSet::from_bits(set));
+    u64::from(lower.count())
+}
+
+// Where a row of names begins, and how many names stand there before those of a set.
+#[derive(Clone, Copy)]
+struct Names {
+    x: u64,
+    y: u64,
+    before: u8,
+    set: u16,
+}
+
+// The name of this node, where it is one of these.
+#[tactic(auto, unfolding(crate::specs::Drawing::with_named))]
+fn push_named(out: &mut Vec<u8>, letter: &str, names: Names, number: u8) -> Result<(), OutOfMemory>
+    requires number { number ≤ 15 }
+    requires x { names.x < 2 ^ 63 }
+    ensures { OnOk result (out.new.items
+        ≡ with_named names.x names.y letter.now names.before names.set out.old.items number) }
+{
+    if NodeSet::<Biu>::from_bits(names.set).has(number) {
+        let x = names.x + 34 * (u64::from(names.before) + rank(names.set, number));
+        return push_numbered(out, x, names.y, "newcomer", letter, number);
+    }
+    Ok(())
+}
+
+#[tactic(auto, using(crate::proofs::Turns::each_turns), unfolding(crate::specs::Drawing::with_named_of))]
+fn push_named_of(out: &mut Vec<u8>, letter: &str, names: Names) -> Result<(), OutOfMemory>
+    requires { names.x < 2 ^ 63 }
+    ensures { OnOk result (out.new.items
+        ≡ with_named_of names.x names.y letter.now names.before names.set out.old.items) }
+{
+    for number in 0..16 {
+        push_named(out, letter, names, number)?;
+    }
+    Ok(())
+}
+
+/// The names of these nodes in a row.
+#[tactic(auto, unfolding(crate::specs::Drawing::with_names_in))]
+pub(crate) fn push_names_in(
+    out: &mut Vec<u8>,
+    x: u64,
+    y: u64,
+    nodes: Nodes,
+) -> Result<(), OutOfMemory>
+    requires { x < 2 ^ 63 }
+    ensures { OnOk result (out.new.items ≡ with_names_in x y nodes out.old.items) }
+{
+    let first = Names {
+        x,
+        y,
+        before: 0,
+        set: nodes.biu,
+    };
+    let second = Names {
+        x,
+        y,
+        before: NodeSet::<Biu>::from_bits(nodes.biu).count(),
+        set: nodes.rmu,
+    };
+    push_named_of(out, "B", first)?;
+    push_named_of(out, "R", second)
+}
+
+fn nobody_of(nodes: Nodes) -> &'static str
+    ensures { result.now ≡ nobody_of nodes }
+{
+    let bius = NodeSet::<Biu>::from_bits(nodes.biu).count();
+    let rmus = NodeSet::<Biu>::from_bits(nodes.rmu).count();
+    if bius + rmus == 0 { " nobody" } else { "" }
+}
+
+// What the nodes hold as they begin the frame that would follow the run.
+#[tactic(auto, unfolding(crate::specs::Drawing::with_close))]
+fn push_close(
+    out: &mut Vec<u8>,
+    extent: Extent,
+    frame: u32,
+    facts: Facts,
+) -> Result<(), OutOfMemory>
+    ensures { OnOk result (out.new.items ≡ with_close extent frame facts out.old.items) }
+{
+    let top = panel_top(extent, frame);
+    push_box(out, close_area(extent, frame), "panel")?;
+    push_label(out, 20, top + 24, "title", "after the run", "")?;
+    push_spread(out, extent, top + 24, facts.begins)?;
+    push_label(
+        out,
+        20,
+        top + 48,
+        "note",
+        "convicted:",
+        nobody_of(facts.convicted),
+    )?;
+    push_names_in(out, 92, top + 48, facts.convicted)
+}
+
+/// A frame without what is in its cells, or what follows the run.
+#[tactic(auto, unfolding(crate::specs::Drawing::with_panel))]
 pub(crate) fn push_panel(
     out: &mut Vec<u8>,
     extent: Extent,
@@ -314,11 +501,11 @@ pub(crate) fn push_panel(
 ) -> Result<(), OutOfMemory>
     ensures { OnOk result (out.new.items ≡ with_panel extent frame facts out.old.items) }
 {
-    push_ground(out, extent, frame, facts)?;
-    push_names_of(out, extent, frame, "B", 0, extent.bius)?;
-    push_names_of(out, extent, frame, "R", extent.bius, extent.rmus)?;
-    push_slots(out, extent, frame)?;
-    push_states(out, extent, frame, facts)
+    if is_behind(extent, frame) {
+        push_close(out, extent, frame, facts)
+    } else {
+        push_whole(out, extent, frame, facts)
+    }
 }
 
 #[tactic(auto, unfolding(crate::specs::Drawing::with_sender))]
@@ -326,8 +513,8 @@ fn push_sender(out: &mut Vec<u8>, sender: u16) -> Result<(), OutOfMemory>
     ensures { OnOk result (out.new.items ≡ with_sender out.old.items sender) }
 {
     let left = 60 * u64::from(sender);
-    push_box(out, area(20 + left, 40, 16, 16), look_of(u64::from(sender)))?;
-    push_numbered(out, 42 + left, 53, "name", "B", sender)
+    push_box(out, area(20 + left, 80, 16, 16), look_of(u64::from(sender)))?;
+    push_numbered(out, 42 + left, 93, "name", "B", sender)
 }
 
 pub(crate) fn area(x: u64, y: u64, width: u64, height: u64) -> Area
@@ -345,21 +532,30 @@ pub(crate) fn area(x: u64, y: u64, width: u64, height: u64) -> Area
 fn push_marks(out: &mut Vec<u8>) -> Result<(), OutOfMemory>
     ensures { OnOk result (out.new.items ≡ with_marks out.old.items) }
 {
-    push_box(out, area(20, 65, 36, 18), "none")?;
-    push_label(out, 38, 79, "nothing", "none", "")?;
-    push_label(out, 64, 79, "note", "no majority", "")?;
-    push_label(out, 160, 79, "cross", "X", "")?;
-    push_label(out, 178, 79, "note", "convicted", "")
+    push_box(out, area(20, 105, 36, 18), "none")?;
+    push_label(out, 38, 119, "nothing", "none", "")?;
+    push_label(out, 64, 119, "note", "no majority", "")?;
+    push_label(out, 240, 119, "cross", "X", "")?;
+    push_label(out, 258, 119, "note", "convicted", "")
 }
 
 #[tactic(auto, unfolding(crate::specs::Drawing::with_strokes))]
 fn push_strokes(out: &mut Vec<u8>) -> Result<(), OutOfMemory>
     ensures { OnOk result (out.new.items ≡ with_strokes out.old.items) }
 {
-    push_box(out, area(260, 67, 4, 14), "tick")?;
-    push_label(out, 272, 79, "note", "a good node begins the frame", "")?;
-    push_box(out, area(470, 65, 3, 18), "breach")?;
-    push_label(out, 480, 79, "note", "breach of the premise", "")
+    push_box(out, area(20, 130, 4, 14), "tick")?;
+    push_label(out, 32, 142, "note", "a good node begins the frame", "")?;
+    push_box(out, area(240, 128, 3, 18), "breach")?;
+    push_label(out, 258, 142, "note", "breach of the fault premise", "")
+}
+
+#[tactic(auto, unfolding(crate::specs::Drawing::with_absent))]
+fn push_absent(out: &mut Vec<u8>) -> Result<(), OutOfMemory>
+    ensures { OnOk result (out.new.items ≡ with_absent out.old.items) }
+{
+    let meaning = "no line of this node: it is faulty, or not in the bus";
+    push_label(out, 20, 165, "absent", "absent", "")?;
+    push_label(out, 70, 165, "note", meaning, "")
 }
 
 #[tactic(auto, using(crate::proofs::Turns::each_turns), unfolding(crate::specs::Drawing::with_senders))]
@@ -379,19 +575,60 @@ pub(crate) fn push_legend(out: &mut Vec<u8>, extent: Extent) -> Result<(), OutOf
 {
     push_senders(out, extent)?;
     push_marks(out)?;
-    push_strokes(out)
+    push_strokes(out)?;
+    push_absent(out)
 }
 
-/// Which frames are drawn, where any is.
+fn last_whole(extent: Extent) -> u32
+    ensures { result ≡ last_whole extent }
+{
+    if is_behind(extent, extent.last) {
+        extent.last.saturating_sub(1)
+    } else {
+        extent.last
+    }
+}
+
+// Which of the run's frames are drawn.
+fn frames_words(extent: Extent) -> ArrayString<96>
+    ensures { result.bytes ≡ frames_words extent }
+{
+    let mut words = ArrayString::new();
+    let last = last_whole(extent);
+    if extent.last < extent.first {
+        words.push_str("No frame");
+    } else if is_behind(extent, extent.first) {
+        words.push_str("After the last frame");
+    } else if extent.first == last {
+        words.push_str("Frame ");
+        words.push_str(Buffer::new().format(extent.first));
+    } else {
+        words.push_str("Frames ");
+        words.push_str(Buffer::new().format(extent.first));
+        words.push_str(" to ");
+        words.push_str(Buffer::new().format(last));
+    }
+    words
+}
+
+// How many frames the run has, if it came to its end.
+fn run_words(extent: Extent) -> ArrayString<96>
+    ensures { result.bytes ≡ run_words extent }
+{
+    let mut words = ArrayString::new();
+    if extent.run < 4_294_967_296 {
+        words.push_str(" of ");
+        words.push_str(Buffer::new().format(extent.run));
+    }
+    words
+}
+
 #[tactic(auto, unfolding(crate::specs::Headings::with_frames))]
 fn push_frames(out: &mut Vec<u8>, extent: Extent) -> Result<(), OutOfMemory>
     ensures { OnOk result (out.new.items ≡ with_frames extent out.old.items) }
 {
-    if extent.last < extent.first {
-        return push_label(out, 20, 28, "title", "no frame", "");
-    }
-    push_numbered(out, 20, 28, "title", "first frame ", extent.first)?;
-    push_numbered(out, 220, 28, "title", "last frame ", extent.last)
+    let (frames, run) = (frames_words(extent), run_words(extent));
+    push_label(out, 20, 28, "title", frames.as_str(), run.as_str())
 }
 
 /// The page, and which frames are drawn.

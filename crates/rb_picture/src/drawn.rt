@@ -5,14 +5,13 @@ ghost use Rattle.rb_picture.specs.Headings.{with_key};
 
 use crate::column::{Column, NO_COLUMN, column_with};
 use crate::drawing::{
-    push_breach, push_cell, push_ending, push_heading, push_last_panel, push_legend, push_owner,
-    push_panel,
+    push_breach, push_cell, push_ending, push_heading, push_legend, push_owner, push_panel,
 };
 use crate::extent::{Extent, Facts, NO_FACTS, facts_of, mark_of};
 use crate::line::Line;
 use crate::markup::{push, push_box, push_opening};
 use crate::overview::{push_break, push_row, push_signature, push_square};
-use crate::places::tick_area;
+use crate::places::{is_behind, tick_area};
 use crate::sheet::{Sheet, View, sheet_height, sheet_width};
 use crate::style::STYLE;
 use rb_base::OutOfMemory;
@@ -125,15 +124,15 @@ fn push_in_panel(
 {
     match line {
         Line::Epoch(l) => {
+            if is_behind(extent, l.frame) {
+                return Ok(());
+            }
             let after = l.time.saturating_sub(facts.begins.least);
             push_box(out, tick_area(extent, l.frame, l.node, after), "tick")
         }
         Line::Convicted(_) | Line::Port(_) => Ok(()),
         Line::Delivery(l) => push_cell(out, extent, l),
-        Line::End(frames) => {
-            push_ending(out, frames)?;
-            push_last_panel(out, extent, frames)
-        }
+        Line::End(_) => push_ending(out),
         Line::Breach(place, cause) => push_breach(out, extent, place, cause),
     }
 }
@@ -151,7 +150,7 @@ fn push_in_overview(
 {
     match line {
         Line::Epoch(_) | Line::Convicted(_) | Line::Port(_) | Line::Delivery(_) => Ok(()),
-        Line::End(frames) => push_ending(out, frames),
+        Line::End(_) => push_ending(out),
         Line::Breach(place, cause) => push_break(out, extent, place, cause),
     }
 }
@@ -207,7 +206,7 @@ fn push_key(out: &mut Vec<u8>, sheet: Sheet) -> Result<(), OutOfMemory>
 {
     match sheet.view {
         View::Panels => push_legend(out, sheet.extent),
-        View::Overview => push_signature(out, sheet.extent),
+        View::Overview => push_signature(out),
     }
 }
 

@@ -1,13 +1,15 @@
 //! What the lines of the frames asked for span.
 ghost use Rattle.std.specs.Prelude.{◌≡◌};
-ghost use Rattle.rb_picture.specs.Extents.{begins_after, both, extent_after, extent_of, facts_after, facts_of, is_asked, is_between, mark_of, top_of, with_begin, with_frame, with_name, with_node, with_number, with_present, with_sets, with_slot, with_word};
+ghost use Rattle.rb_picture.specs.Extents.{both, extent_after, extent_of, facts_after, facts_of, is_asked, is_between, least_rows, mark_of, newest_after, top_of, with_begin, with_breach, with_busy, with_frame, with_name, with_node, with_number, with_present, with_sets, with_slot, with_word};
 
 use crate::line::Line;
-use rb_base::{Biu, Heard, NodeId, NodeName, NodeSet};
+use rb_base::{Biu, Heard, NodeId, NodeName, NodeSet, Place};
+use rb_rules::Cause;
 
 /// Frames, nodes, slots, and the greatest word and spread: what a picture has to have room for. Of
 /// the frames the first and the last, of the nodes of a kind one more than the greatest number, of
-/// the slots the lowest and one more than the highest.
+/// the slots the lowest and one more than the highest. `busy` is one more than the last frame with a
+/// delivery or a breach, and `run` is how many frames a run has that came to its end, else 2^32.
 #[derive(Clone, Copy)]
 pub struct Extent {
     pub first: u32,
@@ -18,6 +20,8 @@ pub struct Extent {
     pub high: u32,
     pub word: u32,
     pub spread: u64,
+    pub busy: u64,
+    pub run: u64,
 }
 
 /// The first and the last time at which a good node begins a frame.
@@ -64,6 +68,13 @@ pub struct Facts {
     pub present: Nodes,
 }
 
+/// The newest frame: one more than its number, or 0 before the first, and what its lines say.
+#[derive(Clone, Copy)]
+pub struct Newest {
+    pub mark: u64,
+    pub facts: Facts,
+}
+
 /// The rows of the nodes of a kind: how many rows stand above them, how many they are, and which
 /// nodes are convicted and present.
 #[derive(Clone, Copy)]
@@ -83,6 +94,8 @@ const NO_EXTENT: Extent = Extent {
     high: 0,
     word: 0,
     spread: 0,
+    busy: 0,
+    run: 4_294_967_296,
 };
 
 const NO_BEGINS: Begins = Begins {
@@ -97,6 +110,11 @@ pub(crate) const NO_FACTS: Facts = Facts {
     begins: NO_BEGINS,
     convicted: NO_NODES,
     present: NO_NODES,
+};
+
+const NO_NEWEST: Newest = Newest {
+    mark: 0,
+    facts: NO_FACTS,
 };
 
 fn with_begin(begins: Begins, frame: u32, time: u64) -> Begins
@@ -114,19 +132,6 @@ fn with_begin(begins: Begins, frame: u32, time: u64) -> Begins
             least: time,
             greatest: time,
         }
-    }
-}
-
-fn begins_after(begins: Begins, line: Line) -> Begins
-    ensures { result ≡ begins_after begins line }
-{
-    match line {
-        Line::Epoch(l) => with_begin(begins, l.frame, l.time),
-        Line::Convicted(_)
-        | Line::Port(_)
-        | Line::Delivery(_)
-        | Line::End(_)
-        | Line::Breach(_, _) => begins,
     }
 }
 
@@ -200,53 +205,6 @@ fn with_word(extent: Extent, value: Heard) -> Extent
         },
         Heard::Fault => extent,
     }
-}
-
-fn extent_after(extent: Extent, begins: Begins, line: Line) -> Extent
-    ensures { result ≡ extent_after extent begins line }
-{
-    match line {
-        Line::Epoch(l) => {
-            let extent = with_node(with_frame(extent, l.frame), l.node);
-            let spread = begins.greatest.saturating_sub(begins.least);
-            Extent {
-                spread: extent.spread.max(spread),
-                ..extent
-            }
-        }
-        Line::Convicted(l) => with_sets(
-            with_node(with_frame(extent, l.frame), l.node),
-            l.biu,
-            l.rmu,
-        ),
-        Line::Port(l) => with_node(with_frame(extent, l.frame), NodeName::Biu(l.biu)),
-        Line::Delivery(l) => with_word(
-            with_slot(
-                with_node(
-                    with_node(with_frame(extent, l.frame), NodeName::Biu(l.receiver)),
-                    NodeName::Biu(l.sender),
-                ),
-                l.slot,
-            ),
-            l.value,
-        ),
-        Line::End(_) => extent,
-        Line::Breach(place, _) => with_slot(with_frame(extent, place.frame), place.slot),
-    }
-}
-
-/// What the lines span.
-#[tactic(auto, using(crate::proofs::Turns::line_turns))]
-pub(crate) fn extent_of(lines: &[Line]) -> Extent
-    ensures { result ≡ extent_of lines.now }
-{
-    let mut extent = NO_EXTENT;
-    let mut begins = NO_BEGINS;
-    for line in lines {
-        begins = begins_after(begins, *line);
-        extent = extent_after(extent, begins, *line);
-    }
-    extent
 }
 
 /// One more than the frame of the line, and this number for the end of a run.
@@ -341,4 +299,111 @@ pub(crate) fn facts_of(mark: u64, lines: &[Line]) -> Facts
         facts = facts_after(facts, *line);
     }
     facts
+}
+
+#[tactic(auto, unfolding(crate::specs::Extents::newest_after))]
+fn newest_after(newest: Newest, line: Line) -> Newest
+    ensures { result ≡ newest_after newest line }
+{
+    let mark = mark_of(newest.mark, line);
+    let known = if mark == newest.mark {
+        newest.facts
+    } else {
+        NO_FACTS
+    };
+    Newest {
+        mark,
+        facts: facts_after(known, line),
+    }
+}
+
+// Something is delivered in the frame, or the run breaks off in it.
+fn with_busy(extent: Extent, frame: u32) -> Extent
+    ensures { result ≡ with_busy extent frame }
+{
+    Extent {
+        busy: extent.busy.max(u64::from(frame) + 1),
+        ..extent
+    }
+}
+
+// How many nodes of a kind the bus has at least if these good nodes do not outnumber the others
+// that are not convicted.
+#[tactic(auto, unfolding(crate::specs::Extents::least_rows))]
+fn least_rows(present: u16, convicted: u16) -> u16
+    ensures { result ≡ least_rows present convicted }
+{
+    let good = NodeSet::<Biu>::from_bits(present).count();
+    let others = NodeSet::<Biu>::from_bits(convicted).count();
+    (2 * u16::from(good) + u16::from(others)).min(16)
+}
+
+// Room for the faulty nodes that a breach in the first slot of a frame implies.
+fn with_breach(extent: Extent, facts: Facts, place: Place, cause: Cause) -> Extent
+    ensures { result ≡ with_breach extent facts place cause }
+{
+    if place.slot != 0 {
+        return extent;
+    }
+    let (present, convicted) = (facts.present, facts.convicted);
+    match cause {
+        Cause::FewGoodBiu => Extent {
+            bius: extent.bius.max(least_rows(present.biu, convicted.biu)),
+            ..extent
+        },
+        Cause::FewGoodRmu => Extent {
+            rmus: extent.rmus.max(least_rows(present.rmu, convicted.rmu)),
+            ..extent
+        },
+        Cause::TwoSided => extent,
+    }
+}
+
+fn extent_after(extent: Extent, facts: Facts, line: Line) -> Extent
+    ensures { result ≡ extent_after extent facts line }
+{
+    match line {
+        Line::Epoch(l) => {
+            let extent = with_node(with_frame(extent, l.frame), l.node);
+            let spread = facts.begins.greatest.saturating_sub(facts.begins.least);
+            Extent {
+                spread: extent.spread.max(spread),
+                ..extent
+            }
+        }
+        Line::Convicted(l) => with_sets(
+            with_node(with_frame(extent, l.frame), l.node),
+            l.biu,
+            l.rmu,
+        ),
+        Line::Port(l) => with_node(with_frame(extent, l.frame), NodeName::Biu(l.biu)),
+        Line::Delivery(l) => {
+            let extent = with_busy(with_frame(extent, l.frame), l.frame);
+            let extent = with_node(extent, NodeName::Biu(l.receiver));
+            let extent = with_node(extent, NodeName::Biu(l.sender));
+            with_word(with_slot(extent, l.slot), l.value)
+        }
+        Line::End(frames) => Extent {
+            run: u64::from(frames),
+            ..extent
+        },
+        Line::Breach(place, cause) => {
+            let extent = with_busy(with_frame(extent, place.frame), place.frame);
+            with_breach(with_slot(extent, place.slot), facts, place, cause)
+        }
+    }
+}
+
+/// What the lines span.
+#[tactic(auto, using(crate::proofs::Turns::line_turns))]
+pub(crate) fn extent_of(lines: &[Line]) -> Extent
+    ensures { result ≡ extent_of lines.now }
+{
+    let mut extent = NO_EXTENT;
+    let mut newest = NO_NEWEST;
+    for line in lines {
+        newest = newest_after(newest, *line);
+        extent = extent_after(extent, newest.facts, *line);
+    }
+    extent
 }

@@ -1,5 +1,5 @@
 //! What holds of every picture. Each law is the contract of a function that does nothing.
-ghost use Rattle.rb_picture.specs.Laws.{IsWellFormed, OneCellEach};
+ghost use Rattle.rb_picture.specs.Laws.{IsWellFormed, OneCellEach, RowsAreImplied};
 ghost use Rattle.rb_picture.specs.Sheets.{IsSmall};
 
 /// A picture in panels has one cell for each delivery of its lines, in order, and no other cells.
@@ -17,4 +17,10 @@ pub fn a_picture_is_well_formed()
 /// 4,000.
 pub fn an_overview_is_small()
     ensures { IsSmall }
+{}
+
+/// A breach in the first slot of a frame, because the good nodes of a kind are no majority, adds no
+/// row for a node that the bus does not have.
+pub fn rows_are_implied()
+    ensures { RowsAreImplied }
 {}

@@ -1,12 +1,12 @@
 //! An overview: a row for each frame, a cell for each slot, in bands side by side.
 ghost use Rattle.std.specs.Prelude.{◌≡◌, ◌≤◌, ◌<◌, ◌^◌, OnOk};
-ghost use Rattle.rb_picture.specs.Overview.{band_width, frame_left, frame_top, frames_of, newly, outcome_look, overview_height, overview_width, rank, row_area, row_end, row_height, slot_width, square_area, with_break, with_break_words, with_frame_number, with_newcomer, with_newcomers, with_newcomers_of, with_outcomes, with_row, with_sign, with_signature, with_signs, with_square};
+ghost use Rattle.rb_picture.specs.Overview.{band_width, frame_left, frame_top, frames_of, newcomers, newly, outcome_look, overview_height, overview_width, row_area, row_end, row_height, slot_step, slot_width, square_area, with_axes, with_axes_at, with_break, with_frame_number, with_line, with_outcomes, with_row, with_sign, with_signature, with_signs, with_slot_name, with_slot_names, with_square};
 
 use crate::column::{Column, Outcome};
-use crate::drawing::{area, cause_words};
+use crate::drawing::{area, push_breach_words, push_names_in};
 use crate::extent::{Extent, Nodes};
 use crate::markup::{Area, push_box, push_label, push_numbered};
-use crate::places::slots_of;
+use crate::places::{is_behind, slots_of};
 use rb_base::{Biu, NodeSet, OutOfMemory, Place};
 use rb_rules::Cause;
 
@@ -37,25 +37,14 @@ fn row_height(extent: Extent) -> u64
 
 fn slot_width(extent: Extent) -> u64
     ensures value { result ≡ slot_width extent }
-    ensures most { result ≤ 20 }
+    ensures most { result ≤ 80 }
 {
-    let slots = slots_of(extent);
-    if slots <= 16 {
-        20
-    } else if slots <= 32 {
-        10
-    } else if slots <= 64 {
-        5
-    } else if slots <= 160 {
-        2
-    } else {
-        1
-    }
+    (320 / slots_of(extent).max(1)).min(80).max(1)
 }
 
 fn band_width(extent: Extent) -> u64
     ensures value { result ≡ band_width extent }
-    ensures most { result ≤ 85899345920 }
+    ensures most { result ≤ 343597384000 }
 {
     120 + slot_width(extent) * slots_of(extent)
 }
@@ -64,13 +53,13 @@ pub(crate) fn overview_width(extent: Extent) -> u64
     ensures { result ≡ overview_width extent }
 {
     let bands = (frames_of(extent) + 1199) / BAND_ROWS;
-    (20 + band_width(extent) * bands).max(640)
+    (20 + band_width(extent) * bands).max(440)
 }
 
 pub(crate) fn overview_height(extent: Extent) -> u64
     ensures { result ≡ overview_height extent }
 {
-    128 + row_height(extent) * frames_of(extent).min(BAND_ROWS)
+    188 + row_height(extent) * frames_of(extent).min(BAND_ROWS)
 }
 
 fn frame_left(extent: Extent, frame: u32) -> u64
@@ -86,7 +75,7 @@ fn frame_top(extent: Extent, frame: u32) -> u64
     ensures most { result ≤ 20000 }
 {
     let row = u64::from(frame.saturating_sub(extent.first)) % BAND_ROWS;
-    116 + row_height(extent) * row
+    176 + row_height(extent) * row
 }
 
 fn row_area(extent: Extent, frame: u32) -> Area
@@ -127,85 +116,13 @@ fn newly(before: u16, after: u16) -> u16
         .bits()
 }
 
-// How many nodes of the set stand before this one.
-fn rank(set: u16, number: u8) -> u64
-    requires { number ≤ 15 }
-    ensures value { result ≡ rank set number }
-    ensures most { result ≤ 16 }
+fn newcomers(before: Nodes, after: Nodes) -> Nodes
+    ensures { result ≡ newcomers before after }
 {
-    let lower = NodeSet::<Biu>::first(number).intersection(NodeSet::from_bits(set));
-    u64::from(lower.count())
-}
-
-// Nodes of a kind whose names stand in a row: how many other names stand before theirs, and which
-// they are.
-#[derive(Clone, Copy)]
-struct Newcomers {
-    before: u8,
-    set: u16,
-}
-
-// The name of this node, where it is one of these.
-#[tactic(auto, unfolding(crate::specs::Overview::with_newcomer))]
-fn push_newcomer(
-    out: &mut Vec<u8>,
-    extent: Extent,
-    frame: u32,
-    letter: &str,
-    who: Newcomers,
-    number: u8,
-) -> Result<(), OutOfMemory>
-    requires { number ≤ 15 }
-    ensures { OnOk result (out.new.items
-        ≡ with_newcomer extent frame letter.now who.before who.set out.old.items number) }
-{
-    if NodeSet::<Biu>::from_bits(who.set).has(number) {
-        let x = row_end(extent, frame) + 24 * (u64::from(who.before) + rank(who.set, number));
-        let y = frame_top(extent, frame) + 10;
-        return push_numbered(out, x, y, "newcomer", letter, number);
+    Nodes {
+        biu: newly(before.biu, after.biu),
+        rmu: newly(before.rmu, after.rmu),
     }
-    Ok(())
-}
-
-#[tactic(auto, using(crate::proofs::Turns::each_turns), unfolding(crate::specs::Overview::with_newcomers_of))]
-fn push_newcomers_of(
-    out: &mut Vec<u8>,
-    extent: Extent,
-    frame: u32,
-    letter: &str,
-    who: Newcomers,
-) -> Result<(), OutOfMemory>
-    ensures { OnOk result (out.new.items
-        ≡ with_newcomers_of extent frame letter.now who.before who.set out.old.items) }
-{
-    for number in 0..16 {
-        push_newcomer(out, extent, frame, letter, who, number)?;
-    }
-    Ok(())
-}
-
-#[tactic(auto, unfolding(crate::specs::Overview::with_newcomers))]
-fn push_newcomers(
-    out: &mut Vec<u8>,
-    extent: Extent,
-    frame: u32,
-    before: Nodes,
-    after: Nodes,
-) -> Result<(), OutOfMemory>
-    ensures { OnOk result (out.new.items ≡ with_newcomers extent frame before after out.old.items) }
-{
-    let bius = newly(before.biu, after.biu);
-    let rmus = newly(before.rmu, after.rmu);
-    let first = Newcomers {
-        before: 0,
-        set: bius,
-    };
-    let second = Newcomers {
-        before: NodeSet::<Biu>::from_bits(bius).count(),
-        set: rmus,
-    };
-    push_newcomers_of(out, extent, frame, "B", first)?;
-    push_newcomers_of(out, extent, frame, "R", second)
 }
 
 #[tactic(auto, unfolding(crate::specs::Overview::with_frame_number))]
@@ -220,6 +137,85 @@ fn push_frame_number(out: &mut Vec<u8>, extent: Extent, frame: u32) -> Result<()
     Ok(())
 }
 
+fn slot_step(extent: Extent) -> u64
+    ensures value { result ≡ slot_step extent }
+    ensures least { 1 ≤ result }
+{
+    let slots = slots_of(extent);
+    if slots <= 16 {
+        1
+    } else if slots <= 64 {
+        5
+    } else {
+        50
+    }
+}
+
+// The number of a slot, above the row of a frame.
+#[tactic(auto, unfolding(crate::specs::Overview::with_slot_name))]
+fn push_slot_name(
+    out: &mut Vec<u8>,
+    extent: Extent,
+    frame: u32,
+    slot: u64,
+) -> Result<(), OutOfMemory>
+    requires { slot ≤ 4294967295 }
+    ensures { OnOk result (out.new.items ≡ with_slot_name extent frame out.old.items slot) }
+{
+    let number = u64::from(extent.low) + slot;
+    if number % slot_step(extent) == 0 {
+        let width = slot_width(extent);
+        let x = frame_left(extent, frame) + 48 + width * slot + width / 2;
+        return push_numbered(out, x, 170, "slot", "", number);
+    }
+    Ok(())
+}
+
+#[tactic(auto, using(crate::proofs::Turns::each_turns), unfolding(crate::specs::Overview::with_slot_names))]
+fn push_slot_names(out: &mut Vec<u8>, extent: Extent, frame: u32) -> Result<(), OutOfMemory>
+    ensures { OnOk result (out.new.items ≡ with_slot_names extent frame out.old.items) }
+{
+    for slot in 0..slots_of(extent) {
+        push_slot_name(out, extent, frame, slot)?;
+    }
+    Ok(())
+}
+
+// What the rows and columns of a band are.
+#[tactic(auto, unfolding(crate::specs::Overview::with_axes))]
+fn push_axes(out: &mut Vec<u8>, extent: Extent, frame: u32) -> Result<(), OutOfMemory>
+    ensures { OnOk result (out.new.items ≡ with_axes extent frame out.old.items) }
+{
+    let left = frame_left(extent, frame);
+    push_label(out, left, 170, "scale", "frame", "")?;
+    push_label(out, left + 48, 156, "scale", "slot", "")?;
+    push_slot_names(out, extent, frame)
+}
+
+// Above the first row of a band, what its rows and columns are.
+#[tactic(auto, unfolding(crate::specs::Overview::with_axes_at))]
+fn push_axes_at(out: &mut Vec<u8>, extent: Extent, frame: u32) -> Result<(), OutOfMemory>
+    ensures { OnOk result (out.new.items ≡ with_axes_at extent frame out.old.items) }
+{
+    if u64::from(frame.saturating_sub(extent.first)) % BAND_ROWS == 0 {
+        return push_axes(out, extent, frame);
+    }
+    Ok(())
+}
+
+// A frame's number and its ground, or of the frame that would follow the run a word.
+#[tactic(auto, unfolding(crate::specs::Overview::with_line))]
+fn push_line(out: &mut Vec<u8>, extent: Extent, frame: u32) -> Result<(), OutOfMemory>
+    ensures { OnOk result (out.new.items ≡ with_line extent frame out.old.items) }
+{
+    if is_behind(extent, frame) {
+        let (x, y) = (frame_left(extent, frame), frame_top(extent, frame) + 10);
+        return push_label(out, x, y, "note", "after", "");
+    }
+    push_box(out, row_area(extent, frame), "strip")?;
+    push_frame_number(out, extent, frame)
+}
+
 /// A frame's row, without its cells.
 #[tactic(auto, unfolding(crate::specs::Overview::with_row))]
 pub(crate) fn push_row(
@@ -231,9 +227,10 @@ pub(crate) fn push_row(
 ) -> Result<(), OutOfMemory>
     ensures { OnOk result (out.new.items ≡ with_row extent frame before after out.old.items) }
 {
-    push_box(out, row_area(extent, frame), "strip")?;
-    push_frame_number(out, extent, frame)?;
-    push_newcomers(out, extent, frame, before, after)
+    push_axes_at(out, extent, frame)?;
+    push_line(out, extent, frame)?;
+    let (x, y) = (row_end(extent, frame), frame_top(extent, frame) + 10);
+    push_names_in(out, x, y, newcomers(before, after))
 }
 
 fn outcome_look(outcome: Outcome) -> &'static str
@@ -259,17 +256,6 @@ pub(crate) fn push_square(
     push_box(out, area, outcome_look(column.outcome))
 }
 
-// Above all rows the frame, slot, stage and cause of a breach.
-#[tactic(auto, unfolding(crate::specs::Overview::with_break_words))]
-fn push_break_words(out: &mut Vec<u8>, place: Place, cause: Cause) -> Result<(), OutOfMemory>
-    ensures { OnOk result (out.new.items ≡ with_break_words out.old.items place cause) }
-{
-    push_numbered(out, 20, 104, "cause", "breach in frame ", place.frame)?;
-    push_numbered(out, 170, 104, "cause", "slot ", place.slot)?;
-    push_numbered(out, 240, 104, "cause", "stage ", place.stage)?;
-    push_label(out, 300, 104, "cause", cause_words(cause), "")
-}
-
 /// A breach: its cell, and words.
 #[tactic(auto, unfolding(crate::specs::Overview::with_break))]
 pub(crate) fn push_break(
@@ -281,7 +267,7 @@ pub(crate) fn push_break(
     ensures { OnOk result (out.new.items ≡ with_break extent out.old.items place cause) }
 {
     push_box(out, square_area(extent, place.frame, place.slot), "breach")?;
-    push_break_words(out, place, cause)
+    push_breach_words(out, place, cause)
 }
 
 // A sign, and beside it what it means.
@@ -305,30 +291,26 @@ fn push_sign(
 fn push_outcomes(out: &mut Vec<u8>) -> Result<(), OutOfMemory>
     ensures { OnOk result (out.new.items ≡ with_outcomes out.old.items) }
 {
-    push_sign(out, 20, 40, "agree", "all deliver one word")?;
-    push_sign(out, 190, 40, "silent", "all deliver none")?;
-    push_sign(out, 340, 40, "differ", "not the same")
+    push_sign(out, 20, 80, "agree", "all deliver one word")?;
+    push_sign(out, 230, 80, "silent", "all deliver none")?;
+    push_sign(out, 20, 102, "differ", "they do not deliver the same")
 }
 
 #[tactic(auto, unfolding(crate::specs::Overview::with_signs))]
 fn push_signs(out: &mut Vec<u8>) -> Result<(), OutOfMemory>
     ensures { OnOk result (out.new.items ≡ with_signs out.old.items) }
 {
-    push_sign(out, 20, 62, "strip", "nothing delivered")?;
-    push_sign(out, 190, 62, "breach", "breach")?;
-    push_label(out, 340, 72, "newcomer", "R2", "")?;
-    push_label(out, 366, 72, "note", "convicted from this frame on", "")
+    push_sign(out, 230, 102, "strip", "nothing delivered")?;
+    push_sign(out, 20, 124, "breach", "breach of the fault premise")?;
+    push_label(out, 230, 134, "newcomer", "R2", "")?;
+    push_label(out, 256, 134, "note", "convicted from this frame on", "")
 }
 
 /// What colours and signs mean.
-#[tactic(auto, unfolding(crate::specs::Overview::with_signature, crate::specs::Overview::with_slot_range))]
-pub(crate) fn push_signature(out: &mut Vec<u8>, extent: Extent) -> Result<(), OutOfMemory>
-    ensures { OnOk result (out.new.items ≡ with_signature extent out.old.items) }
+#[tactic(auto, unfolding(crate::specs::Overview::with_signature))]
+pub(crate) fn push_signature(out: &mut Vec<u8>) -> Result<(), OutOfMemory>
+    ensures { OnOk result (out.new.items ≡ with_signature out.old.items) }
 {
     push_outcomes(out)?;
-    push_signs(out)?;
-    let rows = "a row is a frame, a column a slot, from slot ";
-    let highest = extent.high.saturating_sub(1);
-    push_numbered(out, 20, 92, "note", rows, extent.low)?;
-    push_numbered(out, 340, 92, "note", "to slot ", highest)
+    push_signs(out)
 }
