@@ -770,10 +770,43 @@ def older_toml(text: str) -> str:
     return "".join(part for _, part in older_parts(text))
 
 
+MOST_LEVELS = 80  # of arrays and inline tables in each other, and of parts of a key
+
+
+def too_deep_at(text: str) -> int | None:
+    """Where a document first nests arrays and inline tables, or the parts of a key, deeper than it may; nothing where it does not."""
+    marks: list[str] = []
+    in_key, dots = True, 0
+    for it in TOML_PART.finditer(text):
+        kind, part = it.lastgroup, it[0]
+        if kind == "other" and in_key:
+            key, equals, _ = part.partition("=")
+            dots += key.count(".")
+            in_key = not equals
+        elif kind == "mark" and part in "[{" and not in_key:
+            marks.append(part)
+            in_key = part == "{"
+        elif kind == "mark" and part in "]}" and marks:
+            marks.pop()
+            in_key = False
+        elif part == "," and marks:
+            in_key = marks[-1] == "{"
+        elif kind == "end" and not marks:
+            in_key = True
+        if kind in ("mark", "end"):
+            dots = 0
+        if len(marks) > MOST_LEVELS or dots >= MOST_LEVELS:
+            return it.start()
+    return None
+
+
 def read_toml(text: bytes) -> Document:
-    """The document that the bytes are; refused by rule 1 where they are none, or an integer in it has more than 64 bits."""
+    """The document that the bytes are; refused by rule 1 where they are none, nest too deeply, or have an integer of more than 64 bits."""
     try:
-        document = tomllib.loads(older_toml(text.decode("utf-8")))
+        characters = text.decode("utf-8")
+        if too_deep_at(characters) is not None:
+            refuse(1)
+        document = tomllib.loads(older_toml(characters))
     except (ValueError, RecursionError):
         refuse(1)
     if not all(-(1 << 63) <= number < 1 << 63 for number in integers_in(document)):
@@ -781,13 +814,15 @@ def read_toml(text: bytes) -> Document:
     return document
 
 
-def integers_in(value: Any) -> Iterator[int]:
-    """Each integer in a value, in its arrays and tables too."""
-    if is_int(value):
-        yield value
-    elif type(value) in (list, dict):
-        for item in value.values() if is_table(value) else value:
-            yield from integers_in(item)
+def integers_in(document: Document) -> Iterator[int]:
+    """Each integer in a document, in its arrays and tables too."""
+    left: list[Any] = [document]
+    while left:
+        value = left.pop()
+        if is_int(value):
+            yield value
+        elif type(value) in (list, dict):
+            left += value.values() if is_table(value) else value
 
 
 def tables_of(document: Document) -> Iterator[tuple[Document, Fields, str]]:

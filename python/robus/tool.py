@@ -1,0 +1,98 @@
+"""What all tools share: how they take their words, how they read a file, and how they end."""
+from __future__ import annotations
+
+import argparse
+import io
+import os
+import sys
+import traceback
+from typing import Callable, NoReturn, Optional, TextIO, Tuple
+
+from robus.errors import BadArgument, Failed, NoEngine, Refused
+
+# The statuses of a tool that failed. No program of the repository ends with 70 or 130
+MISUSED, REFUSED, NOT_READ, NOT_WRITTEN, NO_ANSWER, INTERRUPTED = 2, 3, 5, 6, 70, 130
+
+
+class Parser(argparse.ArgumentParser):
+    """The parser of a tool's words. What is wrong with them is one line."""
+
+    def __init__(self, tool: str, page: str, usage: Optional[str] = None):
+        super().__init__(prog=tool, description=page, usage=usage or argparse.SUPPRESS,
+                         formatter_class=argparse.RawDescriptionHelpFormatter)
+
+    def error(self, message: str) -> NoReturn:
+        """Raises what is wrong."""
+        raise BadArgument(f"{message}; --help says more")
+
+
+def input_of(path: str) -> bytes:
+    """All bytes of a file, or of standard input if the path is `-`. It is read once."""
+    if path != "-":
+        with open(path, "rb") as file:
+            return file.read()
+    if sys.stdin is None:
+        raise OSError(None, "it is closed", "standard input")
+    try:
+        return sys.stdin.buffer.read()
+    except OSError as fault:
+        raise OSError(fault.errno, fault.strerror, "standard input") from None
+
+
+def lines_of(path: str) -> TextIO:
+    """The lines of a file, or of standard input, each read as it is asked for. A byte that is not
+    ASCII becomes a character that no line of a report has."""
+    source = open(path, "rb") if path != "-" else sys.stdin.buffer
+    return io.TextIOWrapper(source, encoding="ascii", errors="replace")
+
+
+def drop_output() -> None:
+    """Gives up what is not yet written, so that Python does not try it once more at its end."""
+    os.dup2(os.open(os.devnull, os.O_WRONLY), 1)
+
+
+def os_fault(fault: OSError) -> Tuple[str, int]:
+    """What an operation of the system failed at, in words, and the status for it. Each file is
+    opened by its name, so a failure without one is that of standard output."""
+    why = fault.strerror or str(fault)
+    if fault.filename is not None:
+        return f"{os.fsdecode(fault.filename)}: {why}", MISUSED
+    drop_output()
+    return f"standard output could not be written: {why}", NOT_WRITTEN
+
+
+def failure_of(fault: BaseException) -> Tuple[str, int]:
+    """Why a tool failed, in one line, and its status."""
+    if isinstance(fault, KeyboardInterrupt):
+        return "interrupted", INTERRUPTED
+    if isinstance(fault, BadArgument):
+        return str(fault), MISUSED
+    if isinstance(fault, Refused):
+        return str(fault), REFUSED
+    if isinstance(fault, (Failed, NoEngine)):
+        return str(fault), NO_ANSWER
+    if isinstance(fault, OSError):
+        return os_fault(fault)
+    if isinstance(fault, MemoryError):
+        return "no memory was left", NO_ANSWER
+    if isinstance(fault, RecursionError):
+        return "the input is nested too deeply", NO_ANSWER
+    traceback.print_exception(type(fault), fault, fault.__traceback__)
+    return "this is a fault of the tool itself", NO_ANSWER
+
+
+def guarded(tool: str, work: Callable[[], Optional[int]]) -> int:
+    """The status of a tool's work. Whatever it fails at is one line on standard error that begins
+    with the tool's name, and a reader that closed the pipe is none."""
+    try:
+        status = work() or 0
+        if sys.stdout:
+            sys.stdout.flush()
+        return status
+    except BrokenPipeError:
+        drop_output()
+        return 0
+    except (Exception, KeyboardInterrupt) as fault:
+        why, status = failure_of(fault)
+        print(f"{tool}: {why}", file=sys.stderr)
+        return status
