@@ -1,5 +1,7 @@
+# make help                                        prints this list
 # make run SCENARIO=examples/one_silent_rmu.toml   runs a scenario
-# make picture SCENARIO=.. > run.svg               draws its run, or with FRAMES="FIRST LAST" these frames of it
+# make picture SCENARIO=.. > run.svg               draws its run, or with FRAMES="FIRST LAST" these frames of it; behind -C add -s,
+#                                                  as in make -s -C .., or make's own lines are in the picture
 # make bridge SCENARIO=examples/bridges/carried_words.toml   runs a bridge of two buses
 # make build                                       proves and builds the programs, where they are not up to date: first the libraries below
 #                                                  them, side by side, with a line for each, and then each program
@@ -25,7 +27,10 @@ PACKAGES = $(AT)/lib/python3/dist-packages
 COUNT = 1000
 SEED = 1
 
-.PHONY: run picture bridge build library test bench examples tutorial compare install install-python install-library uninstall
+.PHONY: help run picture bridge build library test bench examples tutorial compare install install-python install-library uninstall
+
+help:
+	@sed -n '/^#/!q; s/^# //p' Makefile
 
 run:
 	@test -n "$(SCENARIO)" || { echo "usage: make run SCENARIO=examples/one_silent_rmu.toml (or another of examples/)" >&2; exit 2; }

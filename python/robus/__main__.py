@@ -23,7 +23,7 @@ import sys
 import threading
 from typing import Dict, List, Tuple
 
-from robus.tool import MISUSED, NO_ANSWER, guarded
+from robus.tool import MISUSED, NO_ANSWER, guarded, open_output
 from robus.words import FORMS
 
 # The tools: the module of each, its function, and the name under which it speaks
@@ -58,6 +58,7 @@ def run(tool: str, words: List[str]) -> int:
 def main() -> int:
     """What the command line asks for; its status."""
     words = sys.argv[1:]
+    open_output()
     if words[:1] in (["--help"], ["-h"]):
         return guarded("robus", lambda: print(__doc__))
     if not words or words[0] not in TOOLS:

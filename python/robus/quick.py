@@ -82,6 +82,15 @@ def may_write(folder: Path) -> bool:
         return False
 
 
+def folder_for_builds() -> Path:
+    """The first folder in which a build can be kept; NoEngine if there is none."""
+    for folder in folders():
+        if may_write(folder):
+            return folder
+    raise NoEngine("a build can be kept neither in %s nor in %s: set XDG_CACHE_HOME to a folder that "
+                   "may be written" % tuple(folders()))
+
+
 def kept(name: str) -> Optional[Path]:
     """The build of a program from the sources as they are; None if none is kept."""
     if not is_there():
@@ -168,10 +177,7 @@ def program_of(name: str) -> Optional[Path]:
         raise NoEngine(NO_KIT)
     found = kept(name)
     if found is None:
-        folder = next((it for it in folders() if may_write(it)), None)
-        if folder is None:
-            raise NoEngine("a build can be kept neither in %s nor in %s: set XDG_CACHE_HOME to a "
-                           "folder that may be written" % tuple(folders()))
+        folder = folder_for_builds()
         print("building %s takes up to two minutes; it is kept in %s" % (name, folder), file=sys.stderr)
         found = build(name, folder)
     return found

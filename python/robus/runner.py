@@ -5,6 +5,7 @@ The status is that of the program only if the program answered, with the last li
 has to have; whatever else happens has a status of its own (`robus.tool`)."""
 from __future__ import annotations
 
+import argparse
 import os
 import re
 import sys
@@ -20,7 +21,7 @@ from robus.calls import answer
 from robus.engines import Engine, Quick, Tried, Which
 from robus.errors import BadArgument, Failed, NoEngine
 from robus.scenario import Scenario
-from robus.tool import NOT_WRITTEN, Parser, drop_output, input_of
+from robus.tool import NOT_WRITTEN, NotWritten, Parser, drop_output, input_of
 from robus.words import FORMS, PROGRAMS, count_of, meaning, misused, reads
 
 HELP = """Runs the words of robus, or of robus_bridge as bridge and of robus_picture as picture, and
@@ -130,7 +131,9 @@ def run(call: Call, asked: Which = None) -> int:
     try:
         with patience(call.tool, engine):
             status = engine.stream(call.words, data, output.write, call.program)
-    except BrokenPipeError:
+    except NotWritten as fault:
+        if not fault.is_closed_pipe:
+            raise
         # The reader had enough, and the run is not known to have ended
         drop_output()
         return NOT_WRITTEN
@@ -162,13 +165,13 @@ def main(words: List[str]) -> int:
     """`python3 -m robus WORD ..`, tools/run and tools/bridge; the status."""
     word = words[0]
     tool = f"tools/{word}" if word in ("run", "bridge") else f"robus {word}"
-    parser = Parser(tool, HELP)
-    parser.add_argument("words", nargs="*", metavar="WORD .. FILE")
+    form = FORMS[word][0] + " [FILE]" * reads(word)
+    parser = Parser(tool, HELP, f"{tool}{form[len(word):]} [--engine ENGINE]")
+    parser.add_argument("words", nargs="*", help=argparse.SUPPRESS)
     parser.add_argument("--engine", help="library, program, quick, model, or a path (docs/LIBRARY.md)")
     asked = parser.parse_args(words[1:])
     count = count_of(word, len(asked.words))
     own, rest = asked.words[:count], asked.words[count:]
-    form = FORMS[word][0] + " [FILE]" * reads(word)
     if len(own) < count or len(rest) > reads(word):
         raise BadArgument(f"the words are '{form}'; --help says more")
     file = rest[0] if rest else "-"

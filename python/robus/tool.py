@@ -6,7 +6,7 @@ import io
 import os
 import sys
 import traceback
-from typing import Callable, NoReturn, Optional, TextIO, Tuple
+from typing import Any, Callable, NoReturn, Optional, TextIO, Tuple
 
 from robus.errors import BadArgument, Failed, NoEngine, Refused
 
@@ -15,10 +15,11 @@ MISUSED, REFUSED, NOT_READ, NOT_WRITTEN, NO_ANSWER, INTERRUPTED = 2, 3, 5, 6, 70
 
 
 class Parser(argparse.ArgumentParser):
-    """The parser of a tool's words. What is wrong with them is one line."""
+    """The parser of a tool's words, for which what is wrong with them is one line. Without `usage`
+    it is made of the arguments."""
 
     def __init__(self, tool: str, page: str, usage: Optional[str] = None):
-        super().__init__(prog=tool, description=page, usage=usage or argparse.SUPPRESS,
+        super().__init__(prog=tool, description=page, usage=usage,
                          formatter_class=argparse.RawDescriptionHelpFormatter)
 
     def error(self, message: str) -> NoReturn:
@@ -46,19 +47,37 @@ def lines_of(path: str) -> TextIO:
     return io.TextIOWrapper(source, encoding="ascii", errors="replace")
 
 
+class NotWritten(Exception):
+    """Standard output could not be written. It is no OSError, so that no tool takes it for a failure
+    to read a file."""
+
+    def __init__(self, fault: OSError):
+        super().__init__("standard output could not be written: %s" % fault.strerror)
+        self.is_closed_pipe = isinstance(fault, BrokenPipeError)
+
+
+class StandardOutput(io.FileIO):
+    """Standard output, whose failures are NotWritten."""
+
+    def write(self, piece: Any) -> Optional[int]:
+        """Writes a piece."""
+        try:
+            return super().write(piece)
+        except OSError as fault:
+            raise NotWritten(fault) from None
+
+
+def open_output() -> None:
+    """Makes standard output one whose failures are told apart from others."""
+    if sys.stdout is not None:
+        raw = io.BufferedWriter(StandardOutput(sys.stdout.fileno(), "wb", closefd=False))
+        sys.stdout = io.TextIOWrapper(raw, sys.stdout.encoding, sys.stdout.errors,
+                                      line_buffering=sys.stdout.isatty())
+
+
 def drop_output() -> None:
     """Gives up what is not yet written, so that Python does not try it once more at its end."""
     os.dup2(os.open(os.devnull, os.O_WRONLY), 1)
-
-
-def os_fault(fault: OSError) -> Tuple[str, int]:
-    """What an operation of the system failed at, in words, and the status for it. Each file is
-    opened by its name, so a failure without one is that of standard output."""
-    why = fault.strerror or str(fault)
-    if fault.filename is not None:
-        return f"{os.fsdecode(fault.filename)}: {why}", MISUSED
-    drop_output()
-    return f"standard output could not be written: {why}", NOT_WRITTEN
 
 
 def failure_of(fault: BaseException) -> Tuple[str, int]:
@@ -71,8 +90,11 @@ def failure_of(fault: BaseException) -> Tuple[str, int]:
         return str(fault), REFUSED
     if isinstance(fault, (Failed, NoEngine)):
         return str(fault), NO_ANSWER
+    if isinstance(fault, NotWritten):
+        return str(fault), NOT_WRITTEN
     if isinstance(fault, OSError):
-        return os_fault(fault)
+        where = "" if fault.filename is None else os.fsdecode(fault.filename) + ": "
+        return f"{where}{fault.strerror or fault}", MISUSED
     if isinstance(fault, MemoryError):
         return "no memory was left", NO_ANSWER
     if isinstance(fault, RecursionError):
@@ -83,16 +105,17 @@ def failure_of(fault: BaseException) -> Tuple[str, int]:
 
 def guarded(tool: str, work: Callable[[], Optional[int]]) -> int:
     """The status of a tool's work. Whatever it fails at is one line on standard error that begins
-    with the tool's name, and a reader that closed the pipe is none."""
+    with the tool's name; a reader that closed the pipe is no failure."""
     try:
         status = work() or 0
         if sys.stdout:
             sys.stdout.flush()
         return status
-    except BrokenPipeError:
-        drop_output()
-        return 0
     except (Exception, KeyboardInterrupt) as fault:
+        if isinstance(fault, NotWritten):
+            drop_output()
+            if fault.is_closed_pipe:
+                return 0
         why, status = failure_of(fault)
         print(f"{tool}: {why}", file=sys.stderr)
         return status
