@@ -313,12 +313,12 @@ def named(choice: str) -> Engine:
 
 def choose(words: Sequence[str], engine: Which = None, program: str = "robus") -> Engine:
     """The engine for these words: the one that is asked for, or the first that has them."""
-    wanted = engine or os.environ.get("ROBUS_ENGINE")
-    if wanted and not isinstance(wanted, (str, os.PathLike, Engine)):
+    wanted = (os.environ.get("ROBUS_ENGINE") or None) if engine is None else engine
+    if wanted is not None and not isinstance(wanted, (str, os.PathLike, Engine)):
         raise BadArgument("engine: %s is no name (%s), no path and no Engine"
                           % (shown(wanted), ", ".join(ENGINES)))
     what = " ".join([program, *words[:1]])
-    if wanted:
+    if wanted is not None:
         found = wanted if isinstance(wanted, Engine) else named(os.fspath(wanted))
         if found.has(words, program):
             return found

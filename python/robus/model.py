@@ -2,10 +2,12 @@
 the package, and tools/model. It wants Python 3.11."""
 from __future__ import annotations
 
+import os
 import sys
 
 from robus.errors import BadArgument
 from robus.rows import names_in
+from robus.words import misused
 
 if sys.version_info < (3, 11):
     raise ImportError("tools/model wants Python 3.11")
@@ -46,5 +48,7 @@ def main(words: list[str]) -> int:
     if not words:
         raise BadArgument("usage: tools/model run < SCENARIO (tools/model --help says more)")
     status, text = model.answer(words, sys.stdin.buffer)
+    if status == 2:
+        raise BadArgument(misused("tools/model", words, os.path.isfile(words[-1])))
     sys.stdout.buffer.write(text)
     return status

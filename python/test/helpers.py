@@ -26,7 +26,7 @@ class Input:
 
 def ending_of(tool: str, words: list, data: bytes = b"") -> tuple[int, str, str]:
     """The status of a tool, and what it writes on standard output and on standard error."""
-    out, said, kept = io.StringIO(), io.StringIO(), sys.stdin
+    out, said, kept = io.TextIOWrapper(io.BytesIO(), "utf-8", write_through=True), io.StringIO(), sys.stdin
     sys.stdin = Input(data)
     try:
         with contextlib.redirect_stdout(out), contextlib.redirect_stderr(said):
@@ -36,7 +36,7 @@ def ending_of(tool: str, words: list, data: bytes = b"") -> tuple[int, str, str]
         said.write(end.code if isinstance(end.code, str) else "")
     finally:
         sys.stdin = kept
-    return status, out.getvalue(), said.getvalue()
+    return status, out.buffer.getvalue().decode(errors="replace"), said.getvalue()
 
 
 def output_of(tool: str, words: list, data: bytes = b"") -> tuple[int, str]:
