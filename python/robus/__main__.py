@@ -23,7 +23,7 @@ import sys
 import threading
 from typing import Dict, List, Tuple
 
-from robus.tool import MISUSED, NO_ANSWER, guarded, open_output
+from robus.tool import MISUSED, guarded, open_output
 from robus.words import FORMS
 
 # The tools: the module of each, its function, and the name under which it speaks
@@ -35,7 +35,6 @@ TOOLS.update(explain=("explanation", "main", "tools/explain"),
              robus=("runner", "robus", "tools/robus"), draw=("runner", "draw", "tools/picture"))
 TOOLS.update((word, ("runner", "main", "robus " + word)) for word in FORMS)
 TOOLS.update((word, ("runner", "main", "tools/" + word)) for word in ("run", "bridge"))
-NEWER = {"lint", "plan", "layout", "faults", "explain", "model", "campaign"}
 
 
 def work(tool: str, words: List[str]) -> int:
@@ -47,12 +46,7 @@ def work(tool: str, words: List[str]) -> int:
 
 def run(tool: str, words: List[str]) -> int:
     """The tool with these words; its status."""
-    name = TOOLS[tool][2]
-    if tool in NEWER and sys.version_info < (3, 11):
-        print("%s: Python 3.11 or newer is wanted, and this is %d.%d" % (name, *sys.version_info[:2]),
-              file=sys.stderr)
-        return NO_ANSWER
-    return guarded(name, lambda: work(tool, words))
+    return guarded(TOOLS[tool][2], lambda: work(tool, words))
 
 
 def main() -> int:

@@ -10,7 +10,7 @@ from robus.rows import names_in
 from robus.words import misused
 
 if sys.version_info < (3, 11):
-    raise ImportError("tools/model wants Python 3.11")
+    raise ImportError("needs Python 3.11 or newer, and this is %d.%d" % sys.version_info[:2])
 from robus import second_model as model  # noqa: E402
 
 BIU, RMU, TAIL = model.BIU, model.RMU, model.TAIL

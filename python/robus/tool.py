@@ -88,7 +88,7 @@ def failure_of(fault: BaseException) -> Tuple[str, int]:
         return str(fault), MISUSED
     if isinstance(fault, Refused):
         return str(fault), REFUSED
-    if isinstance(fault, (Failed, NoEngine)):
+    if isinstance(fault, (Failed, NoEngine, ImportError)):
         return str(fault), NO_ANSWER
     if isinstance(fault, NotWritten):
         return str(fault), NOT_WRITTEN

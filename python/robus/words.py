@@ -60,7 +60,8 @@ def misused(tool: str, words: List[str], is_file: bool) -> str:
     is a file."""
     found = FORMS.get(words[0]) if words else None
     form = ", but '%s' (docs/robus.md has the ranges)" % found[0] if found else ""
-    said = "there are no words '%s'%s; tools/robus --help lists them" % (" ".join(words), form)
+    lists = tool if tool == "tools/model" else "tools/robus"
+    said = "there are no words '%s'%s; %s --help lists them" % (" ".join(words), form, lists)
     if not is_file:
         return said
     call = " ".join([tool, *(words[:-1] or ["run"])])
