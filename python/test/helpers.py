@@ -1,6 +1,7 @@
 """What the tests share."""
 import contextlib
 import io
+import os
 import pathlib
 import sys
 from importlib.machinery import SourceFileLoader
@@ -65,3 +66,8 @@ def is_fast(program: str) -> bool:
         return engines.choose(words, program=program).name in ("library", "program")
     except engines.NoEngine:
         return False
+
+
+if not is_fast("robus"):
+    # tools/model runs in this process, which is quicker than an unproved build
+    os.environ.setdefault("ROBUS_ENGINE", "model")

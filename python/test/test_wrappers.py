@@ -4,8 +4,10 @@ import os
 import pathlib
 import signal
 import subprocess
+import sys
 import tempfile
 import unittest
+from concurrent.futures import ThreadPoolExecutor
 from unittest import mock
 
 from helpers import EXAMPLES, TOP
@@ -24,17 +26,26 @@ exit "$(cat "$here/status")"
 """
 # The tools that write to standard output, each with words for which it does
 WRITERS = (("run", LATE), ("robus", "gen", 7, 1), ("model", "gen", 7, 1), ("lint", LATE), ("plan", LATE),
-           ("layout", LATE), ("faults", EXAMPLES / "bridges/../two_buses.toml", "B0", "0/0=silent"),
-           ("explain", LATE), ("sweep", LATE, "fault[0].slot=0..1"), ("scenario", 7))
+           ("layout", LATE), ("faults", LATE, "B0", "0/0=silent"), ("explain", LATE), ("sweep", LATE, "fault[0].slot=0..1"), ("scenario", 7))
+
+
+def environment(*folders: str, **more: str) -> dict[str, str]:
+    """The environment of a tool: these folders first in PATH, and the Python of this test."""
+    path = os.pathsep.join([*folders, os.path.dirname(sys.executable), os.environ["PATH"]])
+    return dict(os.environ, PATH=path, ROBUS_ENGINE="model", **more)
 
 
 def call(*words, path: str | None = None, data: bytes = b"", **more) -> tuple[int, str, str]:
     """The status of a command, and what it writes on standard output and on standard error."""
-    env = dict(os.environ, ROBUS_ENGINE="model", **more)
-    if path:
-        env["PATH"] = path + os.pathsep + env["PATH"]
+    env = environment(*([path] if path else []), **more)
     done = subprocess.run([str(word) for word in words], input=data, capture_output=True, cwd=TOP, env=env)
     return done.returncode, done.stdout.decode(), done.stderr.decode()
+
+
+def calls(*lines: tuple) -> list[tuple[tuple, tuple[int, str, str]]]:
+    """Several commands, some of them at a time, each with its ending."""
+    with ThreadPoolExecutor(4) as pool:
+        return list(zip(lines, pool.map(lambda words: call(*words), lines)))
 
 
 def program_in(folder: str, name: str, text: str) -> pathlib.Path:
@@ -47,17 +58,16 @@ def program_in(folder: str, name: str, text: str) -> pathlib.Path:
 
 class Words(unittest.TestCase):
     def test_bare_tools_say_in_one_line_what_they_want(self):
-        for tool in ("robus", "picture", "model", "quick", "lint", "plan", "sweep", "table"):
-            status, out, said = call("tools/" + tool)
+        tools = ("robus", "picture", "model", "quick", "lint", "sweep", "table")
+        for (tool,), (status, out, said) in calls(*[("tools/" + it,) for it in tools]):
             self.assertEqual((status, out, len(said.splitlines())), (2, "", 1), tool)
-            self.assertTrue(said.startswith("tools/%s: " % tool), said)
+            self.assertTrue(said.startswith(tool + ": "), said)
 
     def test_help(self):
-        for tool in sorted(str(path.relative_to(TOP)) for path in (TOP / "tools").iterdir() if path.is_file()):
-            if tool != "tools/robus":
-                status, out, said = call(tool, "--help")
-                self.assertEqual((status, said), (0, ""), tool)
-                self.assertIn(tool, out)
+        tools = {str(path.relative_to(TOP)) for path in (TOP / "tools").iterdir() if path.is_file()} - {"tools/robus"}
+        for (tool, _), (status, out, said) in calls(*[(tool, "--help") for tool in sorted(tools)]):
+            self.assertEqual((status, said), (0, ""), tool)
+            self.assertIn(tool, out)
         status, out, said = call("make", "-s", "help")
         self.assertEqual((status, said), (0, ""))
         self.assertIn("make run SCENARIO=", out)
@@ -97,18 +107,18 @@ class Verdicts(unittest.TestCase):
         for text, found in (("exit 1", "missing"), ("echo 3.9", "3.9"), ("echo 3.6; exit 1", "missing")):
             with tempfile.TemporaryDirectory() as folder:
                 program_in(folder, "python3", "#!/bin/sh\n%s\n" % text)
-                for tool in ("run", "lint", "campaign", "model"):
+                for tool in ("run", "lint"):
                     said = "tools/%s: needs Python 3.11 or newer; python3 is %s\n" % (tool, found)
                     self.assertEqual(call("tools/" + tool, LATE, path=folder), (70, "", said))
                 self.assertEqual(call("make", "-s", "run", "SCENARIO=%s" % LATE, path=folder)[0], 2)
 
     def test_engines_that_give_no_report(self):
-        for engine in ("/bin/true", "/bin/false", "/bin/cat", "/bin", "README.md", "nosuch"):
-            for words in (["run", LATE], ["sweep", LATE, "frames=1"]):
-                status, _, said = call("tools/" + words[0], *words[1:], "--engine", engine)
-                self.assertEqual(status, 70, (engine, said))
-                self.assertTrue(said.splitlines()[-1].startswith("tools/%s: " % words[0]), said)
-                self.assertNotIn("Traceback", said)
+        engines = ("/bin/true", "/bin/false", "/bin/cat", "/bin", "README.md")
+        lines = [("tools/run", LATE, "--engine", engine) for engine in engines]
+        for words, (status, _, said) in calls(*lines, ("tools/sweep", LATE, "frames=1", "--engine", "/bin/true")):
+            self.assertEqual(status, 70, (words, said))
+            self.assertTrue(said.splitlines()[-1].startswith(words[0] + ": "), said)
+            self.assertNotIn("Traceback", said)
 
     def test_a_run_that_is_killed(self):
         with tempfile.TemporaryDirectory() as folder:
@@ -134,7 +144,7 @@ class Input(unittest.TestCase):
     def test_a_folder_as_standard_input(self):
         folder = os.open(EXAMPLES, os.O_RDONLY)
         try:
-            done = subprocess.run([str(TOP / "tools/robus"), "run"], stdin=folder, capture_output=True)
+            done = subprocess.run([str(TOP / "tools/robus"), "run"], stdin=folder, capture_output=True, env=environment())
         finally:
             os.close(folder)
         self.assertEqual((done.returncode, done.stdout), (5, b""))
@@ -145,24 +155,30 @@ class Endings(unittest.TestCase):
     def started(self, words, **how) -> subprocess.Popen:
         """A tool of tools/ that is under way."""
         return subprocess.Popen([str(TOP / "tools" / words[0]), *map(str, words[1:])], stderr=subprocess.PIPE,
-                                env=dict(os.environ, ROBUS_ENGINE="model"), text=True, **how)
+                                env=environment(), text=True, **how)
+
+    def endings(self, out: int) -> list[tuple[str, int, list[str]]]:
+        """The name, the status and the lines of each tool that writes to this descriptor; what ran it is left out."""
+        found = []
+        for words, tool in [(words, self.started(words, stdout=out)) for words in WRITERS]:
+            with tool:
+                lines = [line for line in tool.stderr.read().splitlines() if ": run by " not in line]
+            found.append((words[0], tool.returncode, lines))
+        return found
 
     def test_a_closed_pipe_is_silent(self):
-        for words in WRITERS:
-            reader, writer = os.pipe()
-            os.close(reader)
-            with self.started(words, stdout=writer) as tool:
-                os.close(writer)
-                said = tool.stderr.read()
-            self.assertIn(tool.returncode, (0, 6), (words, said))
-            self.assertEqual([line for line in said.splitlines() if ": run by " not in line], [], words)
+        reader, writer = os.pipe()
+        os.close(reader)
+        found = self.endings(writer)
+        os.close(writer)
+        runners = ("run", "robus")
+        self.assertEqual(found, [(name, 6 if name in runners else 0, []) for name, *_ in WRITERS])
 
     def test_a_full_disk_is_one_line(self):
-        for words in WRITERS:
-            with open("/dev/full", "w") as full, self.started(words, stdout=full) as tool:
-                said = tool.stderr.read()
-            line = "tools/%s: standard output could not be written: No space left on device" % words[0]
-            self.assertEqual((tool.returncode, said.splitlines()[-1]), (6, line), words)
+        with open("/dev/full", "w") as full:
+            found = self.endings(full.fileno())
+        line = "tools/%s: standard output could not be written: No space left on device"
+        self.assertEqual(found, [(name, 6, [line % name]) for name, *_ in WRITERS])
 
     def test_an_interrupted_sweep_keeps_its_rows(self):
         words = ("sweep", EXAMPLES / "late_onset.toml", "frames=3,4000")
