@@ -10,10 +10,12 @@ from __future__ import annotations
 import hashlib
 import os
 import shutil
+import signal
 import subprocess
 import sys
 import tempfile
 import time
+from contextlib import suppress
 from functools import lru_cache
 from pathlib import Path
 from typing import Iterator, List, Optional, Tuple
@@ -133,21 +135,32 @@ def keep(program: Path, name: str, folder: Path) -> Path:
     return path
 
 
-def trial(name: str, words: List[str], data: bytes, room: Path, *options: str) -> Tuple[int, str, Optional[Path]]:
+def stop(child: subprocess.Popen[bytes]) -> None:
+    """Interrupts `rt` and all that it started, and waits a little for its end: without a limit it
+    could wait for ever, as an interrupted `poll` may keep the lock of the child's status."""
+    for number in (signal.SIGINT, signal.SIGKILL):
+        with suppress(ProcessLookupError):
+            os.killpg(child.pid, number)
+        with suppress(subprocess.TimeoutExpired):
+            child.wait(5)
+            return
+
+
+def trial(name: str, words: List[str], data: bytes, room: Path, *options: str
+          ) -> Tuple[int, str, Optional[Path]]:
     """A run of a program by `rt try`, which writes into the file `out` of the room: its status, what
     `rt` said, and the program while it is held in the room."""
     (room / "input").write_bytes(data)
     with open(room / "input", "rb") as stdin, open(room / "out", "wb") as out, \
             open(room / "said", "wb") as said:
         child = subprocess.Popen(["rt", "try", *options, "--", *words], cwd=TOP / "crates" / name,
-                                 stdin=stdin, stdout=out, stderr=said,
+                                 stdin=stdin, stdout=out, stderr=said, start_new_session=True,
                                  env=dict(os.environ, TMPDIR=str(room)))
         try:
             held = catch(room, child)
             child.wait()
         except BaseException:
-            child.terminate()
-            child.wait()
+            stop(child)
             raise
     return child.returncode, (room / "said").read_text(errors="replace"), held
 
