@@ -216,7 +216,7 @@ class Model(Engine):
     """tools/model, a second model of the bus in Python. Nothing is proved of it, and it has no
     letters, spell, group, listen, bridges and pictures. It wants Python 3.11."""
 
-    path: str = str(PACKAGE / "second_model.py")
+    path: str = str(PACKAGE / "second_model")
     name = "model"
 
     def has(self, words: Sequence[str], program: str = "robus") -> bool:
