@@ -10,7 +10,7 @@ import unittest
 from concurrent.futures import ThreadPoolExecutor
 from unittest import mock
 
-from helpers import EXAMPLES, TOP
+from helpers import EXAMPLES, TOP, ending_of
 from robus import quick
 
 LATE = EXAMPLES / "late_onset.toml"
@@ -24,9 +24,9 @@ cat "$here/out"
 cat "$here/said" >&2
 exit "$(cat "$here/status")"
 """
-# The tools that write to standard output, each with words for which it does
-WRITERS = (("run", LATE), ("robus", "gen", 7, 1), ("model", "gen", 7, 1), ("lint", LATE), ("plan", LATE),
-           ("layout", LATE), ("faults", LATE, "B0", "0/0=silent"), ("explain", LATE), ("sweep", LATE, "fault[0].slot=0..1"), ("scenario", 7))
+# Tools that write to standard output, each in a way of its own, with words for which they do
+WRITERS = (("run", LATE), ("model", "gen", 7, 1), ("lint", LATE), ("plan", LATE), ("sweep", LATE, "frames=1"),
+           ("scenario", 7))
 
 
 def environment(*folders: str, **more: str) -> dict[str, str]:
@@ -58,7 +58,7 @@ def program_in(folder: str, name: str, text: str) -> pathlib.Path:
 
 class Words(unittest.TestCase):
     def test_bare_tools_say_in_one_line_what_they_want(self):
-        tools = ("robus", "picture", "model", "quick", "lint", "sweep", "table")
+        tools = ("robus", "picture", "quick", "lint")
         for (tool,), (status, out, said) in calls(*[("tools/" + it,) for it in tools]):
             self.assertEqual((status, out, len(said.splitlines())), (2, "", 1), tool)
             self.assertTrue(said.startswith(tool + ": "), said)
@@ -74,11 +74,11 @@ class Words(unittest.TestCase):
 
     def test_no_file(self):
         bridge = EXAMPLES / "bridges/carried_words.toml"
-        for tool in ("run", "picture", "bridge"):
-            for path, why in (("nosuch.toml", "No such file or directory"), ("examples", "Is a directory")):
-                self.assertEqual(call("tools/" + tool, path), (2, "", "tools/%s: %s: %s\n" % (tool, path, why)))
-        self.assertIn("is a bridge of two buses: make bridge", call("tools/run", bridge)[2])
-        self.assertIn("is a scenario of one bus: make run", call("tools/bridge", EXAMPLES / "two_sided.toml")[2])
+        for tool, name in (("run", "run"), ("draw", "picture"), ("bridge", "bridge")):
+            for path, why in (("nosuch.toml", "No such file or directory"), ("/", "Is a directory")):
+                self.assertEqual(ending_of(tool, [path]), (2, "", "tools/%s: %s: %s\n" % (name, path, why)))
+        self.assertIn("is a bridge of two buses: make bridge", ending_of("run", [bridge])[2])
+        self.assertIn("is a scenario of one bus: make run", ending_of("bridge", [EXAMPLES / "two_sided.toml"])[2])
 
     def test_a_file_behind_the_words_is_to_be_standard_input(self):
         said = call("tools/robus", "record", "B0", "README.md")[2]
@@ -133,7 +133,7 @@ class Input(unittest.TestCase):
     def test_pipes(self):
         whole = call("tools/run", LATE)[1]
         self.assertTrue(whole.endswith("end 3\n"))
-        for words in (["run", "-"], ["run", "/dev/stdin"], ["robus", "run"]):
+        for words in (["run", "/dev/stdin"], ["robus", "run"]):
             self.assertEqual(call("tools/" + words[0], *words[1:], data=LATE.read_bytes())[:2], (0, whole), words)
         with tempfile.TemporaryDirectory() as folder:
             pipe = pathlib.Path(folder, "pipe")
@@ -171,8 +171,7 @@ class Endings(unittest.TestCase):
         os.close(reader)
         found = self.endings(writer)
         os.close(writer)
-        runners = ("run", "robus")
-        self.assertEqual(found, [(name, 6 if name in runners else 0, []) for name, *_ in WRITERS])
+        self.assertEqual(found, [(name, 6 if name == "run" else 0, []) for name, *_ in WRITERS])
 
     def test_a_full_disk_is_one_line(self):
         with open("/dev/full", "w") as full:
