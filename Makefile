@@ -1,5 +1,7 @@
+# make help                                        prints this list
 # make run SCENARIO=examples/one_silent_rmu.toml   runs a scenario
-# make picture SCENARIO=.. > run.svg               draws its run, or with FRAMES="FIRST LAST" these frames of it
+# make picture SCENARIO=.. > run.svg               draws its run, or with FRAMES="FIRST LAST" these frames of it; behind -C add -s,
+#                                                  as in make -s -C .., or make's own lines are in the picture
 # make bridge SCENARIO=examples/bridges/carried_words.toml   runs a bridge of two buses
 # make build                                       proves and builds the programs, where they are not up to date: first the libraries below
 #                                                  them, side by side, with a line for each, and then each program
@@ -25,7 +27,10 @@ PACKAGES = $(AT)/lib/python3/dist-packages
 COUNT = 1000
 SEED = 1
 
-.PHONY: run picture bridge build library test bench examples tutorial compare install install-python install-library uninstall
+.PHONY: help run picture bridge build library test bench examples tutorial compare install install-python install-library uninstall
+
+help:
+	@sed -n '/^#/!q; s/^# //p' Makefile
 
 run:
 	@test -n "$(SCENARIO)" || { echo "usage: make run SCENARIO=examples/one_silent_rmu.toml (or another of examples/)" >&2; exit 2; }
@@ -88,8 +93,9 @@ install-library:
 	printf 'prefix=%s\nName: robus\nDescription: a fault-tolerant broadcast bus, as proved calls\nVersion: 1.0\nCflags: -I$${prefix}/include\nLibs: -L$${prefix}/lib -lrobus\n' "$(PREFIX)" > "$(AT)/lib/pkgconfig/robus.pc"
 
 install-python:
-	install -d "$(PACKAGES)/robus"
+	install -d "$(PACKAGES)/robus/second_model"
 	install -m 644 python/robus/*.py python/robus/py.typed "$(PACKAGES)/robus"
+	install -m 644 python/robus/second_model/*.py "$(PACKAGES)/robus/second_model"
 
 uninstall:
 	rm -f "$(AT)/bin/robus" "$(AT)/bin/robus_picture" "$(AT)/bin/robus_bridge" "$(AT)/share/man/man1/robus.1" "$(AT)/share/man/man1/robus_picture.1" "$(AT)/share/man/man1/robus_bridge.1" "$(AT)/share/man/man5/robus_scenario.5" "$(AT)/share/man/man5/robus_formats.5"

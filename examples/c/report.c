@@ -3,7 +3,7 @@
 #include <stdio.h>
 #include <stdlib.h>
 
-/* The bytes of the file, and their number; NULL where there is no such file or no memory. */
+/* The bytes of the file, and their number; NULL if it cannot be read or there is no memory. */
 static uint8_t *read_file(const char *path, size_t *length)
 {
     FILE *file = fopen(path, "rb");
@@ -20,6 +20,11 @@ static uint8_t *read_file(const char *path, size_t *length)
         }
         bytes = more;
         count += fread(bytes + count, 1, room - count, file);
+        if (ferror(file)) {
+            free(bytes);
+            bytes = NULL;
+            break;
+        }
         if (count < room)
             break;
         room *= 2;

@@ -8,7 +8,10 @@
     sweep     runs a scenario with other values at its keys, a row of CSV for each
     campaign  runs many scenarios, a row of each
     table     a report as CSV or as JSON lines
-    quick     runs a program of the repository as a quick build
+    draw      draws the run of a scenario
+    model     the second model of the bus
+    quick     builds a program of the repository without any proof, and runs it
+    robus     runs the program robus with any words
 
     run, check, letters, record, group, replay, listen, gen, stress, spell, bridge, picture
               the programs' own words, by the engine that docs/LIBRARY.md says
@@ -17,44 +20,50 @@ None of them is proved but for the programs that they run."""
 import importlib
 import os
 import sys
-from typing import List
+import threading
+from typing import Dict, List, Tuple
 
+from robus.tool import MISUSED, guarded, open_output
 from robus.words import FORMS
 
-# The tools, with the module of each where it has another name
-TOOLS = {name: name for name in ("lint", "plan", "layout", "faults", "sweep", "campaign",
-                                   "campaign_rows", "table", "quick")}
-TOOLS["explain"] = "explanation"
+# The tools: the module of each, its function, and the name under which it speaks
+TOOLS: Dict[str, Tuple[str, str, str]] = {
+    name: (name, "main", "tools/" + name)
+    for name in ("lint", "plan", "layout", "faults", "sweep", "campaign", "table", "model", "quick")}
+TOOLS.update(explain=("explanation", "main", "tools/explain"),
+             campaign_rows=("campaign_rows", "main", "tools/campaign_row"),
+             robus=("runner", "robus", "tools/robus"), draw=("runner", "draw", "tools/picture"))
+TOOLS.update((word, ("runner", "main", "robus " + word)) for word in FORMS)
+TOOLS.update((word, ("runner", "main", "tools/" + word)) for word in ("run", "bridge"))
+
+
+def work(tool: str, words: List[str]) -> int:
+    """The tool with these words, whatever it raises; its status."""
+    module, function, _ = TOOLS[tool]
+    found = getattr(importlib.import_module("robus." + module), function)
+    return found([tool, *words] if tool in FORMS else words)
 
 
 def run(tool: str, words: List[str]) -> int:
     """The tool with these words; its status."""
-    if tool in FORMS:
-        return importlib.import_module("robus.words").main([tool, *words])
-    return importlib.import_module("robus." + TOOLS[tool]).main(words) or 0
+    return guarded(TOOLS[tool][2], lambda: work(tool, words))
 
 
 def main() -> int:
     """What the command line asks for; its status."""
     words = sys.argv[1:]
+    open_output()
     if words[:1] in (["--help"], ["-h"]):
-        print(__doc__)
-        return 0
-    if not words or words[0] not in {*TOOLS, *FORMS}:
-        print(__doc__ if not words else "robus: there is no word %s; python3 -m robus --help lists them" % words[0], file=sys.stderr)
-        return 2
-    try:
-        status = run(words[0], words[1:])
-        if sys.stdout:
-            sys.stdout.flush()
-        return status
-    except OSError as fault:
-        # What is left to write is given up, so that Python does not try it once more at its end
-        os.dup2(os.open(os.devnull, os.O_WRONLY), 1)
-        if isinstance(fault, BrokenPipeError):
-            return 0
-        print("robus: %s" % fault, file=sys.stderr)
-        return 6
+        return guarded("robus", lambda: print(__doc__))
+    if not words or words[0] not in TOOLS:
+        why = "there is no word %s" % words[0] if words else "a word is wanted"
+        print("robus: %s; python3 -m robus --help lists them" % why, file=sys.stderr)
+        return MISUSED
+    status = run(words[0], words[1:])
+    if threading.active_count() > 1:
+        # Runs that are under way in other threads are not waited for
+        os._exit(status)
+    return status
 
 
 if __name__ == "__main__":

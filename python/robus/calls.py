@@ -1,18 +1,19 @@
-"""The words of the programs as calls. Each raises Refused where the input is refused, Failed where
-a program ends with another status than 0 and 1, and NoEngine where nothing there can run it.
+"""The words of the programs as calls. Each raises BadArgument if an argument has a value that it
+may not have, Refused if the input is refused, Failed if a program gives no result, and NoEngine if
+nothing that is there can run it.
 
 A scenario is a Scenario, the path of a file, a TOML document as bytes or as a str of several
-lines, or a dict of its keys. `engine` is `library`, `program`, `model`, a path, or an Engine;
-without it the first of these three that is there runs the call."""
+lines, or a dict of its keys. `engine` is `library`, `program`, `quick`, `model`, a path, or an
+Engine; without it the first of these four that is there runs the call."""
 from __future__ import annotations
 
 import os
-import re
-from pathlib import Path
 from typing import Iterable, List, Optional, Sequence, Type, TypeVar, Union
 
+from robus import arguments
+from robus.arguments import shown
 from robus.engines import Answer, Engine, Which, choose
-from robus.errors import Failed, Refused
+from robus.errors import BadArgument, Failed, Refused
 from robus.results import (BridgeReport, Check, Groups, Letters, Log, Replay, Report, Result,
                            Stress)
 from robus.rows import Refusal, row_of
@@ -20,6 +21,9 @@ from robus.scenario import Scenario, Source, scenario_of
 
 R = TypeVar("R", bound=Result)
 LogSource = Union[Log, bytes, str, os.PathLike]
+MOST_SKIP = (1 << 31) - 1
+MOST_SEED = (1 << 64) - 1
+MOST_FRAMES = 4096
 
 
 def refusal_in(line: str) -> Refusal:
@@ -31,10 +35,10 @@ def refusal_in(line: str) -> Refusal:
 
 def answer(engine: Engine, words: Sequence[str], data: bytes, *, program: str = "robus",
            scenario: Optional[Scenario] = None) -> Answer:
-    """What an engine answers, where that is a result."""
+    """What an engine answers, if that is a result."""
     found = engine.call(words, data, program)
     if found.status == 3:
-        refusal = refusal_in(found.output.decode("ascii").rstrip("\n"))
+        refusal = refusal_in(found.output.decode("ascii", "replace").splitlines()[-1])
         text, file = (scenario.text, scenario.file) if scenario else (None, None)
         raise Refused(refusal, text, file)
     if found.status not in (0, 1):
@@ -53,14 +57,22 @@ def bytes_of(source: LogSource) -> bytes:
     """The bytes of a log."""
     if isinstance(source, Log):
         return source.data
-    return source if isinstance(source, bytes) else Path(source).read_bytes()
+    if isinstance(source, (bytes, bytearray, memoryview)):
+        return bytes(source)
+    if not isinstance(source, (str, os.PathLike)):
+        raise BadArgument("log: %s is no Log, no bytes and no path of a file" % shown(source))
+    with open(arguments.path("log", source), "rb") as file:
+        return file.read()
 
 
-def biu_in(name: str) -> int:
-    """The number of a BIU, as 2 of B2."""
-    if not re.fullmatch(r"B(\d|1[0-5])", name, re.ASCII):
-        raise ValueError("%r names no BIU; one is as B0" % name)
-    return int(name[1:])
+def mask_of(members: Iterable[str]) -> int:
+    """The mask of a group of BIUs, which are named one by one."""
+    if isinstance(members, (str, bytes)) or not isinstance(members, Iterable):
+        raise BadArgument("members: %s is no list of BIUs, as [\"B0\", \"B1\"]" % shown(members))
+    numbers = {arguments.node("members", name, "B")[1] for name in members}
+    if not numbers:
+        raise BadArgument("members: a group has 1 to 16 BIUs, and none is named")
+    return sum(1 << number for number in numbers)
 
 
 def run(scenario: Source, *, engine: Which = None) -> Report:
@@ -82,13 +94,14 @@ def group(scenario: Source, how: str, members: Iterable[str], *, engine: Which =
     """Runs a scenario; what its good BIUs find for a group of BIUs, as ["B0", "B1", "B2"].
 
     `how` is `most`, the word of more than half of those that own a slot, or `mid`, the middle."""
-    mask = sum({1 << biu_in(name) for name in members})
-    return of_scenario(Groups, ["group", how, str(mask)], scenario, engine)
+    words = ["group", arguments.one_of("how", how, ("most", "mid")), str(mask_of(members))]
+    return of_scenario(Groups, words, scenario, engine)
 
 
 def record(scenario: Source, node: str, *, engine: Which = None) -> Log:
     """Runs a scenario; the log of all that one node, as `B0`, was given."""
-    given, words = scenario_of(scenario), ["record", node]
+    kind, number = arguments.node("node", node)
+    given, words = scenario_of(scenario), ["record", "%s%d" % (kind, number)]
     by = choose(words, engine)
     found = answer(by, words, given.text, scenario=given)
     return Log(by, found.status, found.output)
@@ -104,7 +117,7 @@ def replay(log: LogSource, *, engine: Which = None) -> Replay:
 def listen(log: LogSource, skip: int = 0, *, engine: Which = None) -> Replay:
     """What a passive listener makes of the log of a BIU from tick `skip` of the log on, which is
     tick 0 of its own."""
-    words = ["listen", str(skip)]
+    words = ["listen", str(arguments.integer("skip", skip, 0, MOST_SKIP))]
     by = choose(words, engine)
     found = answer(by, words, bytes_of(log))
     return Replay(by, found.status, found.output)
@@ -117,15 +130,21 @@ def bridge(document: Source, *, engine: Which = None) -> BridgeReport:
     return BridgeReport(by, found.status, found.output)
 
 
+def seed_and_frames(seed: int, frames: int) -> List[str]:
+    """The words of a generated scenario."""
+    return [str(arguments.integer("seed", seed, 0, MOST_SEED)),
+            str(arguments.integer("frames", frames, 1, MOST_FRAMES))]
+
+
 def gen(seed: int, frames: int, *, engine: Which = None) -> Scenario:
     """A large scenario that the seed, 0 to 2^64 - 1, fixes, of 1 to 4096 frames."""
-    words = ["gen", str(seed), str(frames)]
+    words = ["gen", *seed_and_frames(seed, frames)]
     return Scenario.from_toml(answer(choose(words, engine), words, b"").output)
 
 
 def stress(seed: int, frames: int, *, engine: Which = None) -> Stress:
     """Runs the scenario that `gen` gives; four numbers of its run. A breach raises Failed."""
-    words = ["stress", str(seed), str(frames)]
+    words = ["stress", *seed_and_frames(seed, frames)]
     by = choose(words, engine)
     found = answer(by, words, b"")
     if found.status != 0:
@@ -135,7 +154,7 @@ def stress(seed: int, frames: int, *, engine: Which = None) -> Stress:
 
 def spell(letter: bytes, *, engine: Which = None) -> List[int]:
     """The words that spell a letter of 1 to 255 bytes."""
-    words = ["spell", letter.hex()]
+    words = ["spell", arguments.some_bytes("letter", letter, 1, 255).hex()]
     found = answer(choose(words, engine), words, b"")
     return [row_of(line).word for line in found.output.decode("ascii").splitlines()]
 
@@ -148,10 +167,16 @@ def explain(scenario: Source, frame: Optional[int] = None, slot: Optional[int] =
     from robus.model import TooLong, model, read
 
     given = scenario_of(scenario)
+    for name, value in (("frame", frame), ("slot", slot)):
+        if value is not None:
+            arguments.integer(name, value, 0, MOST_FRAMES)
     try:
         found = read(given.text)
     except model.Refused as refusal:
         raise Refused(refusal_in(str(refusal)), given.text, given.file) from None
     except TooLong:
         raise Failed(("explain",), 4) from None
-    return explanation_of(found, frame, slot)
+    try:
+        return explanation_of(found, frame, slot)
+    except ValueError as fault:
+        raise BadArgument("frame, slot: %s" % fault) from None

@@ -23,6 +23,7 @@ from types import ModuleType
 from typing import Dict, List
 
 from robus.engines import TOP, Engine, named
+from robus.errors import RobusError
 from robus.rows import cell
 from robus.summary import summary_of_output
 from robus.sweep import COLUMNS
@@ -65,8 +66,6 @@ def row_text(engine: Engine, item: str) -> str:
     """The row of an item, as a line of CSV."""
     number, kind, source = item.split(" ", 2)
     found = engine.call(["run"], text_of(kind, source))
-    if found.status < 0:
-        raise NoScenario("%s was killed by signal %d" % (engine, -found.status))
     summary = summary_of_output(found.status, found.output)
     line = io.StringIO()
     csv.writer(line, lineterminator="\n").writerow(
@@ -87,7 +86,7 @@ def main(words: List[str]) -> int:
             return 1
         try:
             row = row_text(engine, item)
-        except (NoScenario, OSError) as fault:
+        except (NoScenario, OSError, RobusError) as fault:
             print("campaign: no row %s: %s" % (item.split(" ")[0], fault), file=sys.stderr)
             row, status = "\n", 1
         os.write(sys.stdout.fileno(), row.encode())

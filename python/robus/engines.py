@@ -1,6 +1,7 @@
-"""What runs the words of the programs: a library, the programs themselves, or the second model.
+"""What runs the words of the programs: a library, the programs as they were proved or as unproved
+builds, or the second model.
 
-All three take words and input as bytes and give a status and output as bytes, and the rest of the
+All of them take words and input as bytes and give a status and output as bytes, and the rest of the
 package asks no more of them. Without a choice the first that is there is taken, in the order of
 ENGINES. A choice is an argument `engine`, or the variable ROBUS_ENGINE of the environment: a name,
 or the path of a library (`..so`) or of a program `robus`."""
@@ -13,12 +14,17 @@ import os
 import shutil
 import subprocess
 import sys
+import threading
+from contextlib import suppress
 from dataclasses import dataclass
 from functools import lru_cache
 from pathlib import Path
-from typing import Callable, Optional, Sequence, Union
+from typing import IO, Callable, List, Optional, Sequence, Union
 
-from robus.errors import NoEngine
+from robus import quick as quick_builds
+from robus.answers import fault_in
+from robus.arguments import shown
+from robus.errors import BadArgument, Failed, NoEngine
 
 PACKAGE = Path(__file__).resolve().parent
 # The top of the repository, where the package lies in one; and the prefix, where it is installed
@@ -26,6 +32,8 @@ TOP = PACKAGE.parents[1]
 PREFIX = PACKAGE.parents[3] if PACKAGE.parent.name == "dist-packages" else None
 FIRST_LENGTH = 1 << 20
 TOO_SMALL = 9
+# What takes the output of a program, a piece at a time
+Sink = Callable[[bytes], object]
 
 
 @dataclass(frozen=True)
@@ -47,9 +55,26 @@ class Engine:
         """Whether this engine can run these words of the program."""
         raise NotImplementedError
 
-    def call(self, words: Sequence[str], data: bytes = b"", program: str = "robus") -> Answer:
-        """Runs the words on the input; the same bytes give the same answer."""
+    def raw(self, words: Sequence[str], data: bytes = b"", program: str = "robus") -> Answer:
+        """The status of the words on the input, and what was written, whatever these are."""
         raise NotImplementedError
+
+    def call(self, words: Sequence[str], data: bytes = b"", program: str = "robus") -> Answer:
+        """Runs the words on the input; the same bytes give the same answer. Failed is raised if
+        what comes back is no answer of the program, as a report without its last line."""
+        found = self.raw(words, data, program)
+        why = fault_in(words, program, found.status, found.output)
+        if why:
+            raise Failed(tuple(words), found.status, "%s (%s)" % (why, self))
+        return found
+
+    def stream(self, words: Sequence[str], data: Optional[bytes], sink: Sink,
+               program: str = "robus") -> int:
+        """Runs the words and hands what is written to the sink, as it comes where the engine can;
+        the status. Without `data` the input is standard input."""
+        found = self.raw(words, sys.stdin.buffer.read() if data is None else data, program)
+        sink(found.output)
+        return found.status
 
     def __str__(self) -> str:
         return "%s %s" % (self.name, self.path)
@@ -83,8 +108,8 @@ class Library(Engine):
         """Whether the library has the call of this program."""
         return function_of(self.path, program) is not None
 
-    def call(self, words: Sequence[str], data: bytes = b"", program: str = "robus") -> Answer:
-        """Where the buffer is too small, the answer says how many bytes are wanted."""
+    def raw(self, words: Sequence[str], data: bytes = b"", program: str = "robus") -> Answer:
+        """If the buffer is too small, the answer says how many bytes are wanted."""
         call, length = function_of(self.path, program), FIRST_LENGTH
         text = "\0".join(words).encode()
         while True:
@@ -93,6 +118,12 @@ class Library(Engine):
             if found.status != TOO_SMALL:
                 return Answer(found.status, ctypes.string_at(buffer, found.length))
             length = found.length
+
+
+def feed(pipe: IO[bytes], data: bytes) -> None:
+    """Writes the input of a program, which need not read all of it."""
+    with suppress(BrokenPipeError), pipe:
+        pipe.write(data)
 
 
 @dataclass(frozen=True)
@@ -112,11 +143,72 @@ class Program(Engine):
         """Whether the program is there; robus itself is taken to be."""
         return program == "robus" or self.path_of(program) is not None
 
-    def call(self, words: Sequence[str], data: bytes = b"", program: str = "robus") -> Answer:
-        """Runs the program; where a signal killed it the status is less than 0."""
-        path = self.path if program == "robus" else str(self.path_of(program))
-        done = subprocess.run([path, *words], input=data, stdout=subprocess.PIPE, check=False)
-        return Answer(done.returncode, done.stdout)
+    def command(self, words: Sequence[str], program: str) -> List[str]:
+        """The command line of these words."""
+        return [self.path if program == "robus" else str(self.path_of(program)), *words]
+
+    def raw(self, words: Sequence[str], data: bytes = b"", program: str = "robus") -> Answer:
+        """Runs the program; the status is below 0 if a signal killed it."""
+        written: List[bytes] = []
+        status = self.stream(words, data, written.append, program)
+        return Answer(status, b"".join(written))
+
+    def stream(self, words: Sequence[str], data: Optional[bytes], sink: Sink,
+               program: str = "robus") -> int:
+        """Runs the program, and hands what it writes to the sink piece by piece."""
+        try:
+            child = subprocess.Popen(self.command(words, program), stdout=subprocess.PIPE,
+                                     stdin=None if data is None else subprocess.PIPE)
+        except (OSError, ValueError) as fault:
+            why = getattr(fault, "strerror", None) or fault
+            raise NoEngine("%s cannot be run: %s" % (self.path, why)) from None
+        if data is not None:
+            threading.Thread(target=feed, args=(child.stdin, data), daemon=True).start()
+        try:
+            for piece in iter(lambda: child.stdout.read1(1 << 16), b""):
+                sink(piece)
+        except BaseException:
+            child.terminate()
+            raise
+        finally:
+            child.stdout.close()
+            child.wait()
+        return child.returncode
+
+
+@dataclass(frozen=True)
+class Quick(Program):
+    """The programs built without any proof, as tools/quick keeps them; `path` is that of robus."""
+
+    name = "quick"
+
+    def path_of(self, program: str) -> Optional[Path]:
+        """The program of the same sources, if it is kept."""
+        found = quick_builds.beside(Path(self.path), program)
+        return found if found.exists() else None
+
+    def __str__(self) -> str:
+        return "an unproved build in %s" % Path(self.path).parent
+
+
+@dataclass(frozen=True)
+class Tried(Engine):
+    """The programs run by `rt try`, which builds them anew for each call, without any proof, and
+    sets limits to a run: 60 seconds, and 1 MiB of output. It is used if no build can be kept."""
+
+    path: str = "rt"
+    name = "try"
+
+    def has(self, words: Sequence[str], program: str = "robus") -> bool:
+        """Any words of any program."""
+        return True
+
+    def raw(self, words: Sequence[str], data: bytes = b"", program: str = "robus") -> Answer:
+        """Builds the program and runs it once."""
+        return Answer(*quick_builds.run_once(program, list(words), data))
+
+    def __str__(self) -> str:
+        return "rt try, as an unproved build that is not kept"
 
 
 @dataclass(frozen=True)
@@ -124,14 +216,14 @@ class Model(Engine):
     """tools/model, a second model of the bus in Python. Nothing is proved of it, and it has no
     letters, spell, group, listen, bridges and pictures. It wants Python 3.11."""
 
-    path: str = str(PACKAGE / "second_model.py")
+    path: str = str(PACKAGE / "second_model")
     name = "model"
 
     def has(self, words: Sequence[str], program: str = "robus") -> bool:
         """Whether these words are among those of the second model, which are words of robus."""
         return program == "robus" and not LACKING & set(words[:1])
 
-    def call(self, words: Sequence[str], data: bytes = b"", program: str = "robus") -> Answer:
+    def raw(self, words: Sequence[str], data: bytes = b"", program: str = "robus") -> Answer:
         """Runs the words in this process."""
         from robus.model import model
 
@@ -142,7 +234,7 @@ class Model(Engine):
 
 
 LACKING = {"letters", "spell", "group", "listen"}
-Which = Union[None, str, Engine]
+Which = Union[None, str, os.PathLike, Engine]
 
 
 def installed(place: str) -> Optional[str]:
@@ -170,28 +262,49 @@ def library() -> Optional[Library]:
 
 @lru_cache(maxsize=None)
 def program() -> Optional[Program]:
-    """The program of the repository where it is up to date, of the prefix, or in PATH."""
+    """The program of the repository if it is up to date, of the prefix, or in PATH."""
     built = TOP / "crates/robus/out/robus"
     path = str(built) if is_current(built) else installed("bin/robus") or shutil.which("robus")
     return Program(path) if path else None
 
 
+def quick() -> Optional[Quick]:
+    """The unproved build of the repository's sources, if one is kept."""
+    path = quick_builds.kept("robus")
+    return Quick(str(path)) if path and path.exists() else None
+
+
 @lru_cache(maxsize=None)
 def model() -> Optional[Model]:
-    """The second model, where this Python can read it."""
+    """The second model, if this Python can read it."""
     return Model() if sys.version_info >= (3, 11) else None
 
 
-ENGINES = {"library": library, "program": program, "model": model}
+ENGINES = {"library": library, "program": program, "quick": quick, "model": model}
+
+
+def at_path(choice: str) -> Engine:
+    """The library or the program at a path; NoEngine if there is none."""
+    path = os.path.abspath(choice)
+    if not os.path.isfile(path):
+        raise NoEngine("%s is no engine (%s) and no file" % (choice, ", ".join(ENGINES)))
+    if not path.endswith(".so"):
+        if not os.access(path, os.X_OK):
+            raise NoEngine("%s is no program: it may not be executed" % choice)
+        return Program(path)
+    try:
+        has_call = function_of(path, "robus") is not None
+    except OSError as fault:
+        raise NoEngine("%s is no library: %s" % (choice, fault)) from None
+    if not has_call:
+        raise NoEngine("%s has no robus_call" % choice)
+    return Library(path)
 
 
 def named(choice: str) -> Engine:
-    """The engine of a name or a path; NoEngine where it is not there."""
+    """The engine of a name or a path; NoEngine if it is not there."""
     if choice not in ENGINES:
-        if not os.path.exists(choice):
-            raise NoEngine("%s is no engine (%s) and no file" % (choice, ", ".join(ENGINES)))
-        path = os.path.abspath(choice)
-        return Library(path) if path.endswith(".so") else Program(path)
+        return at_path(choice)
     found = ENGINES[choice]()
     if found is None:
         raise NoEngine("the engine %s is not there; docs/LIBRARY.md says how to have it" % choice)
@@ -200,13 +313,18 @@ def named(choice: str) -> Engine:
 
 def choose(words: Sequence[str], engine: Which = None, program: str = "robus") -> Engine:
     """The engine for these words: the one that is asked for, or the first that has them."""
-    wanted = engine or os.environ.get("ROBUS_ENGINE")
-    if wanted:
-        found = [named(wanted) if isinstance(wanted, str) else wanted]
-    else:
-        found = [it for it in (find() for find in ENGINES.values()) if it is not None]
-    for it in found:
-        if it.has(words, program):
-            return it
+    wanted = (os.environ.get("ROBUS_ENGINE") or None) if engine is None else engine
+    if wanted is not None and not isinstance(wanted, (str, os.PathLike, Engine)):
+        raise BadArgument("engine: %s is no name (%s), no path and no Engine"
+                          % (shown(wanted), ", ".join(ENGINES)))
     what = " ".join([program, *words[:1]])
+    if wanted is not None:
+        found = wanted if isinstance(wanted, Engine) else named(os.fspath(wanted))
+        if found.has(words, program):
+            return found
+        raise NoEngine("the engine that is asked for, %s, cannot do '%s'" % (found, what))
+    for find in ENGINES.values():
+        it = find()
+        if it is not None and it.has(words, program):
+            return it
     raise NoEngine("no engine that is there can do '%s': make build builds the programs" % what)

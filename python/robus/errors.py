@@ -12,12 +12,18 @@ if TYPE_CHECKING:
 
 MEANINGS = {1: "the run ended with a breach of the fault premise",
             2: "the program has no such words, or a number in them is out of its range",
-            4: "the input is longer than it may be", 5: "reading failed", 6: "writing failed",
-            7: "no memory was left", 8: "the arguments could not be had"}
+            4: "the input is longer than it may be", 5: "standard input could not be read",
+            6: "standard output could not be written", 7: "no memory was left",
+            8: "the arguments could not be read"}
 
 
 class RobusError(Exception):
-    """All that this package raises of its own."""
+    """The base of all exceptions that this package raises on its own."""
+
+
+class BadArgument(RobusError, ValueError):
+    """An argument has a value that it may not have. The message names the argument and its
+    range."""
 
 
 class NoEngine(RobusError):
@@ -25,11 +31,12 @@ class NoEngine(RobusError):
 
 
 class Failed(RobusError):
-    """A program ended with a status that gives no result; docs/robus.md has their meanings."""
+    """A program gave no result: it ended with a status that has none, or what it wrote lacks its
+    last line. docs/robus.md has the meanings of the statuses."""
 
-    def __init__(self, words: Tuple[str, ...], status: int):
+    def __init__(self, words: Tuple[str, ...], status: int, why: str = ""):
         self.words, self.status = words, status
-        meaning = MEANINGS.get(status, "docs/robus.md says nothing of it")
+        meaning = why or MEANINGS.get(status, "which docs/robus.md does not name")
         super().__init__("robus %s: status %d, %s" % (" ".join(words), status, meaning))
 
 

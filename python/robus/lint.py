@@ -1,20 +1,20 @@
 """Says where and why a scenario is refused, and what in it can have no effect."""
 from __future__ import annotations
 
-import argparse
 import json
 import re
-import sys
 from dataclasses import asdict, dataclass
 
 from robus import forms, laws, ranges, syntax
 from robus.locate import Locator, Place
 from robus.model import TooLong, model, read
 from robus.scenario import path_of
+from robus.tool import Parser, input_of
 
-HELP = """Says where and why a scenario is refused: every finding with its line, what stands there and what may stand there. It agrees with
-robus on what is refused, and names first the rule for which robus refuses it. Of an accepted scenario it says what can have no effect, for
-which it runs the scenario on tools/model. It is not proved.
+HELP = """Says where and why a scenario is refused: every finding with its line, what stands there and what
+may stand there. It agrees with robus on what is refused, and names first the rule for which robus
+refuses it. Of an accepted scenario it says what can have no effect, for which it runs the scenario
+on tools/model. It is not proved.
 
 status: 0 accepted, 2 wrong words or no such file, 3 refused, 4 longer than a scenario may be"""
 
@@ -40,9 +40,14 @@ def spelt(place: Place) -> str:
     return head + "".join("[%d]" % it if isinstance(it, int) else ".%s" % it for it in rest)
 
 
+def visible(text: str) -> str:
+    """A text with escapes for the characters that would act on a terminal."""
+    return "".join(it if it.isprintable() else ascii(it)[1:-1] for it in text)
+
+
 def short(text: str) -> str:
     """A text on one line, of at most 60 characters."""
-    text = " ".join(text.split())
+    text = visible(" ".join(text.split()))
     return text if len(text) <= 60 else text[:57] + "..."
 
 
@@ -82,7 +87,8 @@ def findings_in(data: bytes) -> list[Finding]:
     def finding(code: int, place: Place, why: str) -> Finding:
         """What is found at a place, with its line and what stands there."""
         stands = locator.texts.get(place, "")
-        return Finding(code, locator.line_of(place), spelt(place), short(stands), why, path_of(place))
+        return Finding(code, locator.line_of(place), visible(spelt(place)), short(stands), visible(why),
+                       visible(path_of(place)))
 
     wide = [finding(1, place, "integers are of 64 bits") for place, value in syntax.values_in(document)
             if not -(1 << 63) <= value < 1 << 63]
@@ -122,16 +128,12 @@ def line_for(name: str, it: Finding) -> str:
 
 def main(words: list[str]) -> int:
     """tools/lint with these words; its status."""
-    parser = argparse.ArgumentParser(prog="tools/lint", description=HELP, formatter_class=argparse.RawDescriptionHelpFormatter)
+    parser = Parser("tools/lint", HELP)
     parser.add_argument("scenario", help="a file, or - for standard input")
     parser.add_argument("--json", action="store_true", help="a line of JSON for each finding")
     asked = parser.parse_args(words)
     try:
-        data = sys.stdin.buffer.read() if asked.scenario == "-" else open(asked.scenario, "rb").read()
-        refusal, found = lint(data)
-    except OSError as fault:
-        print("tools/lint: %s: %s" % (asked.scenario, fault.strerror), file=sys.stderr)
-        return 2
+        refusal, found = lint(input_of(asked.scenario))
     except TooLong:
         print("%s: longer than %d bytes" % (asked.scenario, model.SCENARIO_LIMIT))
         return 4

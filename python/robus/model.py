@@ -1,12 +1,16 @@
-"""What the package asks of the second model of the bus, `second_model.py`, which takes nothing from the package. It wants Python 3.11."""
+"""What the package asks of the second model of the bus, `second_model`, which takes nothing from
+the package, and tools/model. It wants Python 3.11."""
 from __future__ import annotations
 
+import os
 import sys
 
+from robus.errors import BadArgument
 from robus.rows import names_in
+from robus.words import misused
 
 if sys.version_info < (3, 11):
-    raise ImportError("tools/model wants Python 3.11")
+    raise ImportError("needs Python 3.11 or newer, and this is %d.%d" % sys.version_info[:2])
 from robus import second_model as model  # noqa: E402
 
 BIU, RMU, TAIL = model.BIU, model.RMU, model.TAIL
@@ -29,3 +33,22 @@ def read(text: bytes) -> model.Scenario:
 def nodes_in(mask: int, kind: int) -> list[str]:
     """The names of the nodes of a kind whose bits a mask has."""
     return names_in(mask, "BR"[kind])
+
+
+HELP = """tools/model WORDS.. < INPUT: the second model of the bus, which is not proved. It writes what
+robus writes, with the same status, for run, check, record NODE, replay, gen SEED FRAMES and
+stress SEED FRAMES, as tools/model run < examples/one_silent_rmu.toml."""
+
+
+def main(words: list[str]) -> int:
+    """tools/model with these words; its status."""
+    if words[:1] in (["--help"], ["-h"]):
+        print(HELP)
+        return 0
+    if not words:
+        raise BadArgument("usage: tools/model run < SCENARIO (tools/model --help says more)")
+    status, text = model.answer(words, sys.stdin.buffer)
+    if status == 2:
+        raise BadArgument(misused("tools/model", words, os.path.isfile(words[-1])))
+    sys.stdout.buffer.write(text)
+    return status

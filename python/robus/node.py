@@ -4,15 +4,15 @@ and is there where librobus.so is (docs/LIBRARY.md)."""
 from __future__ import annotations
 
 import ctypes
-import re
 from dataclasses import asdict, dataclass
 from functools import lru_cache
-from typing import Optional, Tuple, Union
+from typing import Any, Dict, Optional, Tuple, Union
 
+from robus import arguments
 from robus.engines import Library, Which, choose
-from robus.errors import NoEngine, NoNode
-from robus.rows import Delivery, names_in
-from robus.scenario import Source, scenario_of
+from robus.errors import NoEngine, NoNode, Refused
+from robus.rows import Delivery, Refusal, names_in
+from robus.scenario import Scenario, Source, scenario_of
 
 NO_TICK = 1 << 31
 
@@ -98,18 +98,32 @@ def calls_of(path: str) -> Optional[ctypes.CDLL]:
     return library
 
 
+def refuse_wrong_keys(scenario: Scenario, document: Dict[str, Any]) -> None:
+    """Raises Refused, as a run does, if a key of the root or of the plan is missing, unknown or has
+    a value of another form. A node does not need `frames`."""
+    from robus import forms
+
+    for table in forms.tables_of({"frames": 1, **document}):
+        if table[1] in ("root", "plan"):
+            for rule in (forms.missing, forms.unknown, forms.of_another_form):
+                for code, _, _ in rule(*table):
+                    raise Refused(Refusal(code, forms.model.SCENARIO_RULES[code]), scenario.text,
+                                  scenario.file)
+
+
 def seat_of(source: Source, name: str) -> CSeat:
     """A node of a scenario's bus: its sizes, its plan and its version. Nothing else is read."""
     from robus.model import model
 
-    if not re.fullmatch(r"[BR](\d|1[0-5])", name, re.ASCII):
-        raise ValueError("%r names no node; one is as B0 or R1" % name)
-    document = scenario_of(source).to_dict()
+    kind, index = arguments.node("name", name)
+    scenario = scenario_of(source)
+    document = scenario.to_dict()
+    refuse_wrong_keys(scenario, document)
     plan = dict(asdict(model.Plan()), **document.get("plan", {}))
     keys = dict({"version": 1, "bus": 0, "probation": 0}, **document)
     sizes = {key: keys[key] for key in ("biu", "rmu", "slots")}
     rest = dict(plan, **{key: keys[key] for key in ("version", "bus", "probation")})
-    seat = CSeat(kind="BR".index(name[0]), index=int(name[1:]), **sizes, **rest)
+    seat = CSeat(kind="BR".index(kind), index=index, **sizes, **rest)
     for numbers, number in ((sizes, 11), (rest, 13)):
         if any(getattr(seat, key) != value for key, value in numbers.items()):
             raise NoNode(name, number)
@@ -126,8 +140,9 @@ class Node:
     Ticks are counted from 0 by the node's own clock; what time they take is the caller's. What comes
     before a tick is handed over by `arrive` before it. Ticks at which nothing happens may be left to
     `pass_`. Of the scenario only sizes, plan, version, bus and probation are read. The node stays in
-    the thread that made it. NoNode where the plan is not feasible or the bus has no such node,
-    NoEngine where librobus.so is not there."""
+    the thread that made it. Refused is raised if a key is missing, unknown or of another form,
+    NoNode if the plan is not feasible or the bus has no such node, and NoEngine if librobus.so is
+    not there."""
 
     def __init__(self, scenario: Source, name: str, *, engine: Which = None):
         self.name, self.had = name, 0
@@ -141,14 +156,15 @@ class Node:
             raise NoNode(name, number)
 
     def arrive(self, source: Union[str, int], data: bytes) -> None:
-        """Bytes come from a node of the other kind, by its name or its number: a message or any
-        others. They count as come before the next tick. A number that no node has changes nothing."""
+        """Bytes come from a node of the other kind, by its name or its number, 0 to 255: a message
+        or any others. They count as come before the next tick. A number that no node has changes
+        nothing."""
         if isinstance(source, str):
-            if source[:1] != "RB"["BR".index(self.name[0])]:
-                raise ValueError("%s has no link from %s" % (self.name, source))
-            source = int(source[1:])
-        if 0 <= source < 256:
-            self._calls.robus_node_arrive(self._handle, source, data, len(data))
+            number = arguments.node("source", source, "R" if self.name[0] == "B" else "B")[1]
+        else:
+            number = arguments.integer("source", source, 0, 255)
+        text = arguments.some_bytes("data", data)
+        self._calls.robus_node_arrive(self._handle, number, text, len(text))
 
     def wants(self) -> Union[None, str, int]:
         """What the node wants to be handed for its next tick: None, "request" for the number of data
@@ -159,8 +175,7 @@ class Node:
     def tick(self, word: int = 0) -> Act:
         """A tick, with the request or the word, 0 to 4294967295, that the node wants for it. A node
         that has had 2^31 ticks gives nothing."""
-        if not 0 <= word < 1 << 32:
-            raise ValueError("%d is no word" % word)
+        word = arguments.integer("word", word, 0, arguments.MOST_WORD)
         act = CAct()
         self._calls.robus_node_tick(self._handle, word, act)
         self.had += self.had < NO_TICK
@@ -179,8 +194,9 @@ class Node:
         return tick if tick < NO_TICK else None
 
     def pass_(self, ticks: int) -> int:
-        """Has ticks at which nothing happens, at most so many and none from `next_tick` on; gives
-        how many."""
+        """Has ticks at which nothing happens, at most so many, 0 to 2^64 - 1, and none from
+        `next_tick` on; gives how many."""
+        ticks = arguments.integer("ticks", ticks, 0, (1 << 64) - 1)
         passed = self._calls.robus_node_pass(self._handle, ticks)
         self.had += passed
         return passed

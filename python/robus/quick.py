@@ -1,23 +1,28 @@
-"""Quick builds: a program of the repository compiled without any proof, and a run of it.
+"""Quick builds: a program of the repository compiled without any proof, and kept.
 
-`rt try` compiles a crate and runs it once, which takes up to two minutes, and it keeps nothing. So the first call here has it compile the crate
-and run it on a small input, takes a copy of the compiled program while that run lasts, and keeps it under the sum of all sources and of the
-kit's name. Later calls run the copy, without any of the limits that `rt try` has. Where no copy can be had each call goes through
-`rt try`, whose limits are 60 seconds and 1 MiB of output."""
+`rt try` compiles a crate and runs it once, which takes up to two minutes, and it keeps nothing. So
+the first call here has it compile the crate and run it on a small input, copies the compiled program
+while that run lasts, and keeps the copy under the sum of all sources and of the kit's name. Later
+calls run the copy, without any of the limits of `rt try`. Builds are kept in .quick of the
+repository, or in the user's cache folder if the repository may not be written."""
 from __future__ import annotations
 
 import hashlib
 import os
-import pathlib
 import shutil
+import signal
 import subprocess
 import sys
 import tempfile
 import time
+from contextlib import suppress
+from functools import lru_cache
+from pathlib import Path
+from typing import Iterator, List, Optional, Tuple
 
-TOP = pathlib.Path(__file__).resolve().parents[2]
-KEPT = TOP / ".quick"
-NO_ANSWER = 70
+from robus.errors import BadArgument, NoEngine
+
+TOP = Path(__file__).resolve().parents[2]
 SECONDS, BYTES = 60, 1 << 20
 
 # What each program is run on when it is built: words, and input
@@ -27,20 +32,28 @@ TRIALS = {
     "robus_bridge": (["run"], b"left = 1\n"),
     "robus_picture": ([], b"end 0\n"),
 }
+NO_KIT = ("there is no command rt, which comes with the Rattle kit; "
+          "tools/model runs scenarios with python3 alone")
 
 
-def sources() -> list[pathlib.Path]:
+def is_there() -> bool:
+    """Whether programs can be built here: the sources and the kit are there."""
+    return (TOP / "crates.txt").exists() and shutil.which("rt") is not None
+
+
+def sources() -> List[Path]:
     """All files that a build reads, in order."""
     found = [TOP / "crates.txt"]
     for folder, inner, names in os.walk(TOP / "crates"):
         inner[:] = [name for name in inner if name not in ("out", "must-fail")]
-        found += [pathlib.Path(folder, name) for name in names if name.endswith((".rt", ".antt"))]
+        found += [Path(folder, name) for name in names if name.endswith((".rt", ".antt"))]
     return sorted(found)
 
 
-def sum_of_sources(kit: str) -> str:
+def sum_of_sources() -> str:
     """A sum over the kit's name and the names and bytes of all sources."""
-    total = hashlib.sha256(kit.encode())
+    kit = subprocess.run(["rt", "version"], stdout=subprocess.PIPE, stderr=subprocess.DEVNULL).stdout
+    total = hashlib.sha256(kit)
     for path in sources():
         content = path.read_bytes()
         total.update(b"%s\0%d\0" % (os.fsencode(path.relative_to(TOP)), len(content)))
@@ -48,14 +61,54 @@ def sum_of_sources(kit: str) -> str:
     return total.hexdigest()
 
 
-def fail(why: str) -> int:
-    """Prints why there is no answer, and gives the status for that, 70."""
-    print("robus: " + why, file=sys.stderr)
-    return NO_ANSWER
+@lru_cache(maxsize=None)
+def first_sum() -> str:
+    """The sum as it is when it is first asked for."""
+    return sum_of_sources()
 
 
-def catch(folder: pathlib.Path, child: subprocess.Popen[bytes]) -> pathlib.Path | None:
-    """A second name for the program that `rt try` makes below the folder, held while it runs; nothing where it makes none there."""
+def folders() -> Iterator[Path]:
+    """The folders in which builds are kept, the first that may be written before the others."""
+    yield TOP / ".quick"
+    cache = os.environ.get("XDG_CACHE_HOME") or os.path.expanduser("~/.cache")
+    yield Path(cache, "robus")
+
+
+def may_write(folder: Path) -> bool:
+    """Whether files can be made in a folder, which is made if it is not there."""
+    try:
+        folder.mkdir(parents=True, exist_ok=True)
+        with tempfile.TemporaryFile(dir=folder):
+            return True
+    except OSError:
+        return False
+
+
+def folder_for_builds() -> Path:
+    """The first folder in which a build can be kept; NoEngine if there is none."""
+    for folder in folders():
+        if may_write(folder):
+            return folder
+    raise NoEngine("a build can be kept neither in %s nor in %s: set XDG_CACHE_HOME to a folder that "
+                   "may be written" % tuple(folders()))
+
+
+def kept(name: str) -> Optional[Path]:
+    """The build of a program from the sources as they are; None if none is kept."""
+    if not is_there():
+        return None
+    found = (folder / ("%s-%s" % (name, first_sum())) for folder in folders())
+    return next((path for path in found if path.exists()), None)
+
+
+def beside(robus: Path, name: str) -> Path:
+    """Where another program of the same sources is kept."""
+    return robus.with_name(name + robus.name[len("robus"):])
+
+
+def catch(folder: Path, child: subprocess.Popen[bytes]) -> Optional[Path]:
+    """A second name for the program that `rt try` makes below the folder, held while it runs; None
+    if it makes none there."""
     held = folder / "held"
     while child.poll() is None:
         for found in folder.glob("*/*/program"):
@@ -69,95 +122,113 @@ def catch(folder: pathlib.Path, child: subprocess.Popen[bytes]) -> pathlib.Path 
     return None
 
 
-def build(name: str, kept: pathlib.Path, kit: str) -> str | None:
-    """Compiles a program and keeps it. Gives what `rt` said where it could not compile it, and nothing else."""
-    words, data = TRIALS[name]
-    before = sum_of_sources(kit)
-    with tempfile.TemporaryDirectory(prefix="robus-quick-") as room:
-        folder = pathlib.Path(room)
-        (folder / "input").write_bytes(data)
-        with open(folder / "input", "rb") as stdin, open(folder / "out", "wb") as out, open(folder / "said", "wb") as said:
-            child = subprocess.Popen(["rt", "try", "--", *words], cwd=TOP / "crates" / name, stdin=stdin, stdout=out, stderr=said,
-                                     env=dict(os.environ, TMPDIR=room))
-            held = catch(folder, child)
+def keep(program: Path, name: str, folder: Path) -> Path:
+    """Copies a program into the folder, whole or not at all. Of the repository's own folder it
+    removes the builds of other sources."""
+    path = folder / ("%s-%s" % (name, first_sum()))
+    for old in folder.glob(name + "-*") if folder.parent == TOP else ():
+        if not old.name.startswith(path.name):
+            old.unlink(missing_ok=True)
+    new = path.with_name("%s.%d" % (path.name, os.getpid()))
+    shutil.copy(program, new)
+    os.replace(new, path)
+    return path
+
+
+def stop(child: subprocess.Popen[bytes]) -> None:
+    """Interrupts `rt` and all that it started, and waits a little for its end: without a limit it
+    could wait for ever, as an interrupted `poll` may keep the lock of the child's status."""
+    for number in (signal.SIGINT, signal.SIGKILL):
+        with suppress(ProcessLookupError):
+            os.killpg(child.pid, number)
+        with suppress(subprocess.TimeoutExpired):
+            child.wait(5)
+            return
+
+
+def trial(name: str, words: List[str], data: bytes, room: Path, *options: str
+          ) -> Tuple[int, str, Optional[Path]]:
+    """A run of a program by `rt try`, which writes into the file `out` of the room: its status, what
+    `rt` said, and the program while it is held in the room."""
+    (room / "input").write_bytes(data)
+    with open(room / "input", "rb") as stdin, open(room / "out", "wb") as out, \
+            open(room / "said", "wb") as said:
+        child = subprocess.Popen(["rt", "try", *options, "--", *words], cwd=TOP / "crates" / name,
+                                 stdin=stdin, stdout=out, stderr=said, start_new_session=True,
+                                 env=dict(os.environ, TMPDIR=str(room)))
+        try:
+            held = catch(room, child)
             child.wait()
-        if "run=ended" not in (folder / "said").read_text(errors="replace"):
-            return (folder / "said").read_text(errors="replace")
-        if held is None or sum_of_sources(kit) != before:
-            return None
-        again = subprocess.run([str(held), *words], input=data, capture_output=True, env={})
-        if (again.returncode, again.stdout) != (child.returncode, (folder / "out").read_bytes()):
-            return None
-        KEPT.mkdir(exist_ok=True)
-        for old in KEPT.glob(name + "-*"):
-            if not old.name.startswith(kept.name):
-                old.unlink(missing_ok=True)
-        new = kept.with_name("%s.%d" % (kept.name, os.getpid()))
-        shutil.copy(held, new)
-        os.replace(new, kept)
-    return None
+        except BaseException:
+            stop(child)
+            raise
+    return child.returncode, (room / "said").read_text(errors="replace"), held
 
 
-def run_once(name: str, words: list[str]) -> int:
-    """A run by `rt try`: standard input is saved first, and all that the program wrote is written, or nothing."""
-    with tempfile.TemporaryDirectory(prefix="robus-quick-") as room:
-        folder = pathlib.Path(room)
-        with open(folder / "input", "wb") as file:
-            shutil.copyfileobj(sys.stdin.buffer, file)
-        begin = time.monotonic()
-        with open(folder / "input", "rb") as stdin, open(folder / "out", "wb") as out, open(folder / "said", "wb") as said:
-            done = subprocess.run(["rt", "try", "--seconds", str(SECONDS), "--", *words], cwd=TOP / "crates" / name, stdin=stdin,
-                                  stdout=out, stderr=said)
-        said_text = (folder / "said").read_text(errors="replace")
-        if "run=ended" in said_text:
-            sys.stdout.buffer.write((folder / "out").read_bytes())
-            sys.stdout.buffer.flush()
-            return done.returncode
-        limit = "%s, which is the limit of a quick build; the program of 'make build' has none"
-        if "%d bytes" % BYTES in said_text:
-            return fail(limit % "this run writes more than %d bytes" % BYTES)
-        if time.monotonic() - begin >= SECONDS:
-            return fail(limit % "this run takes more than %d seconds" % SECONDS)
-        sys.stderr.write(said_text)
-        return fail("the quick build of %s did not run" % name)
-
-
-def program_of(name: str) -> pathlib.Path | int | None:
-    """The kept program, built where there is none; nothing where none can be kept, and a status where it can't be built."""
-    if shutil.which("rt") is None:
-        return fail("there is no command rt, which comes with the Rattle kit; tools/model runs scenarios with python3 alone")
-    kit = subprocess.run(["rt", "version"], capture_output=True, text=True).stdout
-    kept = KEPT / ("%s-%s" % (name, sum_of_sources(kit)))
-    if not kept.exists():
-        print("building it takes up to two minutes; it is kept for the next time", file=sys.stderr)
-        said = build(name, kept, kit)
-        if said is not None:
+def build(name: str, folder: Path) -> Optional[Path]:
+    """Compiles a program and keeps it in the folder; None if `rt try` shows no program that does
+    what its own run did. NoEngine if it cannot be compiled."""
+    words, data = TRIALS[name]
+    before = first_sum()
+    with tempfile.TemporaryDirectory(prefix="robus-quick-") as place:
+        room = Path(place)
+        status, said, held = trial(name, words, data, room)
+        if "run=ended" not in said:
             sys.stderr.write(said)
-            return fail("the quick build of %s failed" % name)
-    return kept if kept.exists() else None
+            raise NoEngine("the quick build of %s failed" % name)
+        if held is None or sum_of_sources() != before:
+            return None
+        again = subprocess.run([str(held), *words], input=data, stdout=subprocess.PIPE, env={})
+        if (again.returncode, again.stdout) != (status, (room / "out").read_bytes()):
+            return None
+        return keep(held, name, folder)
 
 
-def main(words: list[str]) -> int:
-    """quick PROGRAM WORDS..: runs PROGRAM (robus, robus_bridge or robus_picture) with these words as a quick build, which proves nothing.
-quick --keep PROGRAM: builds PROGRAM where it is not kept, and prints its path, or nothing where it cannot be kept.
-quick --once PROGRAM WORDS..: runs PROGRAM by `rt try`.
+def program_of(name: str) -> Optional[Path]:
+    """The kept build of a program, which is built if there is none; None if none can be kept."""
+    if not is_there():
+        raise NoEngine(NO_KIT)
+    found = kept(name)
+    if found is None:
+        folder = folder_for_builds()
+        print("building %s takes up to two minutes; it is kept in %s" % (name, folder), file=sys.stderr)
+        found = build(name, folder)
+    return found
 
-It ends with the program's status, and with 70 where the build or the run gives no answer."""
+
+def run_once(name: str, words: List[str], data: bytes) -> Tuple[int, bytes]:
+    """A run by `rt try`: its status, and all that the program wrote."""
+    with tempfile.TemporaryDirectory(prefix="robus-quick-") as place:
+        begin = time.monotonic()
+        status, said, _ = trial(name, words, data, Path(place), "--seconds", str(SECONDS))
+        if "run=ended" in said:
+            return status, Path(place, "out").read_bytes()
+    limit = "%s, which is the limit of a quick build; the program of 'make build' has none"
+    if "%d bytes" % BYTES in said:
+        raise NoEngine(limit % ("this run writes more than %d bytes" % BYTES))
+    if time.monotonic() - begin >= SECONDS:
+        raise NoEngine(limit % ("this run takes more than %d seconds" % SECONDS))
+    sys.stderr.write(said)
+    raise NoEngine("the quick build of %s did not run" % name)
+
+
+HELP = """tools/quick PROGRAM WORDS..: runs PROGRAM (robus, robus_bridge or robus_picture) with these words
+as an unproved build. tools/quick --keep PROGRAM: builds PROGRAM if it is not kept, and prints its
+path. It ends with the program's status, and with 70 if the build or the run gives no answer.
+"""
+
+
+def main(words: List[str]) -> int:
+    """tools/quick with these words; its status."""
+    from robus import runner
+
     if words[:1] in (["--help"], ["-h"]):
-        print("tools/%s\n\n%s" % (main.__doc__, __doc__))
+        print(HELP + "\n" + __doc__)
         return 0
-    how, words = (words[0], words[1:]) if words[:1] in (["--keep"], ["--once"]) else ("", words)
-    if not words or words[0] not in TRIALS:
-        print("usage: tools/quick PROGRAM WORDS.., where PROGRAM is %s" % ", ".join(TRIALS), file=sys.stderr)
-        return 2
-    program = None if how == "--once" else program_of(words[0])
-    if isinstance(program, int):
-        return program
-    if how == "--keep":
-        print(program or "")
+    keeps, words = words[:1] == ["--keep"], words[words[:1] == ["--keep"]:]
+    if not words or words[0] not in TRIALS or keeps and len(words) > 1:
+        raise BadArgument("PROGRAM is to be one of %s; --help says more" % ", ".join(TRIALS))
+    if keeps:
+        print(program_of(words[0]) or "")
         return 0
-    if program is None:
-        return run_once(words[0], words[1:])
-    sys.stdout.flush()
-    os.execv(program, [str(program), *words[1:]])
-    return NO_ANSWER
+    return runner.run(runner.call_of("tools/quick", words[0], words[1:]), "quick")

@@ -9,8 +9,9 @@ from functools import cached_property
 from pathlib import Path
 from typing import Any, ClassVar, Dict, List, Optional, Tuple, Union
 
+from robus import arguments
 from robus.engines import Engine, choose
-from robus.errors import Failed, NoEngine
+from robus.errors import BadArgument, NoEngine
 from robus.rows import (KIND_OF, LINES, Breach, Conviction, Crossing, Delivery, Epoch, GroupValue,
                         Inequality, Letter, Port, Row, columns, dict_of, rows_of, write_csv)
 from robus.summary import Summary, convicted_in, spread_of, summary_of
@@ -60,17 +61,22 @@ class Result:
 
     def to_csv(self, path: Union[str, os.PathLike], kind: Optional[str] = None) -> None:
         """Writes the rows of one kind as CSV, as tools/table does; without a kind the main one."""
-        with open(path, "w", encoding="ascii", newline="") as file:
-            write_csv(kind or self.main_kind, self.rows, file)
+        kind = self.kind_in(kind)
+        with open(arguments.path("path", path), "w", encoding="ascii", newline="") as file:
+            write_csv(kind, self.rows, file)
 
     def to_pandas(self, kind: Optional[str] = None) -> Any:
-        """The rows of one kind as a pandas.DataFrame; ImportError where pandas is not there."""
+        """The rows of one kind as a pandas.DataFrame; ImportError if pandas is not there."""
+        kind = self.kind_in(kind)
         import pandas
 
-        kind = kind or self.main_kind
         names = columns(kind)
         found = [[getattr(row, name) for name in names] for row in self.by_kind[kind]]
         return pandas.DataFrame(found, columns=names)
+
+    def kind_in(self, kind: Optional[str]) -> str:
+        """A kind of rows; without one the main kind."""
+        return self.main_kind if kind is None else arguments.one_of("kind", kind, list(LINES))
 
     def ending(self) -> str:
         """How the run ended, in words."""
@@ -127,17 +133,22 @@ class Report(Result):
 
     def picture(self, first: Optional[int] = None, last: Optional[int] = None) -> str:
         """The run, or the frames from first to last of it, as an SVG that robus_picture draws.
-        NoEngine where that program is not there, Failed where the frames are none."""
-        words = [] if first is None else [str(first), str(first if last is None else last)]
+        NoEngine is raised if that program is not there."""
+        words = [] if first is None and last is None else self.frame_words(first, last)
         engine = self.engine if self.engine.has(words, "robus_picture") else None
         engine = engine or choose(words, program="robus_picture")
-        found = engine.call(words, self.output, "robus_picture")
-        if found.status != 0:
-            raise Failed(("picture", *words), found.status)
-        return found.output.decode("utf-8")
+        return engine.call(words, self.output, "robus_picture").output.decode("utf-8")
+
+    def frame_words(self, first: Optional[int], last: Optional[int]) -> List[str]:
+        """The words for the frames from first to last, or for first alone."""
+        if first is None:
+            raise BadArgument("first: it is missing, and last is there")
+        end = self.frames if self.breach is None else self.breach.frame
+        first = arguments.integer("first", first, 0, end)
+        return [str(first), str(first if last is None else arguments.integer("last", last, first, end))]
 
     def _repr_svg_(self) -> Optional[str]:
-        """How a notebook shows the run: as a picture, where robus_picture is there."""
+        """How a notebook shows the run: as a picture, if robus_picture is there."""
         try:
             return self.picture()
         except NoEngine:
@@ -243,4 +254,4 @@ class Log:
 
     def write(self, path: Union[str, os.PathLike]) -> None:
         """Writes the log into a file."""
-        Path(path).write_bytes(self.data)
+        Path(arguments.path("path", path)).write_bytes(self.data)

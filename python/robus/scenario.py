@@ -11,32 +11,39 @@ from dataclasses import dataclass, field
 from pathlib import Path
 from typing import Any, Dict, List, Mapping, Optional, Tuple, Union
 
-from robus import toml
-from robus.errors import Refused
+from robus import arguments, toml
+from robus.arguments import shown
+from robus.errors import BadArgument, Refused
 from robus.rows import Refusal
 
-PART = re.compile(r"\.?([A-Za-z0-9_-]+)|\[(\d+)\]")
+PART = re.compile(r"\.?([A-Za-z0-9_-]+)|\[(\d+|\*)\]")
+EACH = -1  # in a path all entries of an array, which is `[*]`
+MOST_PARTS = 80  # of a path, as of a key in TOML
 Key = Union[str, int]
 
 
 def parts_of(path: str) -> List[Key]:
     """The keys and numbers of a path: `fault[0].slot` is fault, 0, slot."""
+    if not isinstance(path, str):
+        raise BadArgument("path: %s is no text; one is as fault[0].slot" % shown(path))
     parts: List[Key] = []
     at = 0
     while at < len(path):
         found = PART.match(path, at)
         if not found or (at == 0) == path.startswith((".", "["), at):
-            raise ValueError("%r is no path; one is as fault[0].slot or plan.h" % path)
-        parts.append(found[1] if found[1] is not None else int(found[2]))
+            raise BadArgument("path: %r is none; one is as fault[0].slot or plan.h" % path)
+        parts.append(found[1] or (EACH if found[2] == "*" else int(found[2])))
         at = found.end()
-    if not parts:
-        raise ValueError("a path has a key at least, as biu or fault[0].slot")
+    if not 1 <= len(parts) <= MOST_PARTS:
+        raise BadArgument("path: it has %d parts, and may have 1 to %d, as biu or fault[0].slot"
+                          % (len(parts), MOST_PARTS))
     return parts
 
 
 def path_of(parts: Tuple[Key, ...]) -> str:
     """The path that these keys and numbers are."""
-    text = "".join("[%d]" % it if isinstance(it, int) else ".%s" % it for it in parts)
+    text = "".join(".%s" % it if isinstance(it, str) else "[*]" if it == EACH else "[%d]" % it
+                   for it in parts)
     return text[1:] if text.startswith(".") else text
 
 
@@ -52,22 +59,42 @@ def plain(value: Any) -> Any:
     return operator.index(value) if hasattr(value, "__index__") else value
 
 
-def put(document: Any, parts: List[Key], value: Any) -> None:
-    """Puts a value in a document. What is missing on the way is added; so is the entry behind the
-    last one of an array."""
-    for part, then in zip(parts, parts[1:] + [None]):
-        is_array = isinstance(part, int)
-        if not isinstance(document, list if is_array else dict):
-            raise ValueError("%r is no place in this scenario" % path_of(tuple(parts)))
-        if is_array and part > len(document):
-            raise IndexError("%s: there are %d entries" % (path_of(tuple(parts)), len(document)))
-        if is_array and part == len(document):
-            document.append(None)
-        if then is None:
-            document[part] = value
-        elif is_array and document[part] is None or not is_array and part not in document:
-            document[part] = [] if isinstance(then, int) else {}
-        document = document[part]
+def put(document: Any, parts: List[Key], value: Any, at: int = 0) -> None:
+    """Puts a value in a document, at the parts from `at` on. What is missing on the way is added,
+    and so is the entry behind the last one of an array."""
+    part, is_last, here = parts[at], at + 1 == len(parts), path_of(tuple(parts[:at + 1]))
+    is_array = isinstance(part, int)
+    if not isinstance(document, list if is_array else dict):
+        raise BadArgument("path: %r is no place in this scenario" % here)
+    if part == EACH:
+        for number in range(len(document)):
+            put(document, parts[:at] + [number] + parts[at + 1:], value, at)
+        return
+    if is_array and part > len(document):
+        raise NoEntry("path: %s: there are %d entries" % (here, len(document)))
+    if is_array and part == len(document):
+        document.append(None)
+    if is_last:
+        document[part] = value
+        return
+    if (document[part] if is_array else document.get(part)) is None:
+        document[part] = [] if isinstance(parts[at + 1], int) else {}
+    put(document[part], parts, value, at + 1)
+
+
+MISSING: Any = object()
+
+
+class NoEntry(BadArgument, IndexError):
+    """An array has no such entry, and not the one before it either."""
+
+
+def written(document: Any) -> bytes:
+    """A document as TOML; BadArgument if it has a value that TOML has not."""
+    try:
+        return toml.dumps(plain(document)).encode()
+    except (TypeError, ValueError, RecursionError) as fault:
+        raise BadArgument("value: %s" % (fault or "it is nested too deeply")) from None
 
 
 @dataclass(frozen=True, repr=False)
@@ -81,20 +108,28 @@ class Scenario:
     @classmethod
     def read(cls, path: Union[str, os.PathLike]) -> Scenario:
         """The scenario in a file."""
-        return cls(Path(path).read_bytes(), str(path))
+        name = arguments.path("path", path)
+        return cls(Path(name).read_bytes(), str(name))
 
     @classmethod
     def from_toml(cls, text: Union[str, bytes]) -> Scenario:
         """The scenario that a TOML document is."""
-        return cls(text.encode() if isinstance(text, str) else bytes(text))
+        if not isinstance(text, str):
+            return cls(arguments.some_bytes("text", text))
+        try:
+            return cls(text.encode())
+        except UnicodeEncodeError as fault:
+            raise BadArgument("text: it cannot be written as UTF-8: %s" % fault.reason) from None
 
     @classmethod
     def from_dict(cls, document: Mapping[str, Any]) -> Scenario:
         """The scenario of a dict with the document's keys, as dict(biu=4, rmu=3, ..)."""
-        return cls(toml.dumps(plain(document)).encode())
+        if not isinstance(document, Mapping):
+            raise BadArgument("document: %s is no dict" % shown(document))
+        return cls(written(document))
 
     def to_dict(self) -> Dict[str, Any]:
-        """The document, as a dict of its own; Refused with 1 NotToml where the text is none."""
+        """The document, as a dict of its own; Refused with 1 NotToml if the text is none."""
         try:
             return toml.loads(self.text)
         except (ValueError, RecursionError):
@@ -102,16 +137,21 @@ class Scenario:
 
     def to_toml(self) -> str:
         """The text, which keeps comments and layout of a file as long as nothing is changed."""
-        return self.text.decode("utf-8")
+        try:
+            return self.text.decode("utf-8")
+        except UnicodeDecodeError:
+            raise Refused(Refusal(1, "NotToml"), self.text, self.file) from None
 
     def write(self, path: Union[str, os.PathLike]) -> None:
         """Writes the text into a file."""
-        Path(path).write_bytes(self.text)
+        Path(arguments.path("path", path)).write_bytes(self.text)
 
     def get(self, path: str, default: Any = None) -> Any:
-        """The value at a path, or the default where nothing stands there."""
+        """The value at a path, or the default if nothing is there."""
         found: Any = self.to_dict()
         for part in parts_of(path):
+            if part == EACH:
+                raise BadArgument("path: %r is more than one place" % path)
             is_array = isinstance(part, int)
             if not isinstance(found, list if is_array else dict):
                 return default
@@ -120,21 +160,23 @@ class Scenario:
             found = found[part]
         return found
 
-    def with_(self, path: Union[str, Mapping[str, Any]], value: Any = None) -> Scenario:
+    def with_(self, path: Union[str, Mapping[str, Any]], value: Any = MISSING) -> Scenario:
         """The scenario with another value at a path, or with several, as {path: value}.
 
             scenario.with_("fault[0].slot", 5)
             scenario.with_({"frames": 9, "plan.h": 7, "fault": [dict(node="B1", frame=3, slot=0)]})
 
-        A key that is missing is added, and so is the entry behind the last of an array. Comments
-        are lost."""
+        A key that is missing is added, and so is the entry behind the last of an array. `[*]` is
+        each entry of an array, as in say[*].from. Comments are lost."""
+        if isinstance(path, Mapping) != (value is MISSING):
+            raise BadArgument("value: with_ takes a path and its value, or a dict of paths")
         document = self.to_dict()
         for place, it in (path.items() if isinstance(path, Mapping) else [(path, value)]):
             put(document, parts_of(place), plain(it))
         return Scenario.from_dict(document)
 
     def without(self, path: str) -> Scenario:
-        """The scenario without a key or an entry; KeyError where it is not there."""
+        """The scenario without a key or an entry; KeyError if it is not there."""
         document = self.to_dict()
         *way, last = parts_of(path)
         table: Any = document
@@ -158,10 +200,13 @@ def scenario_of(source: Source) -> Scenario:
     of the text, of a dict its own."""
     if isinstance(source, Scenario):
         return source
-    if isinstance(source, bytes) or isinstance(source, str) and "\n" in source:
+    if isinstance(source, (bytes, bytearray)) or isinstance(source, str) and "\n" in source:
         return Scenario.from_toml(source)
     if isinstance(source, Mapping):
         return Scenario.from_dict(source)
+    if not isinstance(source, (str, os.PathLike)):
+        raise BadArgument("scenario: %s is no Scenario, no path, no text of several lines and no "
+                          "dict" % shown(source))
     return Scenario.read(source)
 
 

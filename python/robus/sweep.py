@@ -1,41 +1,47 @@
 """Runs of a scenario with other values at some of its keys."""
 from __future__ import annotations
 
-import argparse
 import csv
-import itertools
+import math
 import re
 import sys
-from concurrent.futures import ThreadPoolExecutor
+from collections import deque
+from concurrent.futures import Future, ThreadPoolExecutor
 from dataclasses import dataclass, fields
-from typing import Any, Dict, Iterable, Iterator, List, Mapping, TextIO, Tuple
+from typing import Any, Collection, Deque, Dict, Iterable, Iterator, List, Mapping, TextIO
 
-from robus import toml
-from robus.engines import Which, choose
-from robus.errors import Failed, RobusError
+from robus import arguments, toml
+from robus.arguments import shown
+from robus.engines import Engine, Which, choose
+from robus.errors import BadArgument, Failed
 from robus.rows import cell
-from robus.scenario import Scenario, Source, scenario_of
+from robus.scenario import Scenario, Source, parts_of, scenario_of
 from robus.summary import Summary, summary_of_output
+from robus.tool import Parser, input_of
 
 HELP = """Runs a scenario with each choice of values at some of its keys, and writes a row of CSV
-for each: the values, how the run ended, whom good nodes convicted, the spread in reference units,
-how many deliveries there were and how many of them none. It is not proved; what runs the bus is
-told on standard error.
+for each run as it ends: the values, how the run ended, whom good nodes convicted, the spread in
+reference units, how many deliveries there were and how many of them none. It is not proved; what
+runs the bus is told on standard error.
 
     tools/sweep SCENARIO KEY=VALUES..
 
-KEY is as frames, plan.p or fault[0].slot, entries counting from 0. VALUES are a range, as 0..15,
-values with commas between them, as 1,5,9 or B0,R2, or an array of TOML, as '[[1, 2], [3, 4]]'. With
-several keys each value of one is taken with each of the others.
+KEY is as frames, plan.p or fault[0].slot, entries counting from 0, and say[*].from is that of each
+entry. Keys with commas between them are given the same value. VALUES are a range, as 0..15, values
+with commas between them, as 1,5,9 or B0,R2, or an array of TOML, as '[[1, 2], [3, 4]]'. With several
+words each value of one is taken with each of the others.
 
     tools/sweep examples/late_onset.toml 'fault[0].slot=0..13'
     tools/sweep examples/late_onset.toml 'fault[0].node=B2,R2' 'fault[0].frame=0..2' --workers 4
+    tools/sweep examples/symmetric_liar.toml 'fault[0].node,say[*].from=B0,B1,B2'
 
 status: 0 done, whatever the runs' ends, 2 wrong words or no such file, 3 the scenario is no TOML,
-or a run gave no report"""
+70 a run gave no report; the rows before it are written"""
 COLUMNS = [it.name for it in fields(Summary)]
-# The values at the changed keys, and the scenario with them
-Choice = Tuple[Dict[str, Any], Scenario]
+MOST_WORKERS, MOST_DIGITS = 1024, 18
+# The values by their keys: what is swept, and one choice of it
+Values = Mapping[str, Iterable[Any]]
+Choice = Dict[str, Any]
 
 
 @dataclass(frozen=True)
@@ -47,33 +53,86 @@ class SweepRow:
     summary: Summary
 
 
-def scenarios_of(scenario: Scenario, values: Mapping[str, Iterable[Any]]) -> Iterator[Choice]:
-    """Each choice of values, the last key changing fastest, with the scenario that it makes."""
-    for choice in itertools.product(*values.values()):
-        changes = dict(zip(values, choice))
-        yield changes, scenario.with_(changes)
+def values_of(given: Any) -> Dict[str, Collection[Any]]:
+    """The values of a sweep, as collections of which there is no empty one."""
+    if not isinstance(given, Mapping) or not given:
+        raise BadArgument("values: %s is no dict of paths and values, as {'fault[0].slot': range(16)}"
+                          % shown(given))
+    found: Dict[str, Collection[Any]] = {}
+    for key, values in given.items():
+        for path in keys_in(key):
+            parts_of(path)
+        if isinstance(values, (str, bytes, Mapping)) or not isinstance(values, Iterable):
+            raise BadArgument("%s: %s is no list and no range of values" % (key, shown(values)))
+        found[key] = values if isinstance(values, (range, list, tuple)) else list(values)
+        if not found[key]:
+            raise BadArgument("%s: %s has no value" % (key, shown(values)))
+    return found
 
 
-def sweep(scenario: Source, values: Mapping[str, Iterable[Any]], *, engine: Which = None,
-          workers: int = 1) -> List[SweepRow]:
+def keys_in(key: Any) -> List[str]:
+    """The paths that a key of a sweep names, with commas between them."""
+    if not isinstance(key, str):
+        raise BadArgument("values: %s is no path; one is as fault[0].slot" % shown(key))
+    return key.split(",")
+
+
+def choices_of(values: Mapping[str, Collection[Any]]) -> Iterator[Choice]:
+    """Each choice of values, the last key changing fastest."""
+    if not values:
+        yield {}
+        return
+    first, *rest = values
+    for value in values[first]:
+        for others in choices_of({key: values[key] for key in rest}):
+            yield {first: value, **others}
+
+
+def changed_by(scenario: Scenario, choice: Choice) -> Scenario:
+    """The scenario with a choice of values."""
+    return scenario.with_({path: value for key, value in choice.items() for path in keys_in(key)})
+
+
+def row_of(engine: Engine, scenario: Scenario, choice: Choice) -> SweepRow:
+    """The row of the scenario that a choice of values makes."""
+    found = engine.call(["run"], changed_by(scenario, choice).text)
+    if found.status not in (0, 1, 3):
+        raise Failed(("run",), found.status)
+    try:
+        return SweepRow(choice, summary_of_output(found.status, found.output))
+    except ValueError as fault:
+        raise Failed(("run",), found.status, "but it wrote no report: %s" % fault) from None
+
+
+def rows_of(scenario: Scenario, values: Mapping[str, Collection[Any]], engine: Engine,
+            workers: int) -> Iterator[SweepRow]:
+    """A row for each choice, in their order, each as soon as its run and those before it are
+    over. Runs that are under way when the caller leaves are not waited for."""
+    pool = ThreadPoolExecutor(workers)
+    waiting: Deque[Future[SweepRow]] = deque()
+    try:
+        for choice in choices_of(values):
+            waiting.append(pool.submit(row_of, engine, scenario, choice))
+            if len(waiting) >= 2 * workers:
+                yield waiting.popleft().result()
+        while waiting:
+            yield waiting.popleft().result()
+    finally:
+        for it in waiting:
+            it.cancel()
+        pool.shutdown(wait=False)
+
+
+def sweep(scenario: Source, values: Values, *, engine: Which = None, workers: int = 1
+          ) -> List[SweepRow]:
     """Runs the scenario with each choice of the values, as {"fault[0].slot": range(16)}, and gives
     a row for each, in the order of the values. With several keys each value of one is taken with
-    each of the others.
+    each of the others; "a,b" are two paths that are given the same value.
 
-    So many `workers` run at a time, which helps where a library or a program runs them. Failed is
-    raised where a run gives neither a report nor a refusal."""
-    by = choose(["run"], engine)
-
-    def row_of(made: Choice) -> SweepRow:
-        """The row of the scenario that a choice of values makes."""
-        changes, changed = made
-        found = by.call(["run"], changed.text)
-        if found.status not in (0, 1, 3):
-            raise Failed(("run",), found.status)
-        return SweepRow(changes, summary_of_output(found.status, found.output))
-
-    with ThreadPoolExecutor(workers) as pool:
-        return list(pool.map(row_of, scenarios_of(scenario_of(scenario), values)))
+    So many `workers` run at a time, which helps if a library or a program runs them. Failed is
+    raised if a run gives neither a report nor a refusal."""
+    workers = arguments.integer("workers", workers, 1, MOST_WORKERS)
+    return list(rows_of(scenario_of(scenario), values_of(values), choose(["run"], engine), workers))
 
 
 def value_cell(value: Any) -> Any:
@@ -81,50 +140,58 @@ def value_cell(value: Any) -> Any:
     return toml.value_text(value) if isinstance(value, (list, tuple, dict)) else value
 
 
-def write_csv(rows: List[SweepRow], file: TextIO) -> None:
-    """Writes the rows as CSV: the changed keys, then the columns of a summary."""
+def write_csv(keys: List[str], rows: Iterable[SweepRow], count: int, file: TextIO) -> None:
+    """Writes the rows as CSV, each as it comes: the changed keys, then the columns of a summary.
+    At a terminal standard error is told how many of them there are."""
     out = csv.writer(file, lineterminator="\n")
-    keys = list(rows[0].changes) if rows else []
     out.writerow(keys + COLUMNS)
-    for row in rows:
+    for number, row in enumerate(rows, 1):
         summary = [cell(getattr(row.summary, name)) for name in COLUMNS]
         out.writerow([value_cell(row.changes[key]) for key in keys] + summary)
+        file.flush()
+        if sys.stderr.isatty():
+            print("\r%d of %d " % (number, count), end="", file=sys.stderr)
+    if sys.stderr.isatty():
+        print(file=sys.stderr)
 
 
-def values_in(text: str) -> List[Any]:
+def values_in(key: str, text: str) -> Collection[Any]:
     """The values that a word names: a range, an array of TOML, or values between commas."""
     found = re.fullmatch(r"(\d+)\.\.(\d+)", text, re.ASCII)
     if found:
-        return list(range(int(found[1]), int(found[2]) + 1))
+        if max(map(len, found.groups())) > MOST_DIGITS:
+            raise BadArgument("%s: the numbers of a range have at most %d digits" % (key, MOST_DIGITS))
+        low, high = int(found[1]), int(found[2])
+        if low > high:
+            raise BadArgument("%s: %s is empty; a range has its lower end first" % (key, text))
+        return range(low, high + 1)
     if text.startswith("["):
-        return toml.loads(("values = %s\n" % text).encode())["values"]
-    return [int(it) if re.fullmatch(r"-?\d+", it, re.ASCII) else it for it in text.split(",")]
+        try:
+            return toml.loads(("values = %s\n" % text).encode())["values"]
+        except (ValueError, RecursionError) as fault:
+            raise BadArgument("%s: %s is no array of TOML: %s" % (key, shown(text), fault)) from None
+    return [int(it) if re.fullmatch(r"-?\d{1,19}", it, re.ASCII) else it for it in text.split(",")]
 
 
 def main(words: List[str]) -> int:
     """tools/sweep with these words; its status."""
-    parser = argparse.ArgumentParser(prog="tools/sweep", description=HELP, usage=argparse.SUPPRESS,
-                                     formatter_class=argparse.RawDescriptionHelpFormatter)
+    parser = Parser("tools/sweep", HELP)
     parser.add_argument("scenario", help="a file, or - for standard input")
     parser.add_argument("values", nargs="+", metavar="KEY=VALUES")
-    parser.add_argument("--engine", help="library, program, model, or a path (docs/LIBRARY.md)")
+    parser.add_argument("--engine", help="library, program, quick, model, or a path (docs/LIBRARY.md)")
     parser.add_argument("--workers", type=int, default=1, help="how many runs at a time")
     asked = parser.parse_args(words)
-    try:
-        scenario = scenario_of(sys.stdin.buffer.read() if asked.scenario == "-" else asked.scenario)
-        values = {}
-        for word in asked.values:
-            key, is_there, text = word.partition("=")
-            if not is_there:
-                raise ValueError("%s is not as KEY=VALUES" % word)
-            values[key] = values_in(text)
-        engine = choose(["run"], asked.engine)
-        print("tools/sweep: run by %s" % engine, file=sys.stderr)
-        write_csv(sweep(scenario, values, engine=engine, workers=asked.workers), sys.stdout)
-    except (OSError, ValueError, IndexError) as fault:
-        print("tools/sweep: %s" % fault, file=sys.stderr)
-        return 2
-    except RobusError as fault:
-        print("tools/sweep: %s" % fault, file=sys.stderr)
-        return 3
+    scenario = Scenario(input_of(asked.scenario), asked.scenario)
+    given: Dict[str, Collection[Any]] = {}
+    for word in asked.values:
+        key, is_there, text = word.partition("=")
+        if not is_there:
+            raise BadArgument("%s is not as KEY=VALUES" % word)
+        given[key] = values_in(key, text)
+    workers = arguments.integer("--workers", asked.workers, 1, MOST_WORKERS)
+    values, engine = values_of(given), choose(["run"], asked.engine)
+    changed_by(scenario, next(choices_of(values)))
+    print("tools/sweep: run by %s" % engine, file=sys.stderr)
+    count = math.prod(map(len, values.values()))
+    write_csv(list(values), rows_of(scenario, values, engine, workers), count, sys.stdout)
     return 0

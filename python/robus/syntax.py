@@ -30,13 +30,16 @@ def line_and_column(text: str, at: int) -> tuple[int, int]:
     return before.count("\n") + 1, at - (before.rfind("\n") + 1) + 1
 
 
-def values_in(value: Any, place: Place = ()) -> Iterator[tuple[Place, int]]:
+def values_in(document: Any) -> Iterator[tuple[Place, int]]:
     """Each integer of a document with its place."""
-    if type(value) is int:
-        yield place, value
-    elif isinstance(value, (list, dict)):
-        for key, item in value.items() if isinstance(value, dict) else enumerate(value):
-            yield from values_in(item, place + (key,))
+    left: list[tuple[Place, Any]] = [((), document)]
+    while left:
+        place, value = left.pop()
+        if type(value) is int:
+            yield place, value
+        elif isinstance(value, (list, dict)):
+            items = value.items() if isinstance(value, dict) else enumerate(value)
+            left += [(place + (key,), item) for key, item in reversed(list(items))]
 
 
 def fault_of(data: bytes) -> tuple[int, int, str] | None:
@@ -45,6 +48,10 @@ def fault_of(data: bytes) -> tuple[int, int, str] | None:
         text = data.decode("utf-8")
     except UnicodeDecodeError as fault:
         return data[: fault.start].count(b"\n") + 1, 1, "the text is to be UTF-8: %s" % fault.reason
+    deep = model.too_deep_at(text)
+    if deep is not None:
+        return *line_and_column(text, deep), "a value or a key is nested more than %d levels deep" % (
+            model.MOST_LEVELS)
     parts = older(text)
     try:
         tomllib.loads("".join(part for _, part in parts))

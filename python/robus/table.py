@@ -6,7 +6,9 @@ import json
 import sys
 from typing import Iterable, Optional
 
+from robus.errors import BadArgument
 from robus.rows import LINES, NoRow, columns, dict_of, rows_of, write_csv
+from robus.tool import Parser, lines_of
 
 HELP = """Makes rows of what robus run, letters, group, check, stress, spell, replay or listen
 wrote, or robus_bridge run: CSV of one kind of line with its columns named, or with --json a line of
@@ -36,27 +38,18 @@ def write(kind: Optional[str], source: Iterable[str]) -> None:
 def main(words: list[str]) -> int:
     """tools/table with these words; its status."""
     listed = "\n".join("    %-13s %s" % (kind, ", ".join(columns(kind))) for kind in LINES)
-    parser = argparse.ArgumentParser(prog="tools/table", description=HELP % listed,
-                                     formatter_class=argparse.RawDescriptionHelpFormatter,
-                                     usage="tools/table KIND [FILE], tools/table --json [FILE]")
+    parser = Parser("tools/table", HELP % listed, "tools/table KIND [FILE], tools/table --json [FILE]")
     parser.add_argument("words", nargs="*", help=argparse.SUPPRESS)
     parser.add_argument("--json", action="store_true", help="JSON of all lines, a line for each")
     asked = parser.parse_args(words)
     names = asked.words[:]
     kind = None if asked.json else names.pop(0) if names else None
     if not asked.json and kind not in LINES or len(names) > 1:
-        print("tools/table: a kind is wanted (%s), or --json, and then at most one file"
-              % ", ".join(LINES), file=sys.stderr)
-        return 2
+        raise BadArgument("a kind is wanted (%s), or --json, and then at most one file"
+                          % ", ".join(LINES))
     try:
-        source = open(names[0], encoding="ascii", errors="replace") if names else sys.stdin
-        write(kind, source)
-    except OSError as fault:
-        if isinstance(fault, BrokenPipeError):
-            raise
-        print("tools/table: %s: %s" % (names[0] if names else "standard input", fault.strerror),
-              file=sys.stderr)
-        return 2
+        with lines_of(names[0] if names else "-") as source:
+            write(kind, source)
     except NoRow as fault:
         print("tools/table: %s" % fault, file=sys.stderr)
         return 3

@@ -1,7 +1,7 @@
 """TOML: documents of version 1.1 are read, and documents of any version written.
 
-The standard library reads TOML from Python 3.11 on. Below that the package `tomli` is used where it
-is there, and takes documents of version 1.0."""
+The standard library reads TOML from Python 3.11 on. Below that the package `tomli` is used if it is
+there, and takes documents of version 1.0."""
 from __future__ import annotations
 
 import datetime
@@ -11,10 +11,12 @@ from typing import Any, Dict, List
 
 
 def loads(text: bytes) -> Dict[str, Any]:
-    """The document that the bytes are; ValueError where they are none."""
+    """The document that the bytes are; ValueError if they are none."""
     if sys.version_info < (3, 11):
-        import tomli
-
+        try:
+            import tomli
+        except ImportError:
+            raise ImportError("to read TOML it needs Python 3.11 or newer, or the package tomli") from None
         return tomli.loads(text.decode("utf-8-sig"))
     import tomllib
 

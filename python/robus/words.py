@@ -1,64 +1,68 @@
-"""The programs' own words, run by an engine of this package."""
+"""The words of the programs: the form of each, and what its statuses mean."""
 from __future__ import annotations
 
-import argparse
-import sys
-from typing import List
+from typing import Dict, List, Optional, Tuple
 
-from robus.engines import choose
-from robus.errors import NoEngine
+# The form of each word, and whether it reads an input
+FORMS: Dict[str, Tuple[str, bool]] = {
+    "run": ("run", True), "check": ("check", True), "letters": ("letters", True),
+    "record": ("record NODE", True), "group": ("group most|mid MASK", True),
+    "replay": ("replay", True), "listen": ("listen SKIP", True), "gen": ("gen SEED FRAMES", False),
+    "stress": ("stress SEED FRAMES", False), "spell": ("spell HEX", False),
+    "bridge": ("bridge", True), "picture": ("picture [FIRST LAST]", True)}
+PROGRAMS = {"bridge": "robus_bridge", "picture": "robus_picture"}
+SCENARIO_WORDS = ("run", "check", "letters", "record", "group")
 
-HELP = """Runs the words of robus, or of robus_bridge as bridge and of robus_picture as picture, and
-writes what the program writes, with its status. FILE is what the program reads; without it, or
-for -, that is standard input. What ran it is told on standard error. docs/robus.md has the words.
-
-    run FILE, check FILE, letters FILE, record NODE FILE, group most MASK FILE, group mid MASK FILE
-    replay LOG, listen SKIP LOG, gen SEED FRAMES, stress SEED FRAMES, spell HEX
-    bridge FILE, picture REPORT, picture FIRST LAST REPORT"""
-
-# How many words stand behind the first one, and whether a file is read
-FORMS = {"run": (0, True), "check": (0, True), "letters": (0, True), "record": (1, True),
-         "group": (2, True), "replay": (0, True), "listen": (1, True), "gen": (2, False),
-         "stress": (2, False), "spell": (1, False), "bridge": (0, True), "picture": (0, True)}
+ENDED = {"run": "the run came to its end", "bridge": "both runs came to their end"}
+BREACH = {"bridge": "the bridge ended with a breach of the fault premise on one of its buses"}
+MEANINGS = {4: "the input is longer than it may be (docs/robus.md has the limits)",
+            5: "standard input could not be read", 6: "standard output could not be written",
+            7: "no memory was left", 8: "the arguments could not be read"}
 
 
-def input_of(path: str) -> bytes:
-    """The bytes of a file, or for `-` those of standard input."""
-    if path == "-":
-        return sys.stdin.buffer.read()
-    with open(path, "rb") as file:
-        return file.read()
+def reads(word: str) -> bool:
+    """Whether a word reads an input."""
+    return word in FORMS and FORMS[word][1]
 
 
-def main(words: List[str]) -> int:
-    """The status of the program that these words name; 2 where they have no form, or no file or no
-    engine is there."""
-    parser = argparse.ArgumentParser(prog="python3 -m robus", description=HELP,
-                                     usage="python3 -m robus WORD .. [FILE] [--engine ENGINE]",
-                                     formatter_class=argparse.RawDescriptionHelpFormatter)
-    parser.add_argument("words", nargs="+", help=argparse.SUPPRESS)
-    parser.add_argument("--engine", help="library, program, model, or a path (docs/LIBRARY.md)")
-    asked = parser.parse_args(words)
-    count, reads = FORMS[asked.words[0]]
-    if asked.words[0] == "picture" and len(asked.words) > 2:
-        count = 2
-    call, rest = asked.words[: 1 + count], asked.words[1 + count:]
-    if len(call) <= count or len(rest) > reads:
-        parser.error("%s has other words; --help has them" % call[0])
-    program = {"bridge": "robus_bridge", "picture": "robus_picture"}.get(call[0], "robus")
-    call = {"bridge": ["run"], "picture": call[1:]}.get(call[0], call)
-    try:
-        data = input_of(rest[0] if rest else "-") if reads else b""
-        engine = choose(call, asked.engine, program)
-    except OSError as fault:
-        print("robus: %s: %s" % (fault.filename or "standard input", fault.strerror),
-              file=sys.stderr)
-        return 2
-    except NoEngine as fault:
-        print("robus: %s" % fault, file=sys.stderr)
-        return 2
-    print("robus: run by %s" % engine, file=sys.stderr)
-    found = engine.call(call, data, program)
-    sys.stdout.buffer.write(found.output)
-    sys.stdout.flush()
-    return found.status
+def count_of(word: str, given: int) -> int:
+    """How many words stand behind the first one, and before the file, if so many are given."""
+    if word == "picture":
+        return 2 if given > 1 else 0
+    return len(FORMS[word][0].split()) - 1
+
+
+def refusal_hint(word: str, file: str) -> str:
+    """What is refused, and where more is said about it."""
+    if word in SCENARIO_WORDS:
+        return "the scenario is refused; tools/lint %s says where and why" % file
+    if word == "bridge":
+        return "the bridge is refused; docs/robus_bridge.md says what the line means"
+    return "the input is refused; docs/robus%s.md says what the line means" % (
+        "_picture" if word == "picture" else "")
+
+
+def meaning(word: str, status: int, file: Optional[str]) -> Optional[str]:
+    """What a status means, in words; None if nothing is to be said. `file` is what was read."""
+    if status == 0:
+        return ENDED.get(word)
+    if status == 1:
+        said = BREACH.get(word, "the run ended with a breach of the fault premise")
+        hint = "; tools/explain %s says who broke it" % file if word == "run" and file else ""
+        return said + hint
+    if status == 3:
+        return refusal_hint(word, file or "SCENARIO")
+    return MEANINGS.get(status)
+
+
+def misused(tool: str, words: List[str], is_file: bool) -> str:
+    """What is wrong with words that a program does not have. `is_file` says that the last of them
+    is a file."""
+    found = FORMS.get(words[0]) if words else None
+    form = ", but '%s' (docs/robus.md has the ranges)" % found[0] if found else ""
+    lists = tool if tool == "tools/model" else "tools/robus"
+    said = "there are no words '%s'%s; %s --help lists them" % (" ".join(words), form, lists)
+    if not is_file:
+        return said
+    call = " ".join([tool, *(words[:-1] or ["run"])])
+    return "%s. It reads standard input: %s < %s" % (said, call, words[-1])

@@ -1,6 +1,7 @@
 """What the tests share."""
 import contextlib
 import io
+import os
 import pathlib
 import sys
 from importlib.machinery import SourceFileLoader
@@ -20,19 +21,28 @@ class Input:
     def __init__(self, data: bytes):
         self.buffer = io.BytesIO(data)
 
+    def isatty(self) -> bool:
+        return False
 
-def output_of(tool: str, words: list[str], data: bytes = b"") -> tuple[int, str]:
-    """The status of a tool, and what it writes on standard output."""
-    out, kept = io.StringIO(), sys.stdin
+
+def ending_of(tool: str, words: list, data: bytes = b"") -> tuple[int, str, str]:
+    """The status of a tool, and what it writes on standard output and on standard error."""
+    out, said, kept = io.TextIOWrapper(io.BytesIO(), "utf-8", write_through=True), io.StringIO(), sys.stdin
     sys.stdin = Input(data)
     try:
-        with contextlib.redirect_stdout(out), contextlib.redirect_stderr(io.StringIO()):
+        with contextlib.redirect_stdout(out), contextlib.redirect_stderr(said):
             status = run(tool, [str(word) for word in words])
     except SystemExit as end:
         status = end.code if isinstance(end.code, int) else 2
+        said.write(end.code if isinstance(end.code, str) else "")
     finally:
         sys.stdin = kept
-    return status, out.getvalue()
+    return status, out.buffer.getvalue().decode(errors="replace"), said.getvalue()
+
+
+def output_of(tool: str, words: list, data: bytes = b"") -> tuple[int, str]:
+    """The status of a tool, and what it writes on standard output."""
+    return ending_of(tool, words, data)[:2]
 
 
 def script(name: str):
@@ -50,9 +60,14 @@ def run_model(*words: str, data: bytes) -> str:
 
 
 def is_fast(program: str) -> bool:
-    """Whether a library or a program runs the bus here, and not tools/model."""
+    """Whether a library or a proved program runs the bus here."""
     words = ["letters"] if program == "robus" else ["run"]
     try:
-        return engines.choose(words, program=program).name != "model"
+        return engines.choose(words, program=program).name in ("library", "program")
     except engines.NoEngine:
         return False
+
+
+if not is_fast("robus"):
+    # tools/model runs in this process, which is quicker than an unproved build
+    os.environ.setdefault("ROBUS_ENGINE", "model")

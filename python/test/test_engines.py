@@ -12,6 +12,7 @@ from unittest import mock
 import robus
 from helpers import EXAMPLES, TOP, output_of
 from robus import engines
+from robus.answers import fault_in
 
 # Stands for librobus.so: the words with `|` between them, the input, and so many bytes more as the last word says
 STUB = r"""
@@ -69,9 +70,39 @@ class Choice(unittest.TestCase):
             report = robus.run(b"breach 0 0 2 TwoSided\n", engine=str(path))
             self.assertEqual((report.status, report.text), (1, "end 1\nbreach 0 0 2 TwoSided\n"))
             self.assertEqual(str(report.engine), "program %s" % path)
-            # a picture program that is built here refuses that text
-            with self.assertRaises((robus.NoEngine, robus.Failed)):
-                report.picture()
+
+    def test_an_engine_that_is_none(self):
+        """What is no program and no library, or answers as no program of ROBUS does, has no result."""
+        with tempfile.TemporaryDirectory() as folder:
+            text = Path(folder, "text")
+            text.write_text("no program")
+            shared = Path(folder, "none.so")
+            shared.write_text("no library")
+            for engine in (folder, text, shared, "nosuch"):
+                with self.assertRaises(robus.NoEngine, msg=engine):
+                    robus.run(EXAMPLES / "two_sided.toml", engine=str(engine))
+            text.chmod(0o755)  # a text that may be executed is none either: the system refuses it
+            for engine in ("/bin/true", "/bin/cat", "/bin/false"):
+                with self.assertRaises(robus.Failed, msg=engine):
+                    robus.run(EXAMPLES / "two_sided.toml", engine=engine)
+            with self.assertRaises(ValueError):
+                robus.run(EXAMPLES / "two_sided.toml", engine=3)
+
+    def test_a_torn_answer_is_none(self):
+        """Each output has a last line of its word: docs/robus.md and docs/robus_bridge.md name them."""
+        for word, status, whole in (("run", 0, b"e 0 B0 0 0\nend 1\n"), ("run", 1, b"breach 0 0 2 TwoSided\n"), ("run", 3, b"refused 2 MissingKey\n"),
+                                    ("check", 0, b"C6 1 0\nC7 60200 60109\n"), ("record", 1, b"RBL1\x02\x04"), ("spell", 0, b"w 16777218\n"),
+                                    ("stress", 0, b"convicted 2\nspread 60200\n"), ("stress", 1, b"")):
+            self.assertIsNone(fault_in([word], "robus", status, whole), word)
+            if whole:
+                self.assertIsNotNone(fault_in([word], "robus", status, whole[:-1]), word)
+        self.assertIsNotNone(fault_in(["run"], "robus", 0, b"breach 0 0 2 TwoSided\n"))
+        self.assertIsNotNone(fault_in(["run"], "robus", 1, b"end 3\n"))
+        self.assertIn("signal 9", fault_in(["run"], "robus", -9, b"end 3\n"))
+        self.assertIsNotNone(fault_in(["run"], "robus", 70, b""))
+
+    def test_an_unproved_build_says_that_it_is_one(self):
+        self.assertIn("unproved", str(engines.Quick("/somewhere/.quick/robus-0")))
 
 
 class Words(unittest.TestCase):
@@ -85,7 +116,8 @@ class Words(unittest.TestCase):
     def test_what_ran_them_is_told(self):
         status, out, said = self.words("run", EXAMPLES / "too_few_good.toml")
         self.assertEqual((status, out.splitlines()[-1]), (1, b"breach 0 0 2 FewGoodRmu"))
-        self.assertEqual(said, "robus: run by tools/model, a second model of the bus, which is not proved\n")
+        self.assertEqual(said.splitlines()[0], "tools/run: run by tools/model, a second model of the bus, which is not proved")
+        self.assertIn("status 1: the run ended with a breach of the fault premise; tools/explain", said.splitlines()[1])
 
     def test_files_and_standard_input(self):
         path = EXAMPLES / "one_silent_rmu.toml"
@@ -96,8 +128,9 @@ class Words(unittest.TestCase):
 
     def test_words_that_make_no_sense(self):
         with mock.patch.dict(os.environ, ROBUS_ENGINE="model"):
-            for tool, *words in (["record"], ["run", "a", "b"], ["gen", "7"], ["run", "nosuch.toml"], ["letters", str(EXAMPLES / "letter.toml")]):
+            for tool, *words in (["record"], ["run", "a", "b"], ["gen", "7"], ["run", "nosuch.toml"]):
                 self.assertEqual(output_of(tool, words), (2, ""), words)
+            self.assertEqual(output_of("letters", [EXAMPLES / "letter.toml"]), (70, ""))
 
 
 @unittest.skipUnless(shutil.which("cc"), "no C compiler")
@@ -115,13 +148,13 @@ class SharedLibrary(unittest.TestCase):
         cls.folder.cleanup()
 
     def test_words_and_input_as_they_are(self):
-        found = self.engine.call(["group", "most", "7"], b"a\0\xffb")
+        found = self.engine.raw(["group", "most", "7"], b"a\0\xffb")
         self.assertEqual((found.status, found.output), (0, b"group|most|7a\0\xffb+++++++"))
-        self.assertEqual(self.engine.call(["run"]).output, b"run")
+        self.assertEqual(self.engine.raw(["run"]).output, b"run")
 
     def test_a_buffer_that_is_too_small_is_made_greater(self):
         more = 2 * engines.FIRST_LENGTH
-        found = self.engine.call(["stress", str(more)], b"")
+        found = self.engine.raw(["stress", str(more)], b"")
         self.assertEqual((found.status, len(found.output)), (0, len("stress|%d" % more) + more))
 
     def test_it_has_no_bridge(self):

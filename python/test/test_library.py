@@ -234,13 +234,11 @@ class Errors(unittest.TestCase):
 
     def test_other_statuses(self):
         with self.assertRaises(robus.Failed) as caught:
-            robus.record(SILENT, "B16")
-        self.assertEqual(caught.exception.status, 2)
-        with self.assertRaises(robus.Failed) as caught:
             robus.run(b"#" * 4_194_305)
         self.assertEqual(caught.exception.status, 4)
-        with self.assertRaises(robus.Failed):
-            robus.gen(7, 4097)
+        for call in (lambda: robus.record(SILENT, "B16"), lambda: robus.gen(7, 4097)):
+            with self.assertRaises(robus.BadArgument):
+                call()
         with self.assertRaises(OSError):
             robus.run("nosuch.toml")
         with self.assertRaises(ValueError):

@@ -1,13 +1,19 @@
-"""What tools/robus, tools/run, tools/picture and tools/bridge say where nothing is run; and how a quick build's answer is told."""
+"""What the tools in tools/ say and how they end: no failure is taken for a verdict, files are read once, and
+a closed pipe, a full disk and Ctrl-C are told as what they are."""
 import os
 import pathlib
-import stat
+import signal
 import subprocess
+import sys
 import tempfile
 import unittest
+from concurrent.futures import ThreadPoolExecutor
+from unittest import mock
 
-from helpers import EXAMPLES, TOP
+from helpers import EXAMPLES, TOP, ending_of
+from robus import quick
 
+LATE = EXAMPLES / "late_onset.toml"
 # Stands for `rt`: what it writes and its status are in files beside it
 RT = """#!/bin/sh
 here=$(dirname "$0")
@@ -18,71 +24,184 @@ cat "$here/out"
 cat "$here/said" >&2
 exit "$(cat "$here/status")"
 """
+# Tools that write to standard output, each in a way of its own, with words for which they do
+WRITERS = (("run", LATE), ("model", "gen", 7, 1), ("lint", LATE), ("plan", LATE), ("sweep", LATE, "frames=1"),
+           ("scenario", 7))
+
+
+def environment(*folders: str, **more: str) -> dict[str, str]:
+    """The environment of a tool: these folders first in PATH, and the Python of this test."""
+    path = os.pathsep.join([*folders, os.path.dirname(sys.executable), os.environ["PATH"]])
+    return dict(os.environ, PATH=path, ROBUS_ENGINE="model", **more)
+
 
 def call(*words, path: str | None = None, data: bytes = b"", **more) -> tuple[int, str, str]:
-    env = dict(os.environ, **more)
-    if path:
-        env["PATH"] = path + os.pathsep + env["PATH"]
+    """The status of a command, and what it writes on standard output and on standard error."""
+    env = environment(*([path] if path else []), **more)
     done = subprocess.run([str(word) for word in words], input=data, capture_output=True, cwd=TOP, env=env)
     return done.returncode, done.stdout.decode(), done.stderr.decode()
 
 
-class Wrappers(unittest.TestCase):
-    def test_bare_tools_print_their_usage(self):
-        for tool in ("robus", "run", "picture", "bridge", "model"):
-            status, out, said = call("tools/" + tool)
+def calls(*lines: tuple) -> list[tuple[tuple, tuple[int, str, str]]]:
+    """Several commands, some of them at a time, each with its ending."""
+    with ThreadPoolExecutor(4) as pool:
+        return list(zip(lines, pool.map(lambda words: call(*words), lines)))
+
+
+def program_in(folder: str, name: str, text: str) -> pathlib.Path:
+    """A program of this text in the folder."""
+    path = pathlib.Path(folder, name)
+    path.write_text(text)
+    path.chmod(0o755)
+    return path
+
+
+class Words(unittest.TestCase):
+    def test_bare_tools_say_in_one_line_what_they_want(self):
+        tools = ("robus", "picture", "quick", "lint")
+        for (tool,), (status, out, said) in calls(*[("tools/" + it,) for it in tools]):
             self.assertEqual((status, out, len(said.splitlines())), (2, "", 1), tool)
-            self.assertIn("usage: tools/" + tool, said)
+            self.assertTrue(said.startswith(tool + ": "), said)
 
     def test_help(self):
-        for tool in sorted(str(path.relative_to(TOP)) for path in (TOP / "tools").iterdir() if path.is_file()):
-            if tool != "tools/robus":
-                status, out, said = call(tool, "--help")
-                self.assertEqual((status, said), (0, ""), tool)
-                self.assertIn(tool, out)
+        tools = {str(path.relative_to(TOP)) for path in (TOP / "tools").iterdir() if path.is_file()} - {"tools/robus"}
+        for (tool, _), (status, out, said) in calls(*[(tool, "--help") for tool in sorted(tools)]):
+            self.assertEqual((status, said), (0, ""), tool)
+            self.assertIn(tool, out)
+        status, out, said = call("make", "-s", "help")
+        self.assertEqual((status, said), (0, ""))
+        self.assertIn("make run SCENARIO=", out)
 
     def test_no_file(self):
         bridge = EXAMPLES / "bridges/carried_words.toml"
-        for tool in ("run", "picture", "bridge"):
-            for path, words in (("nosuch.toml", "no file nosuch.toml"), ("examples", "is a folder")):
-                status, out, said = call("tools/" + tool, path)
-                self.assertEqual((status, out, len(said.splitlines())), (2, "", 1))
-                self.assertIn(words, said)
-        self.assertIn("is a bridge of two buses: make bridge", call("tools/run", bridge)[2])
-        self.assertIn("is a scenario of one bus: make run", call("tools/bridge", EXAMPLES / "two_sided.toml")[2])
+        for tool, name in (("run", "run"), ("draw", "picture"), ("bridge", "bridge")):
+            for path, why in (("nosuch.toml", "No such file or directory"), ("/", "Is a directory")):
+                self.assertEqual(ending_of(tool, [path]), (2, "", "tools/%s: %s: %s\n" % (name, path, why)))
+        self.assertIn("is a bridge of two buses: make bridge", ending_of("run", [bridge])[2])
+        self.assertIn("is a scenario of one bus: make run", ending_of("bridge", [EXAMPLES / "two_sided.toml"])[2])
+
+    def test_a_file_behind_the_words_is_to_be_standard_input(self):
+        said = call("tools/robus", "record", "B0", "README.md")[2]
+        self.assertTrue(said.endswith(" It reads standard input: tools/robus record B0 < README.md\n"), said)
 
     def test_words_of_the_package(self):
-        self.assertEqual(call("python3", "-m", "robus", PYTHONPATH=str(TOP / "python"))[0], 2)
-        self.assertEqual(call("python3", "-m", "robus", "--help", PYTHONPATH=str(TOP / "python"))[0], 0)
-        self.assertEqual(call("python3", "-m", "robus", "nix", PYTHONPATH=str(TOP / "python")),
+        env = dict(PYTHONPATH=str(TOP / "python"))
+        self.assertEqual(call("python3", "-m", "robus", **env)[0], 2)
+        self.assertEqual(call("python3", "-m", "robus", "--help", **env)[0], 0)
+        self.assertEqual(call("python3", "-m", "robus", "nix", **env),
                          (2, "", "robus: there is no word nix; python3 -m robus --help lists them\n"))
 
 
-class Quick(unittest.TestCase):
-    """A quick build that keeps nothing: each call goes through `rt try`."""
+class Verdicts(unittest.TestCase):
+    """Status 0 and 1 come of an answer of the program, and of nothing else."""
 
-    def path_of_rt(self) -> str:
-        """A PATH whose `rt` builds nothing that could be kept."""
-        folder = tempfile.TemporaryDirectory()
-        self.addCleanup(folder.cleanup)
-        rt = pathlib.Path(folder.name, "rt")
-        rt.write_text(RT)
-        rt.chmod(rt.stat().st_mode | stat.S_IXUSR)
-        pathlib.Path(folder.name, "builds").touch()
-        return folder.name + os.pathsep + os.environ["PATH"]
+    def test_what_the_program_answers(self):
+        status, out, said = call("tools/run", EXAMPLES / "too_few_good.toml")
+        self.assertEqual((status, out.splitlines()[-1]), (1, "breach 0 0 2 FewGoodRmu"))
+        self.assertIn("tools/run: status 1: the run ended with a breach", said)
+        self.assertEqual(call("make", "-s", "run", "SCENARIO=examples/too_few_good.toml")[:2], (0, out))
+        self.assertEqual(call("tools/run", "-", data=b"biu = 1\n")[:2], (3, "refused 2 MissingKey\n"))
+        self.assertEqual(call("make", "-s", "run", "SCENARIO=Makefile")[0], 2)
+
+    def test_a_python_that_is_too_old_or_does_not_run(self):
+        for text, found in (("exit 1", "missing"), ("echo 3.9", "3.9"), ("echo 3.6; exit 1", "missing")):
+            with tempfile.TemporaryDirectory() as folder:
+                program_in(folder, "python3", "#!/bin/sh\n%s\n" % text)
+                for tool in ("run", "lint"):
+                    said = "tools/%s: needs Python 3.11 or newer; python3 is %s\n" % (tool, found)
+                    self.assertEqual(call("tools/" + tool, LATE, path=folder), (70, "", said))
+                self.assertEqual(call("make", "-s", "run", "SCENARIO=%s" % LATE, path=folder)[0], 2)
+
+    def test_engines_that_give_no_report(self):
+        engines = ("/bin/true", "/bin/false", "/bin/cat", "/bin", "README.md")
+        lines = [("tools/run", LATE, "--engine", engine) for engine in engines]
+        for words, (status, _, said) in calls(*lines, ("tools/sweep", LATE, "frames=1", "--engine", "/bin/true")):
+            self.assertEqual(status, 70, (words, said))
+            self.assertTrue(said.splitlines()[-1].startswith(words[0] + ": "), said)
+            self.assertNotIn("Traceback", said)
+
+    def test_a_run_that_is_killed(self):
+        with tempfile.TemporaryDirectory() as folder:
+            engine = program_in(folder, "robus", "#!/bin/sh\necho e 0 B0 0 0\nkill -9 $$\n")
+            status, _, said = call("tools/run", LATE, "--engine", engine)
+            self.assertEqual((status, "killed by signal 9" in said), (70, True), said)
+
+
+class Input(unittest.TestCase):
+    """A file is read once, so that pipes do."""
+
+    def test_pipes(self):
+        whole = call("tools/run", LATE)[1]
+        self.assertTrue(whole.endswith("end 3\n"))
+        for words in (["run", "/dev/stdin"], ["robus", "run"]):
+            self.assertEqual(call("tools/" + words[0], *words[1:], data=LATE.read_bytes())[:2], (0, whole), words)
+        with tempfile.TemporaryDirectory() as folder:
+            pipe = pathlib.Path(folder, "pipe")
+            os.mkfifo(pipe)
+            with subprocess.Popen(["cp", str(LATE), str(pipe)]):
+                self.assertEqual(call("tools/run", pipe)[:2], (0, whole))
+
+    def test_a_folder_as_standard_input(self):
+        folder = os.open(EXAMPLES, os.O_RDONLY)
+        try:
+            done = subprocess.run([str(TOP / "tools/robus"), "run"], stdin=folder, capture_output=True, env=environment())
+        finally:
+            os.close(folder)
+        self.assertEqual((done.returncode, done.stdout), (5, b""))
+        self.assertEqual(done.stderr, b"tools/robus: standard input is a folder\n")
+
+
+class Endings(unittest.TestCase):
+    def started(self, words, **how) -> subprocess.Popen:
+        """A tool of tools/ that is under way."""
+        return subprocess.Popen([str(TOP / "tools" / words[0]), *map(str, words[1:])], stderr=subprocess.PIPE,
+                                env=environment(), text=True, **how)
+
+    def endings(self, out: int) -> list[tuple[str, int, list[str]]]:
+        """The name, the status and the lines of each tool that writes to this descriptor; what ran it is left out."""
+        found = []
+        for words, tool in [(words, self.started(words, stdout=out)) for words in WRITERS]:
+            with tool:
+                lines = [line for line in tool.stderr.read().splitlines() if ": run by " not in line]
+            found.append((words[0], tool.returncode, lines))
+        return found
+
+    def test_a_closed_pipe_is_silent(self):
+        reader, writer = os.pipe()
+        os.close(reader)
+        found = self.endings(writer)
+        os.close(writer)
+        self.assertEqual(found, [(name, 6 if name == "run" else 0, []) for name, *_ in WRITERS])
+
+    def test_a_full_disk_is_one_line(self):
+        with open("/dev/full", "w") as full:
+            found = self.endings(full.fileno())
+        line = "tools/%s: standard output could not be written: No space left on device"
+        self.assertEqual(found, [(name, 6, [line % name]) for name, *_ in WRITERS])
+
+    def test_an_interrupted_sweep_keeps_its_rows(self):
+        words = ("sweep", EXAMPLES / "late_onset.toml", "frames=3,4000")
+        with self.started(words, stdout=subprocess.PIPE) as tool:
+            rows = [tool.stdout.readline(), tool.stdout.readline()]
+            tool.send_signal(signal.SIGINT)
+            said = tool.stderr.read()
+        self.assertTrue(rows[1].startswith("3,0,"), rows)
+        self.assertEqual((tool.returncode, said.splitlines()[-1]), (130, "tools/sweep: interrupted"))
+
+
+class Quick(unittest.TestCase):
+    """An unproved build that keeps nothing: each call goes through `rt try`."""
 
     def quick(self, out: bytes, said: str, status: int, builds: bool = True, words=("tools/quick", "robus", "run")):
         with tempfile.TemporaryDirectory() as folder:
-            rt = pathlib.Path(folder, "rt")
-            rt.write_text(RT)
-            rt.chmod(rt.stat().st_mode | stat.S_IXUSR)
+            program_in(folder, "rt", RT)
             pathlib.Path(folder, "out").write_bytes(out)
             pathlib.Path(folder, "said").write_text(said)
             pathlib.Path(folder, "status").write_text(str(status))
             if builds:
                 pathlib.Path(folder, "builds").touch()
             found = call(*words, path=folder, data=b"biu = 1\n")
-            if builds and words[0] == "tools/quick":
+            if builds:
                 self.assertEqual(pathlib.Path(folder, "input").read_bytes(), b"biu = 1\n")
             return found
 
@@ -90,23 +209,6 @@ class Quick(unittest.TestCase):
         status, out, said = self.quick(b"refused 2 MissingKey\n", "checked: ended status=3\nrun=ended status=3 proved=no\n", 3)
         self.assertEqual((status, out), (3, "refused 2 MissingKey\n"))
         self.assertNotIn("run=ended", said)
-
-    def test_what_tools_robus_says_of_a_status(self):
-        said = self.quick(b"", "run=ended\n", 2, words=("tools/robus", "record", "B0", "README.md"))[2]
-        self.assertTrue(said.endswith(" It reads standard input: tools/robus record B0 < README.md\n"), said)
-        with tempfile.NamedTemporaryFile(suffix=".toml") as file:
-            said = self.quick(b"refused 2 MissingKey\n", "run=ended\n", 3, words=("tools/run", file.name))[2]
-            self.assertIn("tools/lint %s says where" % file.name, said)
-
-    def test_a_folder_as_standard_input(self):
-        folder = os.open(EXAMPLES, os.O_RDONLY)
-        try:
-            done = subprocess.run([str(TOP / "tools/quick"), "robus", "run"], stdin=folder, capture_output=True,
-                                  env=dict(os.environ, PATH=self.path_of_rt()))
-        finally:
-            os.close(folder)
-        self.assertEqual((done.returncode, done.stdout), (5, b""))
-        self.assertNotIn(b"Python", done.stderr)
 
     def test_a_build_that_fails(self):
         status, out, said = self.quick(b"half a report", "error: no such function\nrun=none\n", 1, builds=False)
@@ -118,6 +220,21 @@ class Quick(unittest.TestCase):
         self.assertEqual((status, out), (70, ""))
         self.assertIn("more than 1048576 bytes, which is the limit of a quick build; the program of 'make build' has none\n", said)
         self.assertNotIn("run=none", said)
+
+    def test_where_a_build_is_kept(self):
+        """In .quick of the repository, or in the user's cache folder where that may not be written."""
+        with tempfile.TemporaryDirectory() as folder:
+            top, cache = pathlib.Path(folder, "top"), pathlib.Path(folder, "cache")
+            top.mkdir()
+            with mock.patch.object(quick, "TOP", top), mock.patch.dict(os.environ, XDG_CACHE_HOME=str(cache)):
+                self.assertEqual(quick.folder_for_builds(), top / ".quick")
+                (top / ".quick").rmdir()
+                (top / ".quick").write_text("no folder")
+                self.assertEqual(quick.folder_for_builds(), cache / "robus")
+                (cache / "robus").rmdir()
+                (cache / "robus").write_text("no folder")
+                with self.assertRaises(quick.NoEngine):
+                    quick.folder_for_builds()
 
 
 if __name__ == "__main__":
