@@ -36,6 +36,7 @@ told_headline tells status left left' held held' told told' input text read due 
       scenario = due.scenario;
       read = read;
       accepted = due.says;
+      lawful = due.lawful;
       written = subst P (due.text_is ∙ ap (λ records. tells due.scenario records) (plain-records due.scenario told told' due.turns due.given due.all)) written;
       ends = due.ends;
       promise = kept due.scenario [] due.lawful;
@@ -48,28 +49,30 @@ telling_promised tells status left left' held held' is_plain told told' plain e 
     let P : Bool → Type 0 = λ b. IsReport tells e.input b told told' status e.text in
     told_headline tells status left left' held held' told told' e.input e.text e.read (subst P plain e.due) e.written
 
-letters_promised : (status : Status) (left left' held held' : Option (List ℕ)) (is_plain : Bool) (told told' : Option (List Turn)) → is_plain ≡ true
-    → CommandEnds (telling_command told_by_letters) status left left' held held' is_plain told told' → KeepsTheLetters status left left' held held'
-letters_promised status left left' held held' is_plain told told' plain e = record {
-  report = telling_promised told_by_letters status left left' held held' is_plain told told' plain e;
-  alike = receive-alike e.due.scenario [] e.due.lawful;
-  received = senders-received e.due.scenario [] e.due.lawful;
+letters_kept : (status : Status) (left left' held held' : Option (List ℕ)) → KeepsTheHeadline told_by_letters status left left' held held' → KeepsTheLetters status left left' held held'
+letters_kept status left left' held held' r = record {
+  report = r;
+  alike = receive-alike r.scenario [] r.lawful;
+  received = senders-received r.scenario [] r.lawful;
 }
 
-group_promised : (which : Which) (members : ℕ) (status : Status) (left left' held held' : Option (List ℕ)) (is_plain : Bool) (told told' : Option (List Turn)) → is_plain ≡ true
-    → CommandEnds (group_command which members) status left left' held held' is_plain told told' → KeepsTheGroup which members status left left' held held'
-group_promised which members status left left' held held' is_plain told told' plain e =
-    let P : Bool → Type 0 = λ b. IsReport (told_by_group which members) e.input b told told' status e.text in
-    let report : IsReport (told_by_group which members) e.input true told told' status e.text = subst P plain e.due.report in
-    record {
-      report = told_headline (told_by_group which members) status left left' held held' told told' e.input e.text e.read report e.written;
-      alike = groups-agree report.scenario [] report.lawful which members;
-      found = found which report.scenario report.lawful;
-    }
+group_kept : (which : Which) (members : ℕ) (status : Status) (left left' held held' : Option (List ℕ))
+    → KeepsTheHeadline (told_by_group which members) status left left' held held' → KeepsTheGroup which members status left left' held held'
+group_kept which members status left left' held held' r = record {
+  report = r;
+  alike = groups-agree r.scenario [] r.lawful which members;
+  found = found which r.scenario r.lawful;
+}
   where
     found : (which : Which) (sc : Scenario) → IsLawful sc → FindsTheMembers sc [] which members
     found Most sc law = most-finds sc [] law members
     found Mid sc law = mid-stays sc [] law members
+
+group_promised : (which : Which) (members : ℕ) (status : Status) (left left' held held' : Option (List ℕ)) (is_plain : Bool) (told told' : Option (List Turn)) → is_plain ≡ true
+    → CommandEnds (group_command which members) status left left' held held' is_plain told told' → KeepsTheHeadline (told_by_group which members) status left left' held held'
+group_promised which members status left left' held held' is_plain told told' plain e =
+    let P : Bool → Type 0 = λ b. IsReport (told_by_group which members) e.input b told told' status e.text in
+    told_headline (told_by_group which members) status left left' held held' told told' e.input e.text e.read (subst P plain e.due.report) e.written
 
 -- the numbers of a generated run
 summed_headline : (seed frames : ℕ) (status : Status) (held held' : Option (List ℕ)) (is_plain : Bool) (told told' : Option (List Turn)) (text : List ℕ) → is_plain ≡ true
@@ -113,7 +116,9 @@ promised (Stress seed frames) status left left' held held' is_plain told told' p
 promised (Record node) status left left' held held' is_plain told told' plain e = logged_promise node status left left' held held' is_plain told told' e
 promised Replay status left left' held held' is_plain told told' plain e = tt
 promised (Spell letter) status left left' held held' is_plain told told' plain e = tt
-promised Letters status left left' held held' is_plain told told' plain e = letters_promised status left left' held held' is_plain told told' plain e
-promised (Group which members) status left left' held held' is_plain told told' plain e = group_promised which members status left left' held held' is_plain told told' plain e
+promised Letters status left left' held held' is_plain told told' plain e =
+    letters_kept status left left' held held' (telling_promised told_by_letters status left left' held held' is_plain told told' plain e)
+promised (Group which members) status left left' held held' is_plain told told' plain e =
+    group_kept which members status left left' held held' (group_promised which members status left left' held held' is_plain told told' plain e)
 promised (Listen skip) status left left' held held' is_plain told told' plain e = tt
 promised (Show flag) status left left' held held' is_plain told told' plain e = tt

@@ -55,6 +55,7 @@ headline : (tells : Telling) (status : Status) (input source source' : List ℕ)
 headline tells status input source source' sink sink' e f k = record {
   scenario = k.scenario;
   accepted = subst (λ bytes. IsTextOf bytes k.scenario) (read_is input source source' k.input e k.read) k.accepted;
+  lawful = k.lawful;
   is = written_is sink sink' _ f k.written;
   ends = k.ends;
   promise = k.promise;
@@ -80,6 +81,7 @@ log node input source source' sink sink' e f k = record {
 promised : (form : Form) (status : Status) (input source source' : List ℕ) (sink sink' : Held) → source ≡ input → sink ≡ fresh
     → outside.KeepsItsPromise form status (Some source) (Some source') (Some sink.bytes) (Some sink'.bytes)
     → KeepsItsPromise form status (read_by (limit_of form) input) sink'.bytes
+unfolding headline
 promised Run status input source source' sink sink' e f k = headline _ status input source source' sink sink' e f k
 promised Check status input source source' sink sink' e f k = tt
 promised (Gen seed frames) status input source source' sink sink' e f k = tt

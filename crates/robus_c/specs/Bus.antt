@@ -2,6 +2,7 @@
 use Rattle.std.specs.Prelude.{⊤, ℕ, ◌≡◌, ◌<◌, ◌⊎◌, true, List, [], length, Option, Some, None}
 use Rattle.rb_base.specs.declared.node.NodeName.{NodeName}
 use Rattle.rb_rules.specs.Goodness.{Scenario}
+use Rattle.rb_rules.specs.Lawful.{IsLawful}
 use Rattle.rb_rules.specs.Rounds.{records_of}
 use Rattle.rb_group.specs.declared.voters.Which.{Which}
 use Rattle.rb_laws_groups.specs.Laws.{FindsTheMembers, PortsFindAlike}
@@ -52,6 +53,7 @@ IsOver (Some limit) input = limit < length input
 pub record KeepsTheHeadline (tells : Telling) (status : Status) (input output : List ℕ) : Type 0 where
   pub scenario : Scenario
   pub accepted : IsTextOf input scenario  -- the input is the text of an accepted scenario
+  pub lawful : IsLawful scenario  -- which is lawful
   pub is : output ≡ tells scenario (records_of scenario [])  -- the output is what is told of its rounds
   pub ends : EndsAs scenario status  -- the answer is Breach if and only if the rounds end with a breach
   pub promise : KeepsThePromise scenario []  -- the run keeps the promise of the bus up to its breach
