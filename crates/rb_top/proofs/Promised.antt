@@ -75,7 +75,7 @@ group_promised which members status left left' held held' is_plain told told' pl
     told_headline (told_by_group which members) status left left' held held' told told' e.input e.text e.read (subst P plain e.due.report) e.written
 
 -- the numbers of a generated run
-summed_headline : (seed frames : ℕ) (status : Status) (held held' : Option (List ℕ)) (is_plain : Bool) (told told' : Option (List Turn)) (text : List ℕ) → is_plain ≡ true
+pub summed_headline : (seed frames : ℕ) (status : Status) (held held' : Option (List ℕ)) (is_plain : Bool) (told told' : Option (List Turn)) (text : List ℕ) → is_plain ≡ true
     → IsSummary seed frames is_plain told told' status text → Appends held held' text → SumsTheHeadline seed frames status held held'
 summed_headline seed frames status held held' is_plain told told' text plain summary written =
     let Q : Bool → Type 0 = λ b. IsSummary seed frames b told told' status text in
