@@ -183,7 +183,7 @@ class Node:
         return Act(
             bytes(act.message[:act.length]) if act.length else None, act.closes,
             Epoch(epoch.frame, epoch.tick, tuple(names_in(epoch.biu, "B") + names_in(epoch.rmu, "R"))) if epoch.begins else None,
-            Delivery(delivery.frame, delivery.slot, self.name, "B%d" % delivery.sender,
+            Delivery(delivery.frame, delivery.slot, self.name, f"B{delivery.sender}",
                      None if delivery.none else delivery.word) if delivery.delivers else None)
 
     def next_tick(self) -> Optional[int]:
