@@ -21,7 +21,7 @@ ENDS: Dict[int, Dict[str, bytes]] = {
 REFUSED = LINE + rb"refused \d+ [A-Za-z]+(?: \d+)?\n"
 LACKS = {0: "its last line", 1: "a last line `breach`", 3: "a line `refused`"}
 MOST_STATUS = 8
-# So many bytes show how an output ends
+# The number of bytes that show how an output ends
 TAIL = 256
 
 

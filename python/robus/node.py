@@ -194,8 +194,8 @@ class Node:
         return tick if tick < NO_TICK else None
 
     def pass_(self, ticks: int) -> int:
-        """Has ticks at which nothing happens, at most so many, 0 to 2^64 - 1, and none from
-        `next_tick` on; gives how many."""
+        """Passes up to `ticks` ticks, 0 to 2^64 - 1, at which nothing happens, and none from
+        `next_tick` on. The result is their number."""
         ticks = arguments.integer("ticks", ticks, 0, (1 << 64) - 1)
         passed = self._calls.robus_node_pass(self._handle, ticks)
         self.had += passed

@@ -115,7 +115,7 @@ class Number:
 
 @dataclass(frozen=True)
 class End:
-    """The run came to its end, after so many frames."""
+    """The run came to its end, after `frames` frames."""
 
     frames: int
 

@@ -129,8 +129,8 @@ def sweep(scenario: Source, values: Values, *, engine: Which = None, workers: in
     a row for each, in the order of the values. With several keys each value of one is taken with
     each of the others; "a,b" are two paths that are given the same value.
 
-    So many `workers` run at a time, which helps if a library or a program runs them. Failed is
-    raised if a run gives neither a report nor a refusal."""
+    `workers` runs are under way at a time, which helps if a library or a program runs them. Failed
+    is raised if a run gives neither a report nor a refusal."""
     workers = arguments.integer("workers", workers, 1, MOST_WORKERS)
     return list(rows_of(scenario_of(scenario), values_of(values), choose(["run"], engine), workers))
 

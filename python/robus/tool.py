@@ -105,8 +105,8 @@ def failure_of(fault: BaseException) -> Tuple[str, int]:
 
 
 def guarded(tool: str, work: Callable[[], Optional[int]]) -> int:
-    """The status of a tool's work. Whatever it fails at is one line on standard error that begins
-    with the tool's name; a reader that closed the pipe is no failure."""
+    """The status of a tool's work. Every failure is one line on standard error, with the tool's
+    name before it. A reader that closed the pipe is no failure."""
     try:
         status = work() or 0
         if sys.stdout:

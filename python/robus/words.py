@@ -26,7 +26,7 @@ def reads(word: str) -> bool:
 
 
 def count_of(word: str, given: int) -> int:
-    """How many words stand behind the first one, and before the file, if so many are given."""
+    """How many words are between the first one and the file, if `given` words follow the first."""
     if word == "picture":
         return 2 if given > 1 else 0
     return len(FORMS[word][0].split()) - 1
