@@ -33,7 +33,7 @@ several words each value of one is taken with each of the others.
 
     tools/sweep examples/late_onset.toml 'fault[0].slot=0..13'
     tools/sweep examples/late_onset.toml 'fault[0].node=B2,R2' 'fault[0].frame=0..2' --workers 4
-    tools/sweep examples/symmetric_liar.toml 'fault[0].node,say[*].from=B0,B1,B2'
+    tools/sweep examples/symmetric_liar.toml 'fault[0].node,say[*].from=R0,R1,R2'
 
 status: 0 done, whatever the runs' ends, 2 wrong words or no such file, 3 the scenario is no TOML,
 70 a run gave no report; the rows before it are written"""
