@@ -1,4 +1,5 @@
-"""The package as pip installs it: `pip install ./python` builds a wheel by python/backend.py, which fetches nothing."""
+"""The package as `pip install ./python` installs it: a wheel from python/backend.py, which fetches
+nothing."""
 import base64
 import csv
 import hashlib
@@ -25,15 +26,19 @@ class Wheel(unittest.TestCase):
             names = wheel.namelist()
             for path in (TOP / "python/robus").rglob("*.py"):
                 self.assertIn(str(path.relative_to(TOP / "python")), names)
-            record = [it for it in csv.reader(io.StringIO(wheel.read("robus-1.0.dist-info/RECORD").decode()))]
+            text = wheel.read("robus-1.0.dist-info/RECORD").decode()
+            record = list(csv.reader(io.StringIO(text)))
             self.assertEqual([it[0] for it in record], names)
             for name, digest, length in record[:-1]:
                 text = wheel.read(name)
-                found = base64.urlsafe_b64encode(hashlib.sha256(text).digest()).rstrip(b"=").decode()
+                digested = base64.urlsafe_b64encode(hashlib.sha256(text).digest())
+                found = digested.rstrip(b"=").decode()
                 self.assertEqual((digest, length), ("sha256=" + found, str(len(text))))
             wheel.extractall(folder)
-            words = "import robus; print(robus.run('%s', engine='model').convicted)" % (EXAMPLES / "one_silent_rmu.toml")
-            done = subprocess.run([sys.executable, "-c", words], cwd=folder, capture_output=True, text=True)
+            scenario = str(EXAMPLES / "one_silent_rmu.toml")
+            words = f"import robus; print(robus.run({scenario!r}, engine='model').convicted)"
+            done = subprocess.run([sys.executable, "-c", words], cwd=folder, capture_output=True,
+                                  text=True)
             self.assertEqual((done.stdout, done.stderr), ("('R2',)\n", ""))
 
 
