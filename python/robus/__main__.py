@@ -27,9 +27,8 @@ from robus.tool import MISUSED, guarded, open_output
 from robus.words import FORMS
 
 # The tools: the module of each, its function, and the name under which it speaks
-TOOLS: Dict[str, Tuple[str, str, str]] = {
-    name: (name, "main", "tools/" + name)
-    for name in ("lint", "plan", "layout", "faults", "sweep", "campaign", "table", "model", "quick")}
+NAMES = ("lint", "plan", "layout", "faults", "sweep", "campaign", "table", "model", "quick")
+TOOLS: Dict[str, Tuple[str, str, str]] = {name: (name, "main", "tools/" + name) for name in NAMES}
 TOOLS.update(explain=("explanation", "main", "tools/explain"),
              campaign_rows=("campaign_rows", "main", "tools/campaign_row"),
              robus=("runner", "robus", "tools/robus"), draw=("runner", "draw", "tools/picture"))
@@ -56,8 +55,8 @@ def main() -> int:
     if words[:1] in (["--help"], ["-h"]):
         return guarded("robus", lambda: print(__doc__))
     if not words or words[0] not in TOOLS:
-        why = "there is no word %s" % words[0] if words else "a word is wanted"
-        print("robus: %s; python3 -m robus --help lists them" % why, file=sys.stderr)
+        why = f"there is no word {words[0]}" if words else "a word is wanted"
+        print(f"robus: {why}; python3 -m robus --help lists them", file=sys.stderr)
         return MISUSED
     status = run(words[0], words[1:])
     if threading.active_count() > 1:

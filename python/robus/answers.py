@@ -11,7 +11,7 @@ LINE = rb"(?:\A|\n)"
 ENDED = LINE + rb"end \d+\n"
 BREACH = LINE + rb"breach [^\n]+\n"
 LOG_END = rb"\x04"
-# How an output ends, by status and by the word that was run. A `stress` with a breach writes nothing
+# How an output ends, by status and by the word that was run; a `stress` with a breach writes none
 ENDS: Dict[int, Dict[str, bytes]] = {
     0: {"run": ENDED, "letters": ENDED, "group": ENDED, "replay": ENDED, "listen": ENDED,
         "record": LOG_END, "check": LINE + rb"C7 \d+ \d+\n", "stress": LINE + rb"spread \d+\n",
@@ -21,7 +21,7 @@ ENDS: Dict[int, Dict[str, bytes]] = {
 REFUSED = LINE + rb"refused \d+ [A-Za-z]+(?: \d+)?\n"
 LACKS = {0: "its last line", 1: "a last line `breach`", 3: "a line `refused`"}
 MOST_STATUS = 8
-# So many bytes show how an output ends
+# The number of bytes that show how an output ends
 TAIL = 256
 
 
@@ -39,7 +39,7 @@ def fault_in(words: Sequence[str], program: str, status: int, tail: bytes) -> Op
     word = "picture" if program == "robus_picture" else (list(words) or [""])[0]
     form = REFUSED if status == 3 else ENDS.get(status, {}).get(word)
     if form is None:
-        return "which %s does not have for these words" % program if status == 1 else None
+        return f"which {program} does not have for these words" if status == 1 else None
     if re.search(form + rb"\Z", tail):
         return None
-    return "but what it wrote lacks %s" % LACKS[status]
+    return f"but what it wrote lacks {LACKS[status]}"

@@ -26,7 +26,7 @@ def integer(name: str, value: Any, low: int, high: int) -> int:
     except TypeError:
         found = None
     if found is None or isinstance(value, bool) or not low <= found <= high:
-        raise BadArgument("%s: %s is no integer from %d to %d" % (name, shown(value), low, high))
+        raise BadArgument(f"{name}: {shown(value)} is no integer from {low} to {high}")
     return found
 
 
@@ -42,23 +42,23 @@ def node(name: str, value: Any, kinds: str = "BR") -> Tuple[str, int]:
     found = NODE.fullmatch(value) if isinstance(value, str) else None
     if not found or found[1] not in kinds:
         what = {"B": "BIU", "R": "RMU"}.get(kinds, "node")
-        ranges = " or ".join("%s0 to %s15" % (kind, kind) for kind in kinds)
-        raise BadArgument("%s: %s names no %s; names are %s" % (name, shown(value), what, ranges))
+        ranges = " or ".join(f"{kind}0 to {kind}15" for kind in kinds)
+        raise BadArgument(f"{name}: {shown(value)} names no {what}; names are {ranges}")
     return found[1], int(found[2])
 
 
 def some_bytes(name: str, value: Any, low: int = 0, high: Optional[int] = None) -> bytes:
     """Bytes, or what holds bytes as a bytearray does, of a length from low to high."""
     if not isinstance(value, (bytes, bytearray, memoryview)):
-        raise BadArgument("%s: %s is not bytes" % (name, shown(value)))
+        raise BadArgument(f"{name}: {shown(value)} is not bytes")
     found = bytes(value)
     if len(found) < low or high is not None and len(found) > high:
-        raise BadArgument("%s: it has %d bytes, and may have %d to %d" % (name, len(found), low, high))
+        raise BadArgument(f"{name}: it has {len(found)} bytes, and may have {low} to {high}")
     return found
 
 
 def path(name: str, value: Any) -> str:
     """The path of a file."""
     if not isinstance(value, (str, os.PathLike)) or not os.fspath(value) or "\0" in str(value):
-        raise BadArgument("%s: %s is no path of a file" % (name, shown(value)))
+        raise BadArgument(f"{name}: {shown(value)} is no path of a file")
     return os.fspath(value)

@@ -60,7 +60,7 @@ def bytes_of(source: LogSource) -> bytes:
     if isinstance(source, (bytes, bytearray, memoryview)):
         return bytes(source)
     if not isinstance(source, (str, os.PathLike)):
-        raise BadArgument("log: %s is no Log, no bytes and no path of a file" % shown(source))
+        raise BadArgument(f"log: {shown(source)} is no Log, no bytes and no path of a file")
     with open(arguments.path("log", source), "rb") as file:
         return file.read()
 
@@ -68,7 +68,7 @@ def bytes_of(source: LogSource) -> bytes:
 def mask_of(members: Iterable[str]) -> int:
     """The mask of a group of BIUs, which are named one by one."""
     if isinstance(members, (str, bytes)) or not isinstance(members, Iterable):
-        raise BadArgument("members: %s is no list of BIUs, as [\"B0\", \"B1\"]" % shown(members))
+        raise BadArgument(f'members: {shown(members)} is no list of BIUs, as ["B0", "B1"]')
     numbers = {arguments.node("members", name, "B")[1] for name in members}
     if not numbers:
         raise BadArgument("members: a group has 1 to 16 BIUs, and none is named")
@@ -101,7 +101,7 @@ def group(scenario: Source, how: str, members: Iterable[str], *, engine: Which =
 def record(scenario: Source, node: str, *, engine: Which = None) -> Log:
     """Runs a scenario; the log of all that one node, as `B0`, was given."""
     kind, number = arguments.node("node", node)
-    given, words = scenario_of(scenario), ["record", "%s%d" % (kind, number)]
+    given, words = scenario_of(scenario), ["record", f"{kind}{number}"]
     by = choose(words, engine)
     found = answer(by, words, given.text, scenario=given)
     return Log(by, found.status, found.output)
@@ -179,4 +179,4 @@ def explain(scenario: Source, frame: Optional[int] = None, slot: Optional[int] =
     try:
         return explanation_of(found, frame, slot)
     except ValueError as fault:
-        raise BadArgument("frame, slot: %s" % fault) from None
+        raise BadArgument(f"frame, slot: {fault}") from None

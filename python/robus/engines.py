@@ -65,7 +65,7 @@ class Engine:
         found = self.raw(words, data, program)
         why = fault_in(words, program, found.status, found.output)
         if why:
-            raise Failed(tuple(words), found.status, "%s (%s)" % (why, self))
+            raise Failed(tuple(words), found.status, f"{why} ({self})")
         return found
 
     def stream(self, words: Sequence[str], data: Optional[bytes], sink: Sink,
@@ -77,7 +77,7 @@ class Engine:
         return found.status
 
     def __str__(self) -> str:
-        return "%s %s" % (self.name, self.path)
+        return f"{self.name} {self.path}"
 
 
 class CAnswer(ctypes.Structure):
@@ -88,8 +88,8 @@ class CAnswer(ctypes.Structure):
 
 @lru_cache(maxsize=None)
 def function_of(path: str, program: str) -> Optional[Callable[..., CAnswer]]:
-    """`robus_call` of a library, or `robus_bridge_call` or `robus_picture_call`: it takes words with
-    a NUL between them, input, and a buffer for the output. None where the library has none."""
+    """`robus_call` of a library, or `robus_bridge_call` or `robus_picture_call`: it takes words
+    with a NUL between them, input, and a buffer for the output. None if the library has none."""
     call = getattr(ctypes.CDLL(path), program + "_call", None)
     if call is None:
         return None
@@ -161,7 +161,7 @@ class Program(Engine):
                                      stdin=None if data is None else subprocess.PIPE)
         except (OSError, ValueError) as fault:
             why = getattr(fault, "strerror", None) or fault
-            raise NoEngine("%s cannot be run: %s" % (self.path, why)) from None
+            raise NoEngine(f"{self.path} cannot be run: {why}") from None
         if data is not None:
             threading.Thread(target=feed, args=(child.stdin, data), daemon=True).start()
         try:
@@ -188,7 +188,7 @@ class Quick(Program):
         return found if found.exists() else None
 
     def __str__(self) -> str:
-        return "an unproved build in %s" % Path(self.path).parent
+        return f"an unproved build in {Path(self.path).parent}"
 
 
 @dataclass(frozen=True)
@@ -290,14 +290,14 @@ def at_path(choice: str) -> Engine:
         raise NoEngine("%s is no engine (%s) and no file" % (choice, ", ".join(ENGINES)))
     if not path.endswith(".so"):
         if not os.access(path, os.X_OK):
-            raise NoEngine("%s is no program: it may not be executed" % choice)
+            raise NoEngine(f"{choice} is no program: it may not be executed")
         return Program(path)
     try:
         has_call = function_of(path, "robus") is not None
     except OSError as fault:
-        raise NoEngine("%s is no library: %s" % (choice, fault)) from None
+        raise NoEngine(f"{choice} is no library: {fault}") from None
     if not has_call:
-        raise NoEngine("%s has no robus_call" % choice)
+        raise NoEngine(f"{choice} has no robus_call")
     return Library(path)
 
 
@@ -307,7 +307,7 @@ def named(choice: str) -> Engine:
         return at_path(choice)
     found = ENGINES[choice]()
     if found is None:
-        raise NoEngine("the engine %s is not there; docs/LIBRARY.md says how to have it" % choice)
+        raise NoEngine(f"the engine {choice} is not there; docs/LIBRARY.md says how to have it")
     return found
 
 
@@ -322,9 +322,9 @@ def choose(words: Sequence[str], engine: Which = None, program: str = "robus") -
         found = wanted if isinstance(wanted, Engine) else named(os.fspath(wanted))
         if found.has(words, program):
             return found
-        raise NoEngine("the engine that is asked for, %s, cannot do '%s'" % (found, what))
+        raise NoEngine(f"the engine that is asked for, {found}, cannot do '{what}'")
     for find in ENGINES.values():
         it = find()
         if it is not None and it.has(words, program):
             return it
-    raise NoEngine("no engine that is there can do '%s': make build builds the programs" % what)
+    raise NoEngine(f"no engine that is there can do '{what}': make build builds the programs")

@@ -51,8 +51,8 @@ class NoNode(RobusError):
     def __init__(self, name: str, number: int):
         self.number = number
         self.inequality = number - 20 if number > 20 else None
-        why = NO_NODE.get(number) or "inequality %d of the plan fails" % (number - 20)
-        super().__init__("%s: %s" % (name, why))
+        why = NO_NODE.get(number) or f"inequality {number - 20} of the plan fails"
+        super().__init__(f"{name}: {why}")
 
 
 class Refused(RobusError):
@@ -93,8 +93,8 @@ class Refused(RobusError):
         return self.finding.path if self.finding else None
 
     def __str__(self) -> str:
-        number = "" if self.number is None else " %d" % self.number
-        refused = "refused %d %s%s" % (self.code, self.name, number)
+        number = "" if self.number is None else f" {self.number}"
+        refused = f"refused {self.code} {self.name}{number}"
         if self.finding is None:
             return refused
         return "%s: %s:%d: %s" % (refused, self.file or "scenario", self.line, self.finding.why)

@@ -47,7 +47,7 @@ def missing(place: Place, name: str, table: model.Document) -> Iterator[Broken]:
     for key, (is_required, _) in FIELDS[name].items():
         if is_required and key not in table:
             typo = next((it for it in table if it not in FIELDS[name] and near(it, FIELDS[name]) == key), None)
-            why = "%s has no %s: %s" % (title(place), key, may_stand(name, key))
+            why = f"{title(place)} has no {key}: {may_stand(name, key)}"
             yield 2, place + ((typo,) if typo else ()), why + ("; is it what is spelt %s here?" % typo if typo else "")
     if name == "say" and not any(key in table for key in SAYINGS):
         yield 2, place, "%s says nothing: one of word, fault, sync and raw is to stand there" % title(place)
@@ -59,14 +59,14 @@ def unknown(place: Place, name: str, table: model.Document) -> Iterator[Broken]:
         if key not in FIELDS[name]:
             like, other = near(key, [it for it in FIELDS[name] if it not in table] or FIELDS[name]), elsewhere(key, name)
             hint = "did you mean %s?" % like if like else "it stands " + other if other else "there are " + ", ".join(FIELDS[name])
-            yield 3, place + (key,), "%s has no key %s: %s" % (title(place), key, hint)
+            yield 3, place + (key,), f"{title(place)} has no key {key}: {hint}"
 
 
 def of_another_form(place: Place, name: str, table: model.Document) -> Iterator[Broken]:
     """The keys of a table whose values have another form."""
     for key, value in table.items():
         if key in FIELDS[name] and not FIELDS[name][key][1](value):
-            yield 4, place + (key,), "%s is to be %s" % (key, may_stand(name, key))
+            yield 4, place + (key,), f"{key} is to be {may_stand(name, key)}"
 
 
 def findings(document: model.Document) -> Iterator[Broken]:

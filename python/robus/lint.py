@@ -11,8 +11,8 @@ from robus.model import TooLong, model, read
 from robus.scenario import path_of
 from robus.tool import Parser, input_of
 
-HELP = """Says where and why a scenario is refused: every finding with its line, what stands there and what
-may stand there. It agrees with robus on what is refused, and names first the rule for which robus
+HELP = """Says where and why a scenario is refused: every finding with its line, what stands there and
+what may stand there. It agrees with robus on what is refused, and names first the rule for which robus
 refuses it. Of an accepted scenario it says what can have no effect, for which it runs the scenario
 on tools/model. It is not proved.
 
@@ -37,7 +37,7 @@ def spelt(place: Place) -> str:
         return ""
     is_entry = len(place) > 1 and isinstance(place[1], int) and place[0] in model.ENTRY_FIELDS
     head, rest = ("%s %d" % (place[0], place[1] + 1), place[2:]) if is_entry else (str(place[0]), place[1:])
-    return head + "".join("[%d]" % it if isinstance(it, int) else ".%s" % it for it in rest)
+    return head + "".join(f"[{it}]" if isinstance(it, int) else f".{it}" for it in rest)
 
 
 def visible(text: str) -> str:
@@ -78,7 +78,7 @@ def findings_in(data: bytes) -> list[Finding]:
         line, column, why = fault
         rows = data.decode("utf-8", "replace").split("\n")
         stands = rows[line - 1].strip() if line <= len(rows) else ""
-        return [Finding(1, line, "column %d" % column, short(stands), why[:1].lower() + why[1:])]
+        return [Finding(1, line, f"column {column}", short(stands), why[:1].lower() + why[1:])]
     text = data.decode("utf-8")
     parts = syntax.older(text)
     document = syntax.tomllib.loads("".join(part for _, part in parts))
@@ -87,8 +87,8 @@ def findings_in(data: bytes) -> list[Finding]:
     def finding(code: int, place: Place, why: str) -> Finding:
         """What is found at a place, with its line and what stands there."""
         stands = locator.texts.get(place, "")
-        return Finding(code, locator.line_of(place), visible(spelt(place)), short(stands), visible(why),
-                       visible(path_of(place)))
+        return Finding(code, locator.line_of(place), visible(spelt(place)), short(stands),
+                       visible(why), visible(path_of(place)))
 
     wide = [finding(1, place, "integers are of 64 bits") for place, value in syntax.values_in(document)
             if not -(1 << 63) <= value < 1 << 63]
@@ -116,14 +116,14 @@ def lint(data: bytes) -> tuple[str | None, list[Finding]]:
 
 def line_for(name: str, it: Finding) -> str:
     """A finding as a line of text."""
-    rule = "warning" if it.code == 0 else "%d %s" % (it.code, model.SCENARIO_RULES[it.code])
-    what = ": %s" % it.place if it.place else ""
+    rule = "warning" if it.code == 0 else f"{it.code} {model.SCENARIO_RULES[it.code]}"
+    what = f": {it.place}" if it.place else ""
     stands = ""
     if it.stands and it.code == 1:
-        stands = " `%s`" % it.stands
+        stands = f" `{it.stands}`"
     elif it.stands and not it.stands.startswith("[["):
-        stands = " = %s" % it.stands
-    return "%s:%d: %s%s%s: %s" % (name, it.line, rule, what, stands, it.why)
+        stands = f" = {it.stands}"
+    return f"{name}:{it.line}: {rule}{what}{stands}: {it.why}"
 
 
 def main(words: list[str]) -> int:
@@ -135,7 +135,7 @@ def main(words: list[str]) -> int:
     try:
         refusal, found = lint(input_of(asked.scenario))
     except TooLong:
-        print("%s: longer than %d bytes" % (asked.scenario, model.SCENARIO_LIMIT))
+        print(f"{asked.scenario}: longer than {model.SCENARIO_LIMIT} bytes")
         return 4
     for it in found:
         print(json.dumps(asdict(it)) if asked.json else line_for(asked.scenario, it))

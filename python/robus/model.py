@@ -16,7 +16,8 @@ from robus import second_model as model  # noqa: E402
 BIU, RMU, TAIL = model.BIU, model.RMU, model.TAIL
 name_of = model.name_of
 Slot = tuple[int, int]  # a frame, and a slot of it
-Stage = tuple[int, int, int]  # a frame, a slot of it, and a stage of that; the tail is stage 4 of the sync slot
+# A frame, a slot of it, and a stage of that; the tail is stage 4 of the sync slot
+Stage = tuple[int, int, int]
 
 
 class TooLong(Exception):
@@ -35,8 +36,8 @@ def nodes_in(mask: int, kind: int) -> list[str]:
     return names_in(mask, "BR"[kind])
 
 
-HELP = """tools/model WORDS.. < INPUT: the second model of the bus, which is not proved. It writes what
-robus writes, with the same status, for run, check, record NODE, replay, gen SEED FRAMES and
+HELP = """tools/model WORDS.. < INPUT: the second model of the bus, which is not proved. It writes
+what robus writes, with the same status, for run, check, record NODE, replay, gen SEED FRAMES and
 stress SEED FRAMES, as tools/model run < examples/one_silent_rmu.toml."""
 
 

@@ -183,7 +183,7 @@ class Node:
         return Act(
             bytes(act.message[:act.length]) if act.length else None, act.closes,
             Epoch(epoch.frame, epoch.tick, tuple(names_in(epoch.biu, "B") + names_in(epoch.rmu, "R"))) if epoch.begins else None,
-            Delivery(delivery.frame, delivery.slot, self.name, "B%d" % delivery.sender,
+            Delivery(delivery.frame, delivery.slot, self.name, f"B{delivery.sender}",
                      None if delivery.none else delivery.word) if delivery.delivers else None)
 
     def next_tick(self) -> Optional[int]:
@@ -194,8 +194,8 @@ class Node:
         return tick if tick < NO_TICK else None
 
     def pass_(self, ticks: int) -> int:
-        """Has ticks at which nothing happens, at most so many, 0 to 2^64 - 1, and none from
-        `next_tick` on; gives how many."""
+        """Passes up to `ticks` ticks, 0 to 2^64 - 1, at which nothing happens, and none from
+        `next_tick` on. The result is their number."""
         ticks = arguments.integer("ticks", ticks, 0, (1 << 64) - 1)
         passed = self._calls.robus_node_pass(self._handle, ticks)
         self.had += passed

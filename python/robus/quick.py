@@ -1,9 +1,9 @@
 """Quick builds: a program of the repository compiled without any proof, and kept.
 
 `rt try` compiles a crate and runs it once, which takes up to two minutes, and it keeps nothing. So
-the first call here has it compile the crate and run it on a small input, copies the compiled program
-while that run lasts, and keeps the copy under the sum of all sources and of the kit's name. Later
-calls run the copy, without any of the limits of `rt try`. Builds are kept in .quick of the
+the first call here has it compile the crate and run it on a small input, copies the compiled
+program while that run lasts, and keeps the copy under the sum of all sources and of the kit's name.
+Later calls run the copy, without any of the limits of `rt try`. Builds are kept in .quick of the
 repository, or in the user's cache folder if the repository may not be written."""
 from __future__ import annotations
 
@@ -52,8 +52,8 @@ def sources() -> List[Path]:
 
 def sum_of_sources() -> str:
     """A sum over the kit's name and the names and bytes of all sources."""
-    kit = subprocess.run(["rt", "version"], stdout=subprocess.PIPE, stderr=subprocess.DEVNULL).stdout
-    total = hashlib.sha256(kit)
+    version = subprocess.run(["rt", "version"], stdout=subprocess.PIPE, stderr=subprocess.DEVNULL)
+    total = hashlib.sha256(version.stdout)
     for path in sources():
         content = path.read_bytes()
         total.update(b"%s\0%d\0" % (os.fsencode(path.relative_to(TOP)), len(content)))
@@ -89,15 +89,16 @@ def folder_for_builds() -> Path:
     for folder in folders():
         if may_write(folder):
             return folder
-    raise NoEngine("a build can be kept neither in %s nor in %s: set XDG_CACHE_HOME to a folder that "
-                   "may be written" % tuple(folders()))
+    places = " nor in ".join(map(str, folders()))
+    raise NoEngine(f"a build can be kept neither in {places}: set XDG_CACHE_HOME to a folder "
+                   "that may be written")
 
 
 def kept(name: str) -> Optional[Path]:
     """The build of a program from the sources as they are; None if none is kept."""
     if not is_there():
         return None
-    found = (folder / ("%s-%s" % (name, first_sum())) for folder in folders())
+    found = (folder / f"{name}-{first_sum()}" for folder in folders())
     return next((path for path in found if path.exists()), None)
 
 
@@ -125,11 +126,11 @@ def catch(folder: Path, child: subprocess.Popen[bytes]) -> Optional[Path]:
 def keep(program: Path, name: str, folder: Path) -> Path:
     """Copies a program into the folder, whole or not at all. Of the repository's own folder it
     removes the builds of other sources."""
-    path = folder / ("%s-%s" % (name, first_sum()))
+    path = folder / f"{name}-{first_sum()}"
     for old in folder.glob(name + "-*") if folder.parent == TOP else ():
         if not old.name.startswith(path.name):
             old.unlink(missing_ok=True)
-    new = path.with_name("%s.%d" % (path.name, os.getpid()))
+    new = path.with_name(f"{path.name}.{os.getpid()}")
     shutil.copy(program, new)
     os.replace(new, path)
     return path
@@ -148,8 +149,8 @@ def stop(child: subprocess.Popen[bytes]) -> None:
 
 def trial(name: str, words: List[str], data: bytes, room: Path, *options: str
           ) -> Tuple[int, str, Optional[Path]]:
-    """A run of a program by `rt try`, which writes into the file `out` of the room: its status, what
-    `rt` said, and the program while it is held in the room."""
+    """A run of a program by `rt try`, which writes into the file `out` of the room: its status,
+    what `rt` said, and the program while it is held in the room."""
     (room / "input").write_bytes(data)
     with open(room / "input", "rb") as stdin, open(room / "out", "wb") as out, \
             open(room / "said", "wb") as said:
@@ -175,7 +176,7 @@ def build(name: str, folder: Path) -> Optional[Path]:
         status, said, held = trial(name, words, data, room)
         if "run=ended" not in said:
             sys.stderr.write(said)
-            raise NoEngine("the quick build of %s failed" % name)
+            raise NoEngine(f"the quick build of {name} failed")
         if held is None or sum_of_sources() != before:
             return None
         again = subprocess.run([str(held), *words], input=data, stdout=subprocess.PIPE, env={})
@@ -191,7 +192,7 @@ def program_of(name: str) -> Optional[Path]:
     found = kept(name)
     if found is None:
         folder = folder_for_builds()
-        print("building %s takes up to two minutes; it is kept in %s" % (name, folder), file=sys.stderr)
+        print(f"building {name} takes up to two minutes; it is kept in {folder}", file=sys.stderr)
         found = build(name, folder)
     return found
 
@@ -203,17 +204,17 @@ def run_once(name: str, words: List[str], data: bytes) -> Tuple[int, bytes]:
         status, said, _ = trial(name, words, data, Path(place), "--seconds", str(SECONDS))
         if "run=ended" in said:
             return status, Path(place, "out").read_bytes()
-    limit = "%s, which is the limit of a quick build; the program of 'make build' has none"
-    if "%d bytes" % BYTES in said:
-        raise NoEngine(limit % ("this run writes more than %d bytes" % BYTES))
+    limit = "which is the limit of a quick build; the program of 'make build' has none"
+    if f"{BYTES} bytes" in said:
+        raise NoEngine(f"this run writes more than {BYTES} bytes, {limit}")
     if time.monotonic() - begin >= SECONDS:
-        raise NoEngine(limit % ("this run takes more than %d seconds" % SECONDS))
+        raise NoEngine(f"this run takes more than {SECONDS} seconds, {limit}")
     sys.stderr.write(said)
-    raise NoEngine("the quick build of %s did not run" % name)
+    raise NoEngine(f"the quick build of {name} did not run")
 
 
-HELP = """tools/quick PROGRAM WORDS..: runs PROGRAM (robus, robus_bridge or robus_picture) with these words
-as an unproved build. tools/quick --keep PROGRAM: builds PROGRAM if it is not kept, and prints its
+HELP = """tools/quick PROGRAM WORDS..: runs PROGRAM (robus, robus_bridge or robus_picture) with these
+words as an unproved build. tools/quick --keep PROGRAM: builds PROGRAM if it is not kept, and prints its
 path. It ends with the program's status, and with 70 if the build or the run gives no answer.
 """
 

@@ -82,9 +82,9 @@ def pair(values: Values, place: Place, key: str, low: int, high: int | None, why
     if value is None or high is None:
         return
     if not (low <= value[0] <= high and low <= value[1] <= high):
-        yield 5, place + (key,), "%s is to lie within %d to %d%s" % (key, low, high, why)
+        yield 5, place + (key,), f"{key} is to lie within {low} to {high}{why}"
     elif value[0] > value[1]:
-        yield 5, place + (key,), "%s is to have its lower end first" % key
+        yield 5, place + (key,), f"{key} is to have its lower end first"
 
 
 def node_name(values: Values, place: Place, key: str, find: Callable[[str], model.Pattern | None]) -> Iterator[Broken]:
@@ -93,14 +93,14 @@ def node_name(values: Values, place: Place, key: str, find: Callable[[str], mode
     if text is None or find(text) is not None:
         return
     if re.fullmatch(r"[br][0-9]*", text):
-        why = "names have capital letters: %s" % text.upper()
+        why = f"names have capital letters: {text.upper()}"
     elif text[:1] in ("B", "R") and text[1:].isdigit() and (text[1:] == "0" or text[1:2] != "0"):
         kind = LETTERS.index(text[0])
         size = values.size(kind)
         why = "the bus has %s0 to %s%d" % (text[0], text[0], size - 1) if size else "there are at most 16 of a kind"
     else:
         why = 'names are as "B0" and "R2"' + (', or "B" and "R" for all' if find == values.end else "")
-    yield 5, place + (key,), "%s names no node: %s" % (key, why)
+    yield 5, place + (key,), f"{key} names no node: {why}"
 
 
 def of_root(values: Values) -> Iterator[Broken]:
@@ -114,7 +114,7 @@ def of_root(values: Values) -> Iterator[Broken]:
         found = values.get((), key)
         for index, value in enumerate(found or []):
             if not 0 <= value <= high:
-                yield 5, (key, index), "each of %s is to be 0 to %d" % (key, high)
+                yield 5, (key, index), f"each of {key} is to be 0 to {high}"
     for index, app in enumerate(values.get((), "apps") or []):
         if app not in ("table", "counter", "follow"):
             yield 5, ("apps", index), 'an application is "table", "counter" or "follow"'
@@ -197,7 +197,7 @@ def of_saying(values: Values, place: Place) -> Iterator[Broken]:
         yield 5, place + (said[1],), "one of word, fault, sync and raw is to stand there, and there are %s" % " and ".join(said)
     for key in ("fault", "sync"):
         if values.get(place, key) is False:
-            yield 5, place + (key,), "%s is to be true, or to be left out" % key
+            yield 5, place + (key,), f"{key} is to be true, or to be left out"
     yield from number(values, place, "word", 0, WORD)
     raw = values.get(place, "raw")
     if raw is not None and not re.fullmatch(r"([0-9a-fA-F]{2}){1,32}", raw, re.ASCII):

@@ -83,12 +83,11 @@ class Result:
         if self.breach is None:
             return "ended after %s frame%s" % (self.frames, "" if self.frames == 1 else "s")
         it = self.breach
-        return "breach %s at frame %d, slot %d, stage %d" % (it.cause, it.frame, it.slot, it.stage)
+        return f"breach {it.cause} at frame {it.frame}, slot {it.slot}, stage {it.stage}"
 
     def __repr__(self) -> str:
         count = len(self.by_kind[self.main_kind])
-        return "%s(%s, %d %s, by %s)" % (type(self).__name__, self.ending(), count, self.main_kind,
-                                         self.engine)
+        return f"{type(self).__name__}({self.ending()}, {count} {self.main_kind}, by {self.engine})"
 
 
 @dataclass(frozen=True, repr=False)
@@ -145,7 +144,8 @@ class Report(Result):
             raise BadArgument("first: it is missing, and last is there")
         end = self.frames if self.breach is None else self.breach.frame
         first = arguments.integer("first", first, 0, end)
-        return [str(first), str(first if last is None else arguments.integer("last", last, first, end))]
+        last = first if last is None else arguments.integer("last", last, first, end)
+        return [str(first), str(last)]
 
     def _repr_svg_(self) -> Optional[str]:
         """How a notebook shows the run: as a picture, if robus_picture is there."""

@@ -115,7 +115,7 @@ class Number:
 
 @dataclass(frozen=True)
 class End:
-    """The run came to its end, after so many frames."""
+    """The run came to its end, after `frames` frames."""
 
     frames: int
 
@@ -174,7 +174,7 @@ class NoRow(ValueError):
 
 def names_in(mask: int, kind: str) -> List[str]:
     """The names of the nodes of a kind, `B` or `R`, whose bits a mask has."""
-    return ["%s%d" % (kind, number) for number in range(mask.bit_length()) if mask >> number & 1]
+    return [f"{kind}{number}" for number in range(mask.bit_length()) if mask >> number & 1]
 
 
 def number_or_none(text: Optional[str]) -> Optional[int]:
@@ -201,7 +201,7 @@ def row_of(line: str) -> Row:
         found = pattern.fullmatch(line)
         if found:
             return row(*[make(text) for make, text in zip(makers, found.groups())])
-    raise NoRow("no line that robus writes: %s" % line[:60])
+    raise NoRow(f"no line that robus writes: {line[:60]}")
 
 
 def rows_of(lines: Iterable[str]) -> Iterator[Row]:
@@ -210,7 +210,7 @@ def rows_of(lines: Iterable[str]) -> Iterator[Row]:
         try:
             yield row_of(line.rstrip("\n"))
         except NoRow as fault:
-            raise NoRow("line %d is %s" % (number, fault)) from None
+            raise NoRow(f"line {number} is {fault}") from None
 
 
 def columns(kind: str) -> List[str]:

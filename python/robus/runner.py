@@ -21,7 +21,7 @@ from robus.calls import answer
 from robus.engines import Engine, Quick, Tried, Which
 from robus.errors import BadArgument, Failed, NoEngine
 from robus.scenario import Scenario
-from robus.tool import NOT_WRITTEN, NotWritten, Parser, drop_output, input_of
+from robus.tool import ENGINE_HELP, NOT_WRITTEN, NotWritten, Parser, drop_output, input_of
 from robus.words import FORMS, PROGRAMS, count_of, meaning, misused, reads
 
 HELP = """Runs the words of robus, or of robus_bridge as bridge and of robus_picture as picture, and
@@ -37,7 +37,8 @@ proved program is run if one is up to date, else an unproved build, which is mad
 kit if it is not kept yet, and without the kit tools/model, the second model.
 
 status: that of the program, 2 wrong words or no such file, 70 there was no answer"""
-DRAW_HELP = """Draws the run of a scenario, or the frames FIRST to LAST of it, as an SVG on standard output.
+DRAW_HELP = """Draws the run of a scenario, or the frames FIRST to LAST of it, as an SVG on standard
+output.
 
     tools/picture SCENARIO [FIRST LAST]
     tools/picture examples/late_onset.toml 1 2 > run.svg
@@ -45,7 +46,8 @@ DRAW_HELP = """Draws the run of a scenario, or the frames FIRST to LAST of it, a
 status: 0 done, 2 wrong words or no such file, 70 there was no answer, else that of the run"""
 BRIDGE = re.compile(rb'^[ \t]*"?bridges"?[ \t]*=', re.MULTILINE)
 ONE_BUS = re.compile(rb'^[ \t]*"?biu"?[ \t]*=', re.MULTILINE)
-SLOW = "still running: an unproved build takes hundreds of times as long as the program of 'make build'"
+SLOW = ("still running: an unproved build takes hundreds of times as long as the program of "
+        "'make build'")
 
 
 @dataclass(frozen=True)
@@ -168,7 +170,7 @@ def main(words: List[str]) -> int:
     form = FORMS[word][0] + " [FILE]" * reads(word)
     parser = Parser(tool, HELP, f"{tool}{form[len(word):]} [--engine ENGINE]")
     parser.add_argument("words", nargs="*", help=argparse.SUPPRESS)
-    parser.add_argument("--engine", help="library, program, quick, model, or a path (docs/LIBRARY.md)")
+    parser.add_argument("--engine", help=ENGINE_HELP)
     asked = parser.parse_args(words[1:])
     count = count_of(word, len(asked.words))
     own, rest = asked.words[:count], asked.words[count:]
@@ -225,7 +227,7 @@ def draw(words: List[str]) -> int:
     parser = Parser("tools/picture", DRAW_HELP)
     parser.add_argument("scenario", help="a file, or - for standard input")
     parser.add_argument("frames", nargs="*", metavar="FIRST LAST")
-    parser.add_argument("--engine", help="library, program, quick, or a path (docs/LIBRARY.md)")
+    parser.add_argument("--engine", help=ENGINE_HELP)
     asked = parser.parse_args(words)
     if len(asked.frames) not in (0, 2):
         raise BadArgument("usage: tools/picture SCENARIO [FIRST LAST]; --help says more")

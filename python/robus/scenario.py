@@ -25,13 +25,13 @@ Key = Union[str, int]
 def parts_of(path: str) -> List[Key]:
     """The keys and numbers of a path: `fault[0].slot` is fault, 0, slot."""
     if not isinstance(path, str):
-        raise BadArgument("path: %s is no text; one is as fault[0].slot" % shown(path))
+        raise BadArgument(f"path: {shown(path)} is no text; one is as fault[0].slot")
     parts: List[Key] = []
     at = 0
     while at < len(path):
         found = PART.match(path, at)
         if not found or (at == 0) == path.startswith((".", "["), at):
-            raise BadArgument("path: %r is none; one is as fault[0].slot or plan.h" % path)
+            raise BadArgument(f"path: {path!r} is none; one is as fault[0].slot or plan.h")
         parts.append(found[1] or (EACH if found[2] == "*" else int(found[2])))
         at = found.end()
     if not 1 <= len(parts) <= MOST_PARTS:
@@ -42,7 +42,7 @@ def parts_of(path: str) -> List[Key]:
 
 def path_of(parts: Tuple[Key, ...]) -> str:
     """The path that these keys and numbers are."""
-    text = "".join(".%s" % it if isinstance(it, str) else "[*]" if it == EACH else "[%d]" % it
+    text = "".join(f".{it}" if isinstance(it, str) else "[*]" if it == EACH else f"[{it}]"
                    for it in parts)
     return text[1:] if text.startswith(".") else text
 
@@ -65,13 +65,13 @@ def put(document: Any, parts: List[Key], value: Any, at: int = 0) -> None:
     part, is_last, here = parts[at], at + 1 == len(parts), path_of(tuple(parts[:at + 1]))
     is_array = isinstance(part, int)
     if not isinstance(document, list if is_array else dict):
-        raise BadArgument("path: %r is no place in this scenario" % here)
+        raise BadArgument(f"path: {here!r} is no place in this scenario")
     if part == EACH:
         for number in range(len(document)):
             put(document, parts[:at] + [number] + parts[at + 1:], value, at)
         return
     if is_array and part > len(document):
-        raise NoEntry("path: %s: there are %d entries" % (here, len(document)))
+        raise NoEntry(f"path: {here}: there are {len(document)} entries")
     if is_array and part == len(document):
         document.append(None)
     if is_last:
@@ -119,13 +119,13 @@ class Scenario:
         try:
             return cls(text.encode())
         except UnicodeEncodeError as fault:
-            raise BadArgument("text: it cannot be written as UTF-8: %s" % fault.reason) from None
+            raise BadArgument(f"text: it cannot be written as UTF-8: {fault.reason}") from None
 
     @classmethod
     def from_dict(cls, document: Mapping[str, Any]) -> Scenario:
         """The scenario of a dict with the document's keys, as dict(biu=4, rmu=3, ..)."""
         if not isinstance(document, Mapping):
-            raise BadArgument("document: %s is no dict" % shown(document))
+            raise BadArgument(f"document: {shown(document)} is no dict")
         return cls(written(document))
 
     def to_dict(self) -> Dict[str, Any]:
@@ -151,7 +151,7 @@ class Scenario:
         found: Any = self.to_dict()
         for part in parts_of(path):
             if part == EACH:
-                raise BadArgument("path: %r is more than one place" % path)
+                raise BadArgument(f"path: {path!r} is more than one place")
             is_array = isinstance(part, int)
             if not isinstance(found, list if is_array else dict):
                 return default

@@ -17,7 +17,7 @@ from robus.errors import BadArgument, Failed
 from robus.rows import cell
 from robus.scenario import Scenario, Source, parts_of, scenario_of
 from robus.summary import Summary, summary_of_output
-from robus.tool import Parser, input_of
+from robus.tool import ENGINE_HELP, Parser, input_of
 
 HELP = """Runs a scenario with each choice of values at some of its keys, and writes a row of CSV
 for each run as it ends: the values, how the run ended, whom good nodes convicted, the spread in
@@ -28,12 +28,12 @@ runs the bus is told on standard error.
 
 KEY is as frames, plan.p or fault[0].slot, entries counting from 0, and say[*].from is that of each
 entry. Keys with commas between them are given the same value. VALUES are a range, as 0..15, values
-with commas between them, as 1,5,9 or B0,R2, or an array of TOML, as '[[1, 2], [3, 4]]'. With several
-words each value of one is taken with each of the others.
+with commas between them, as 1,5,9 or B0,R2, or an array of TOML, as '[[1, 2], [3, 4]]'. With
+several words each value of one is taken with each of the others.
 
     tools/sweep examples/late_onset.toml 'fault[0].slot=0..13'
     tools/sweep examples/late_onset.toml 'fault[0].node=B2,R2' 'fault[0].frame=0..2' --workers 4
-    tools/sweep examples/symmetric_liar.toml 'fault[0].node,say[*].from=B0,B1,B2'
+    tools/sweep examples/symmetric_liar.toml 'fault[0].node,say[*].from=R0,R1,R2'
 
 status: 0 done, whatever the runs' ends, 2 wrong words or no such file, 3 the scenario is no TOML,
 70 a run gave no report; the rows before it are written"""
@@ -56,24 +56,24 @@ class SweepRow:
 def values_of(given: Any) -> Dict[str, Collection[Any]]:
     """The values of a sweep, as collections of which there is no empty one."""
     if not isinstance(given, Mapping) or not given:
-        raise BadArgument("values: %s is no dict of paths and values, as {'fault[0].slot': range(16)}"
-                          % shown(given))
+        raise BadArgument(f"values: {shown(given)} is no dict of paths and values, as "
+                          "{'fault[0].slot': range(16)}")
     found: Dict[str, Collection[Any]] = {}
     for key, values in given.items():
         for path in keys_in(key):
             parts_of(path)
         if isinstance(values, (str, bytes, Mapping)) or not isinstance(values, Iterable):
-            raise BadArgument("%s: %s is no list and no range of values" % (key, shown(values)))
+            raise BadArgument(f"{key}: {shown(values)} is no list and no range of values")
         found[key] = values if isinstance(values, (range, list, tuple)) else list(values)
         if not found[key]:
-            raise BadArgument("%s: %s has no value" % (key, shown(values)))
+            raise BadArgument(f"{key}: {shown(values)} has no value")
     return found
 
 
 def keys_in(key: Any) -> List[str]:
     """The paths that a key of a sweep names, with commas between them."""
     if not isinstance(key, str):
-        raise BadArgument("values: %s is no path; one is as fault[0].slot" % shown(key))
+        raise BadArgument(f"values: {shown(key)} is no path; one is as fault[0].slot")
     return key.split(",")
 
 
@@ -101,7 +101,7 @@ def row_of(engine: Engine, scenario: Scenario, choice: Choice) -> SweepRow:
     try:
         return SweepRow(choice, summary_of_output(found.status, found.output))
     except ValueError as fault:
-        raise Failed(("run",), found.status, "but it wrote no report: %s" % fault) from None
+        raise Failed(("run",), found.status, f"but it wrote no report: {fault}") from None
 
 
 def rows_of(scenario: Scenario, values: Mapping[str, Collection[Any]], engine: Engine,
@@ -129,8 +129,8 @@ def sweep(scenario: Source, values: Values, *, engine: Which = None, workers: in
     a row for each, in the order of the values. With several keys each value of one is taken with
     each of the others; "a,b" are two paths that are given the same value.
 
-    So many `workers` run at a time, which helps if a library or a program runs them. Failed is
-    raised if a run gives neither a report nor a refusal."""
+    `workers` runs are under way at a time, which helps if a library or a program runs them. Failed
+    is raised if a run gives neither a report nor a refusal."""
     workers = arguments.integer("workers", workers, 1, MOST_WORKERS)
     return list(rows_of(scenario_of(scenario), values_of(values), choose(["run"], engine), workers))
 
@@ -160,16 +160,16 @@ def values_in(key: str, text: str) -> Collection[Any]:
     found = re.fullmatch(r"(\d+)\.\.(\d+)", text, re.ASCII)
     if found:
         if max(map(len, found.groups())) > MOST_DIGITS:
-            raise BadArgument("%s: the numbers of a range have at most %d digits" % (key, MOST_DIGITS))
+            raise BadArgument(f"{key}: the numbers of a range have at most {MOST_DIGITS} digits")
         low, high = int(found[1]), int(found[2])
         if low > high:
-            raise BadArgument("%s: %s is empty; a range has its lower end first" % (key, text))
+            raise BadArgument(f"{key}: {text} is empty; a range has its lower end first")
         return range(low, high + 1)
     if text.startswith("["):
         try:
             return toml.loads(("values = %s\n" % text).encode())["values"]
         except (ValueError, RecursionError) as fault:
-            raise BadArgument("%s: %s is no array of TOML: %s" % (key, shown(text), fault)) from None
+            raise BadArgument(f"{key}: {shown(text)} is no array of TOML: {fault}") from None
     return [int(it) if re.fullmatch(r"-?\d{1,19}", it, re.ASCII) else it for it in text.split(",")]
 
 
@@ -178,7 +178,7 @@ def main(words: List[str]) -> int:
     parser = Parser("tools/sweep", HELP)
     parser.add_argument("scenario", help="a file, or - for standard input")
     parser.add_argument("values", nargs="+", metavar="KEY=VALUES")
-    parser.add_argument("--engine", help="library, program, quick, model, or a path (docs/LIBRARY.md)")
+    parser.add_argument("--engine", help=ENGINE_HELP)
     parser.add_argument("--workers", type=int, default=1, help="how many runs at a time")
     asked = parser.parse_args(words)
     scenario = Scenario(input_of(asked.scenario), asked.scenario)
@@ -186,12 +186,12 @@ def main(words: List[str]) -> int:
     for word in asked.values:
         key, is_there, text = word.partition("=")
         if not is_there:
-            raise BadArgument("%s is not as KEY=VALUES" % word)
+            raise BadArgument(f"{word} is not as KEY=VALUES")
         given[key] = values_in(key, text)
     workers = arguments.integer("--workers", asked.workers, 1, MOST_WORKERS)
     values, engine = values_of(given), choose(["run"], asked.engine)
     changed_by(scenario, next(choices_of(values)))
-    print("tools/sweep: run by %s" % engine, file=sys.stderr)
+    print(f"tools/sweep: run by {engine}", file=sys.stderr)
     count = math.prod(map(len, values.values()))
     write_csv(list(values), rows_of(scenario, values, engine, workers), count, sys.stdout)
     return 0

@@ -47,7 +47,7 @@ def fault_of(data: bytes) -> tuple[int, int, str] | None:
     try:
         text = data.decode("utf-8")
     except UnicodeDecodeError as fault:
-        return data[: fault.start].count(b"\n") + 1, 1, "the text is to be UTF-8: %s" % fault.reason
+        return data[: fault.start].count(b"\n") + 1, 1, f"the text is to be UTF-8: {fault.reason}"
     deep = model.too_deep_at(text)
     if deep is not None:
         return *line_and_column(text, deep), "a value or a key is nested more than %d levels deep" % (

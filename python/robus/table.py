@@ -38,7 +38,8 @@ def write(kind: Optional[str], source: Iterable[str]) -> None:
 def main(words: list[str]) -> int:
     """tools/table with these words; its status."""
     listed = "\n".join("    %-13s %s" % (kind, ", ".join(columns(kind))) for kind in LINES)
-    parser = Parser("tools/table", HELP % listed, "tools/table KIND [FILE], tools/table --json [FILE]")
+    usage = "tools/table KIND [FILE], tools/table --json [FILE]"
+    parser = Parser("tools/table", HELP % listed, usage)
     parser.add_argument("words", nargs="*", help=argparse.SUPPRESS)
     parser.add_argument("--json", action="store_true", help="JSON of all lines, a line for each")
     asked = parser.parse_args(words)
@@ -51,6 +52,6 @@ def main(words: list[str]) -> int:
         with lines_of(names[0] if names else "-") as source:
             write(kind, source)
     except NoRow as fault:
-        print("tools/table: %s" % fault, file=sys.stderr)
+        print(f"tools/table: {fault}", file=sys.stderr)
         return 3
     return 0

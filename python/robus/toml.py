@@ -34,13 +34,13 @@ def value_text(value: Any) -> str:
     if isinstance(value, (list, tuple)):
         return "[%s]" % ", ".join(map(value_text, value))
     if isinstance(value, dict):
-        items = ", ".join("%s = %s" % (key_text(key), value_text(it)) for key, it in value.items())
-        return "{ %s }" % items if items else "{}"
+        items = ", ".join(f"{key_text(key)} = {value_text(it)}" for key, it in value.items())
+        return f"{{ {items} }}" if items else "{}"
     if isinstance(value, (datetime.date, datetime.time)):
         return value.isoformat()
     if isinstance(value, (int, float)):
         return repr(value)
-    raise TypeError("TOML has no %s" % type(value).__name__)
+    raise TypeError(f"TOML has no {type(value).__name__}")
 
 
 def key_text(key: str) -> str:
@@ -60,9 +60,9 @@ def dumps(document: Dict[str, Any]) -> str:
     lines: List[str] = []
     for key, value in document.items():
         if not is_tables(value):
-            lines.append("%s = %s" % (key_text(key), value_text(value)))
+            lines.append(f"{key_text(key)} = {value_text(value)}")
     for name, tables in document.items():
         for table in tables if is_tables(tables) else []:
-            lines += ["", "[[%s]]" % key_text(name)]
-            lines += ["%s = %s" % (key_text(key), value_text(it)) for key, it in table.items()]
+            lines += ["", f"[[{key_text(name)}]]"]
+            lines += [f"{key_text(key)} = {value_text(it)}" for key, it in table.items()]
     return "\n".join(lines) + "\n"

@@ -10,6 +10,7 @@ from typing import Any, Callable, NoReturn, Optional, TextIO, Tuple
 
 from robus.errors import BadArgument, Failed, NoEngine, Refused
 
+ENGINE_HELP = "library, program, quick, model, or a path (docs/LIBRARY.md)"
 # The statuses of a tool that failed. No program of the repository ends with 70 or 130
 MISUSED, REFUSED, NOT_READ, NOT_WRITTEN, NO_ANSWER, INTERRUPTED = 2, 3, 5, 6, 70, 130
 
@@ -48,11 +49,11 @@ def lines_of(path: str) -> TextIO:
 
 
 class NotWritten(Exception):
-    """Standard output could not be written. It is no OSError, so that no tool takes it for a failure
-    to read a file."""
+    """Standard output could not be written. It is no OSError, so that no tool takes it for a
+    failure to read a file."""
 
     def __init__(self, fault: OSError):
-        super().__init__("standard output could not be written: %s" % fault.strerror)
+        super().__init__(f"standard output could not be written: {fault.strerror}")
         self.is_closed_pipe = isinstance(fault, BrokenPipeError)
 
 
@@ -104,8 +105,8 @@ def failure_of(fault: BaseException) -> Tuple[str, int]:
 
 
 def guarded(tool: str, work: Callable[[], Optional[int]]) -> int:
-    """The status of a tool's work. Whatever it fails at is one line on standard error that begins
-    with the tool's name; a reader that closed the pipe is no failure."""
+    """The status of a tool's work. Every failure is one line on standard error, with the tool's
+    name before it. A reader that closed the pipe is no failure."""
     try:
         status = work() or 0
         if sys.stdout:

@@ -26,7 +26,7 @@ def reads(word: str) -> bool:
 
 
 def count_of(word: str, given: int) -> int:
-    """How many words stand behind the first one, and before the file, if so many are given."""
+    """How many words are between the first one and the file, if `given` words follow the first."""
     if word == "picture":
         return 2 if given > 1 else 0
     return len(FORMS[word][0].split()) - 1
@@ -35,7 +35,7 @@ def count_of(word: str, given: int) -> int:
 def refusal_hint(word: str, file: str) -> str:
     """What is refused, and where more is said about it."""
     if word in SCENARIO_WORDS:
-        return "the scenario is refused; tools/lint %s says where and why" % file
+        return f"the scenario is refused; tools/lint {file} says where and why"
     if word == "bridge":
         return "the bridge is refused; docs/robus_bridge.md says what the line means"
     return "the input is refused; docs/robus%s.md says what the line means" % (
@@ -48,7 +48,7 @@ def meaning(word: str, status: int, file: Optional[str]) -> Optional[str]:
         return ENDED.get(word)
     if status == 1:
         said = BREACH.get(word, "the run ended with a breach of the fault premise")
-        hint = "; tools/explain %s says who broke it" % file if word == "run" and file else ""
+        hint = f"; tools/explain {file} says who broke it" if word == "run" and file else ""
         return said + hint
     if status == 3:
         return refusal_hint(word, file or "SCENARIO")
@@ -59,10 +59,10 @@ def misused(tool: str, words: List[str], is_file: bool) -> str:
     """What is wrong with words that a program does not have. `is_file` says that the last of them
     is a file."""
     found = FORMS.get(words[0]) if words else None
-    form = ", but '%s' (docs/robus.md has the ranges)" % found[0] if found else ""
+    form = f", but '{found[0]}' (docs/robus.md has the ranges)" if found else ""
     lists = tool if tool == "tools/model" else "tools/robus"
     said = "there are no words '%s'%s; %s --help lists them" % (" ".join(words), form, lists)
     if not is_file:
         return said
     call = " ".join([tool, *(words[:-1] or ["run"])])
-    return "%s. It reads standard input: %s < %s" % (said, call, words[-1])
+    return f"{said}. It reads standard input: {call} < {words[-1]}"

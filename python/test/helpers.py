@@ -27,7 +27,8 @@ class Input:
 
 def ending_of(tool: str, words: list, data: bytes = b"") -> tuple[int, str, str]:
     """The status of a tool, and what it writes on standard output and on standard error."""
-    out, said, kept = io.TextIOWrapper(io.BytesIO(), "utf-8", write_through=True), io.StringIO(), sys.stdin
+    out = io.TextIOWrapper(io.BytesIO(), "utf-8", write_through=True)
+    said, kept = io.StringIO(), sys.stdin
     sys.stdin = Input(data)
     try:
         with contextlib.redirect_stdout(out), contextlib.redirect_stderr(said):

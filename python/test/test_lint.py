@@ -100,5 +100,25 @@ class Places(unittest.TestCase):
         self.assertEqual(found.line_of(("clock", 1, "nothing")), 10)
 
 
+class Depth(unittest.TestCase):
+    """docs/SCENARIOS.md: arrays and inline tables are nested at most 80 deep, and a key has at most 80 parts."""
+
+    def test_the_limit(self):
+        for text in ("x = %s%s", "x = %s1%s", "[%s]", "%s = 1", "x = { %s = 1.5 }"):
+            for levels, code in ((80, 3), (81, 1)):
+                if text.count("%s") == 2:
+                    ends = ("[", "]") if "1" not in text else ("{ a = ", " }")
+                    found = text % tuple(it * levels for it in ends)
+                else:
+                    found = text % ".".join(["x"] * levels)
+                data = ("biu = 1\nrmu = 1\nslots = 1\nframes = 1\n%s\n" % found).encode()
+                self.assertEqual(int(lint(data)[0].split()[1]), code, found)
+
+    def test_what_is_far_deeper(self):
+        for text in ("x = " + "[" * 20000, "x." * 2000 + "x = 1"):
+            refusal, found = lint(text.encode())
+            self.assertEqual((refusal, [it.why for it in found]), ("refused 1 NotToml", ["a value or a key is nested more than 80 levels deep"]))
+
+
 if __name__ == "__main__":
     unittest.main()

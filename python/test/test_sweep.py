@@ -38,6 +38,17 @@ class Sweeps(unittest.TestCase):
         self.assertTrue(all(it.summary.convicted == ("B2",) for it in rows))
 
 
+    def test_keys_that_change_together(self):
+        """examples/symmetric_liar.toml: its liar is moved with all that it says."""
+        liar = Scenario.read(EXAMPLES / "symmetric_liar.toml")
+        key = "fault[0].node,say[*].from"
+        rows = robus.sweep(liar, {key: ["R0", "R1", "R2"]})
+        self.assertEqual([it.changes for it in rows], [{key: name} for name in ("R0", "R1", "R2")])
+        self.assertEqual([it.summary.status for it in robus.sweep(liar, {"fault[0].node": ["R0", "R1", "R2"]})].count(3), 2)
+        for row, name in zip(rows, ("R0", "R1", "R2")):
+            self.assertEqual((row.summary.status, row.summary.convicted), (0, (name,)))
+
+
 class Tool(unittest.TestCase):
     def test_rows_of_csv(self):
         status, text = output_of("sweep", [LATE, "fault[0].slot=5..6", "fault[0].node=B2,R2"])

@@ -1,5 +1,5 @@
-"""What the tools in tools/ say and how they end: no failure is taken for a verdict, files are read once, and
-a closed pipe, a full disk and Ctrl-C are told as what they are."""
+"""What the tools in tools/ say and how they end. No failure is taken for a verdict, files are read
+once, and a closed pipe, a full disk and Ctrl-C are reported as what they are."""
 import os
 import pathlib
 import signal
@@ -25,8 +25,8 @@ cat "$here/said" >&2
 exit "$(cat "$here/status")"
 """
 # Tools that write to standard output, each in a way of its own, with words for which they do
-WRITERS = (("run", LATE), ("model", "gen", 7, 1), ("lint", LATE), ("plan", LATE), ("sweep", LATE, "frames=1"),
-           ("scenario", 7))
+WRITERS = (("run", LATE), ("model", "gen", 7, 1), ("lint", LATE), ("plan", LATE),
+           ("sweep", LATE, "frames=1"), ("scenario", 7))
 
 
 def environment(*folders: str, **more: str) -> dict[str, str]:
@@ -38,7 +38,7 @@ def environment(*folders: str, **more: str) -> dict[str, str]:
 def call(*words, path: str | None = None, data: bytes = b"", **more) -> tuple[int, str, str]:
     """The status of a command, and what it writes on standard output and on standard error."""
     env = environment(*([path] if path else []), **more)
-    done = subprocess.run([str(word) for word in words], input=data, capture_output=True, cwd=TOP, env=env)
+    done = subprocess.run(list(map(str, words)), input=data, capture_output=True, cwd=TOP, env=env)
     return done.returncode, done.stdout.decode(), done.stderr.decode()
 
 
@@ -64,8 +64,9 @@ class Words(unittest.TestCase):
             self.assertTrue(said.startswith(tool + ": "), said)
 
     def test_help(self):
-        tools = {str(path.relative_to(TOP)) for path in (TOP / "tools").iterdir() if path.is_file()} - {"tools/robus"}
-        for (tool, _), (status, out, said) in calls(*[(tool, "--help") for tool in sorted(tools)]):
+        files = [it for it in (TOP / "tools").iterdir() if it.is_file() and os.access(it, os.X_OK)]
+        tools = [(f"tools/{it.name}", "--help") for it in files if it.name != "robus"]
+        for (tool, _), (status, out, said) in calls(*tools):
             self.assertEqual((status, said), (0, ""), tool)
             self.assertIn(tool, out)
         status, out, said = call("make", "-s", "help")
@@ -75,21 +76,22 @@ class Words(unittest.TestCase):
     def test_no_file(self):
         bridge = EXAMPLES / "bridges/carried_words.toml"
         for tool, name in (("run", "run"), ("draw", "picture"), ("bridge", "bridge")):
-            for path, why in (("nosuch.toml", "No such file or directory"), ("/", "Is a directory")):
-                self.assertEqual(ending_of(tool, [path]), (2, "", "tools/%s: %s: %s\n" % (name, path, why)))
+            for path, why in (("no.toml", "No such file or directory"), ("/", "Is a directory")):
+                line = f"tools/{name}: {path}: {why}\n"
+                self.assertEqual(ending_of(tool, [path]), (2, "", line))
         self.assertIn("is a bridge of two buses: make bridge", ending_of("run", [bridge])[2])
-        self.assertIn("is a scenario of one bus: make run", ending_of("bridge", [EXAMPLES / "two_sided.toml"])[2])
+        self.assertIn("is a scenario of one bus: make run", ending_of("bridge", [LATE])[2])
 
     def test_a_file_behind_the_words_is_to_be_standard_input(self):
         said = call("tools/robus", "record", "B0", "README.md")[2]
-        self.assertTrue(said.endswith(" It reads standard input: tools/robus record B0 < README.md\n"), said)
+        self.assertIn(" It reads standard input: tools/robus record B0 < README.md\n", said)
 
     def test_words_of_the_package(self):
         env = dict(PYTHONPATH=str(TOP / "python"))
         self.assertEqual(call("python3", "-m", "robus", **env)[0], 2)
         self.assertEqual(call("python3", "-m", "robus", "--help", **env)[0], 0)
-        self.assertEqual(call("python3", "-m", "robus", "nix", **env),
-                         (2, "", "robus: there is no word nix; python3 -m robus --help lists them\n"))
+        line = "robus: there is no word nix; python3 -m robus --help lists them\n"
+        self.assertEqual(call("python3", "-m", "robus", "nix", **env), (2, "", line))
 
 
 class Verdicts(unittest.TestCase):
@@ -99,12 +101,14 @@ class Verdicts(unittest.TestCase):
         status, out, said = call("tools/run", EXAMPLES / "too_few_good.toml")
         self.assertEqual((status, out.splitlines()[-1]), (1, "breach 0 0 2 FewGoodRmu"))
         self.assertIn("tools/run: status 1: the run ended with a breach", said)
-        self.assertEqual(call("make", "-s", "run", "SCENARIO=examples/too_few_good.toml")[:2], (0, out))
-        self.assertEqual(call("tools/run", "-", data=b"biu = 1\n")[:2], (3, "refused 2 MissingKey\n"))
+        make = call("make", "-s", "run", "SCENARIO=examples/too_few_good.toml")
+        self.assertEqual(make[:2], (0, out))
+        refused = call("tools/run", "-", data=b"biu = 1\n")
+        self.assertEqual(refused[:2], (3, "refused 2 MissingKey\n"))
         self.assertEqual(call("make", "-s", "run", "SCENARIO=Makefile")[0], 2)
 
     def test_a_python_that_is_too_old_or_does_not_run(self):
-        for text, found in (("exit 1", "missing"), ("echo 3.9", "3.9"), ("echo 3.6; exit 1", "missing")):
+        for text, found in (("exit 1", "missing"), ("echo 3.9", "3.9"), ("echo; exit 1", "missing")):
             with tempfile.TemporaryDirectory() as folder:
                 program_in(folder, "python3", "#!/bin/sh\n%s\n" % text)
                 for tool in ("run", "lint"):
@@ -115,7 +119,8 @@ class Verdicts(unittest.TestCase):
     def test_engines_that_give_no_report(self):
         engines = ("/bin/true", "/bin/false", "/bin/cat", "/bin", "README.md")
         lines = [("tools/run", LATE, "--engine", engine) for engine in engines]
-        for words, (status, _, said) in calls(*lines, ("tools/sweep", LATE, "frames=1", "--engine", "/bin/true")):
+        lines.append(("tools/sweep", LATE, "frames=1", "--engine", "/bin/true"))
+        for words, (status, _, said) in calls(*lines):
             self.assertEqual(status, 70, (words, said))
             self.assertTrue(said.splitlines()[-1].startswith(words[0] + ": "), said)
             self.assertNotIn("Traceback", said)
@@ -134,7 +139,8 @@ class Input(unittest.TestCase):
         whole = call("tools/run", LATE)[1]
         self.assertTrue(whole.endswith("end 3\n"))
         for words in (["run", "/dev/stdin"], ["robus", "run"]):
-            self.assertEqual(call("tools/" + words[0], *words[1:], data=LATE.read_bytes())[:2], (0, whole), words)
+            found = call("tools/" + words[0], *words[1:], data=LATE.read_bytes())
+            self.assertEqual(found[:2], (0, whole), words)
         with tempfile.TemporaryDirectory() as folder:
             pipe = pathlib.Path(folder, "pipe")
             os.mkfifo(pipe)
@@ -144,7 +150,8 @@ class Input(unittest.TestCase):
     def test_a_folder_as_standard_input(self):
         folder = os.open(EXAMPLES, os.O_RDONLY)
         try:
-            done = subprocess.run([str(TOP / "tools/robus"), "run"], stdin=folder, capture_output=True, env=environment())
+            done = subprocess.run([str(TOP / "tools/robus"), "run"], stdin=folder,
+                                  capture_output=True, env=environment())
         finally:
             os.close(folder)
         self.assertEqual((done.returncode, done.stdout), (5, b""))
@@ -154,15 +161,17 @@ class Input(unittest.TestCase):
 class Endings(unittest.TestCase):
     def started(self, words, **how) -> subprocess.Popen:
         """A tool of tools/ that is under way."""
-        return subprocess.Popen([str(TOP / "tools" / words[0]), *map(str, words[1:])], stderr=subprocess.PIPE,
-                                env=environment(), text=True, **how)
+        command = [str(TOP / "tools" / words[0]), *map(str, words[1:])]
+        return subprocess.Popen(command, stderr=subprocess.PIPE, env=environment(), text=True,
+                                **how)
 
     def endings(self, out: int) -> list[tuple[str, int, list[str]]]:
-        """The name, the status and the lines of each tool that writes to this descriptor; what ran it is left out."""
+        """The name, the status and the lines of each tool that writes to this descriptor. The line
+        that says what ran it is left out."""
         found = []
         for words, tool in [(words, self.started(words, stdout=out)) for words in WRITERS]:
             with tool:
-                lines = [line for line in tool.stderr.read().splitlines() if ": run by " not in line]
+                lines = [it for it in tool.stderr.read().splitlines() if ": run by " not in it]
             found.append((words[0], tool.returncode, lines))
         return found
 
@@ -186,13 +195,15 @@ class Endings(unittest.TestCase):
             tool.send_signal(signal.SIGINT)
             said = tool.stderr.read()
         self.assertTrue(rows[1].startswith("3,0,"), rows)
-        self.assertEqual((tool.returncode, said.splitlines()[-1]), (130, "tools/sweep: interrupted"))
+        self.assertEqual(said.splitlines()[-1], "tools/sweep: interrupted")
+        self.assertEqual(tool.returncode, 130)
 
 
 class Quick(unittest.TestCase):
     """An unproved build that keeps nothing: each call goes through `rt try`."""
 
-    def quick(self, out: bytes, said: str, status: int, builds: bool = True, words=("tools/quick", "robus", "run")):
+    def quick(self, out: bytes, said: str, status: int, builds: bool = True):
+        """What tools/quick gives if `rt` writes this; `builds` says that a build succeeds."""
         with tempfile.TemporaryDirectory() as folder:
             program_in(folder, "rt", RT)
             pathlib.Path(folder, "out").write_bytes(out)
@@ -200,33 +211,38 @@ class Quick(unittest.TestCase):
             pathlib.Path(folder, "status").write_text(str(status))
             if builds:
                 pathlib.Path(folder, "builds").touch()
-            found = call(*words, path=folder, data=b"biu = 1\n")
+            found = call("tools/quick", "robus", "run", path=folder, data=b"biu = 1\n")
             if builds:
                 self.assertEqual(pathlib.Path(folder, "input").read_bytes(), b"biu = 1\n")
             return found
 
     def test_what_the_program_wrote_and_its_status(self):
-        status, out, said = self.quick(b"refused 2 MissingKey\n", "checked: ended status=3\nrun=ended status=3 proved=no\n", 3)
+        ended = "checked: ended status=3\nrun=ended status=3 proved=no\n"
+        status, out, said = self.quick(b"refused 2 MissingKey\n", ended, 3)
         self.assertEqual((status, out), (3, "refused 2 MissingKey\n"))
         self.assertNotIn("run=ended", said)
 
     def test_a_build_that_fails(self):
-        status, out, said = self.quick(b"half a report", "error: no such function\nrun=none\n", 1, builds=False)
+        failed = "error: no such function\nrun=none\n"
+        status, out, said = self.quick(b"half a report", failed, 1, builds=False)
         self.assertEqual((status, out), (70, ""))
         self.assertIn("error: no such function", said)
 
     def test_a_report_that_is_too_long_for_it(self):
-        status, out, said = self.quick(b"half a report", "the program wrote more than 1048576 bytes, the limit\nrun=none\n", 6)
+        limit = "the program wrote more than 1048576 bytes, the limit\nrun=none\n"
+        status, out, said = self.quick(b"half a report", limit, 6)
         self.assertEqual((status, out), (70, ""))
-        self.assertIn("more than 1048576 bytes, which is the limit of a quick build; the program of 'make build' has none\n", said)
+        self.assertIn("more than 1048576 bytes, which is the limit of a quick build; "
+                      "the program of 'make build' has none\n", said)
         self.assertNotIn("run=none", said)
 
     def test_where_a_build_is_kept(self):
-        """In .quick of the repository, or in the user's cache folder where that may not be written."""
+        """In .quick of the repository, or in the user's cache folder if that may not be written."""
         with tempfile.TemporaryDirectory() as folder:
             top, cache = pathlib.Path(folder, "top"), pathlib.Path(folder, "cache")
             top.mkdir()
-            with mock.patch.object(quick, "TOP", top), mock.patch.dict(os.environ, XDG_CACHE_HOME=str(cache)):
+            environ = mock.patch.dict(os.environ, XDG_CACHE_HOME=str(cache))
+            with mock.patch.object(quick, "TOP", top), environ:
                 self.assertEqual(quick.folder_for_builds(), top / ".quick")
                 (top / ".quick").rmdir()
                 (top / ".quick").write_text("no folder")

@@ -18,7 +18,7 @@ Pattern = tuple[int, int | None]  # a node, or all nodes of a kind
 Pair = tuple[int, int]  # the first and the last of a range
 Word = int | None  # a word, or FAULT
 Message = tuple[int, int, int, int, int]  # tag, frame modulo 65536, slot, stage, value
-# Of a clock: from which tick on a tick has which length in reference units
+# The lengths of a clock's ticks in reference units, each with the first tick that has it
 Segments = list[list[int]]
 Trusted = list[set[int]]  # by kind the numbers of the nodes that a node trusts
 # By source its value, or in the sync slot stamp and FAULT

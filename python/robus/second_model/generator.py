@@ -16,7 +16,7 @@ def drawn(seed: int) -> Iterator[int]:
 
 
 def generated(seed: int, frames: int) -> bytes:
-    """The document that `gen` writes for a seed and so many frames."""
+    """The document that `gen` writes for a seed and a number of frames."""
     numbers, bus = drawn(seed), Bus(8, 5, 16)
     plan, nodes, middle = bus.plan, bus.nodes(), frames // 2
     fall = next(numbers) % frames

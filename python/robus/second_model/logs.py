@@ -22,7 +22,7 @@ def log_header(bus: Bus, node: Node) -> bytes:
 
 
 class LogReader:
-    """Reads a log from its begin to its end; `place` is the number of the byte that is read
+    """Reads a log from start to end; `place` is the number of the byte that is read
     next."""
 
     def __init__(self, text: bytes) -> None:

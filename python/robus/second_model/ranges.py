@@ -44,7 +44,7 @@ def pair_in(pair: list[int], least: int, most: int) -> Pair:
 
 def list_in(document: Document, key: str, count: int, default: int, least: int = 0,
             most: int = (1 << 32) - 1) -> list[int]:
-    """The numbers at a key, one for each of the count, or so many times the default; refused by
+    """The numbers at a key, one for each of the count, or the default `count` times; refused by
     rule 5 where one is out of the range."""
     values = document.get(key, [default] * count)
     if len(values) != count:

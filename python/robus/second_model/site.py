@@ -98,7 +98,7 @@ class Site:
 
 @dataclass
 class FrameStart:
-    """What a node tells of the begin of a frame."""
+    """What a node reports as a frame starts."""
 
     tick: int
     time: int

@@ -42,7 +42,7 @@ def may_break(before: str, after: str) -> bool:
 
 def older_parts(text: str) -> list[tuple[str, str]]:
     """The parts of a document of TOML 1.1, each with what stands for it in TOML 1.0: nothing for a
-    byte order mark at its begin."""
+    byte order mark at its start."""
     mark = "\ufeff" * text.startswith("\ufeff")
     found = [(it.lastgroup, it[0]) for it in TOML_PART.finditer(text, len(mark))]
     after, then = [], ""

@@ -27,6 +27,6 @@ def owners_of(bus: Bus, requested: list[int], trusted: set[int]) -> list[int | N
 
 
 def convicted_by(vectors: list[int], trusted: set[int]) -> set[int]:
-    """Of the trusted nodes those that more of the vectors name than spare."""
+    """The trusted nodes that more of the vectors name than spare."""
     named = {node: sum(vector >> node & 1 for vector in vectors) for node in trusted}
     return {node for node in trusted if 2 * named[node] > len(vectors)}

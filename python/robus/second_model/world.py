@@ -154,7 +154,7 @@ class World:
                 self.settle_stage(*self.milestone[1:], good, told)
 
     def settle_frame(self, frame: int, starts: dict[Node, FrameStart]) -> None:
-        """Reports the begin of a frame by what its good nodes tell, or the end of the run."""
+        """Reports the start of a frame by what its good nodes tell, or the end of the run."""
         self.told.pop(self.milestone, None)
         for node, start in starts.items():
             self.lines.append(f"e {frame} {name_of(node)} {start.tick} {start.time}")
