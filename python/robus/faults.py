@@ -1,36 +1,55 @@
-"""Writes the entries of a node that is good but for given lies."""
+"""Writes the entries of nodes that are good but for given lies."""
 from __future__ import annotations
 
 import argparse
 import re
 import sys
-from dataclasses import dataclass
+from dataclasses import dataclass, field
 
+from robus.explanation import names
 from robus.layout import purpose, scenario_or_status
 from robus.model import Slot, Stage, model, name_of
 
-HELP = """Writes the [[fault]] entry and the [[say]] entries of a node that does all that a good node does, but for the given lies. It runs
-the scenario on tools/model, in which the node goes on by the rules after its first lie, and is not proved.
+HELP = """Writes the [[fault]] entry and the [[say]] entries of nodes that do all that good nodes
+do, but for the given lies. The scenario runs on tools/model, in which such a node goes on by the
+rules after its first lie. It is not proved.
 
-    tools/faults SCENARIO NODE LIE..
+    tools/faults SCENARIO NODE LIE.. [NODE LIE..].. [--unaware]
 
-A LIE is FRAMES/SLOTS=WHAT or FRAMES/SLOTS/STAGES=WHAT, and @NODES behind it where only some nodes are lied to. FRAMES, SLOTS and STAGES are
-numbers or ranges a..b; WHAT is a word, silent, or fault (that there is no word); NODES are names with commas between them.
+A LIE is FRAMES/SLOTS=WHAT or FRAMES/SLOTS/STAGES=WHAT, followed by @NODES if only some nodes are
+lied to. FRAMES, SLOTS and STAGES are numbers or ranges a..b; WHAT is a word, silent, or fault (that
+there is no word); NODES are names with commas between them, and self for the node that lies.
 
-    tools/faults bus.toml B1 0/4/1=7@R0 0/4/1=8@R1,R2    in frame 0, slot 4, stage 1 B1 says 7 to R0 and 8 to R1 and R2
-    tools/faults bus.toml R2 0/5=silent                  in frame 0, slot 5 R2 says nothing
+    tools/faults bus.toml B1 0/4/1=7@R0 0/4/1=8@R1,R2    in frame 0, slot 4, stage 1 B1 says 7
+                                                         to R0 and 8 to R1 and R2
+    tools/faults bus.toml R2 0/5=silent B0 1/3=9         in frame 0, slot 5 R2 says nothing, and
+                                                         in frame 1, slot 3 B0 says 9
 
-The entries go behind the scenario: cat bus.toml lies.toml | robus run. The node must have no [[fault]] entry yet.
+A node expects its own word back from those that relay it, and accuses each that relays another one.
+Its accusations go into its vectors, and these count in convictions. So it matters what the liar
+believes it said. A lie that all receivers are told alike is told to the liar too, which then
+accuses nobody for it. If receivers are told different things, the liar keeps the right word and
+accuses all that relay a lie, unless a lie names self among its NODES: then it keeps that one. With
+--unaware it always keeps the right word, like a node whose transmitter is broken. The head of the
+output and a line on standard error say whom the lies make a node accuse.
+
+The entries go behind the scenario: cat bus.toml lies.toml | robus run. The nodes must have no
+[[fault]] entry yet. Name all liars of a run in one call: entries that were written before do not
+follow what others say later.
 
 status: 0 done, 2 wrong words or no such file, 3 the scenario is refused, 4 it is too long"""
 
-LIE = re.compile(r"(\d+)(?:\.\.(\d+))?/(\d+)(?:\.\.(\d+))?(?:/(\d+)(?:\.\.(\d+))?)?=(silent|fault|\d+)(?:@([BR]\d+(?:,[BR]\d+)*))?")
-Entry = tuple[str, model.Pair, model.Pair, int, tuple[str, ...]]  # to whom, frames, slots, stage, and the lines behind these
+NAME = r"[BR]\d+"
+SPAN = r"(\d+)(?:\.\.(\d+))?"
+NODES = rf"(?:{NAME}|self)"
+LIE = re.compile(rf"{SPAN}/{SPAN}(?:/{SPAN})?=(silent|fault|\d+)(?:@({NODES}(?:,{NODES})*))?")
+# To whom, frames, slots, stage, and the lines behind these
+Entry = tuple[str, model.Pair, model.Pair, int, tuple[str, ...]]
 
 
 @dataclass
 class Lie:
-    """Another word than the right one: where, to whom (all, where it is empty), and what; silence is None."""
+    """Another message than the right one: where, to whom (all, if it is empty), and what."""
 
     frames: model.Pair
     slots: model.Pair
@@ -40,10 +59,22 @@ class Lie:
     text: str
     is_used: bool = False
 
+    def is_at(self, place: Stage) -> bool:
+        """Whether somebody is lied to at this place."""
+        spans = (self.frames, self.slots, self.stages)
+        return all(low <= it <= high for (low, high), it in zip(spans, place))
+
     def is_for(self, place: Stage, target: model.Node) -> bool:
         """Whether a node is lied to at this place."""
-        spans = (self.frames, self.slots, self.stages)
-        return all(low <= it <= high for (low, high), it in zip(spans, place)) and (not self.targets or target in self.targets)
+        return self.is_at(place) and (not self.targets or target in self.targets)
+
+    def bytes_at(self, bus: model.Bus, place: Stage) -> bytes | None:
+        """The bytes of the lie; None for silence."""
+        if self.what == "silent":
+            return None
+        if self.what == "fault":
+            return model.spell(bus, model.FAULT_TAG, *place)
+        return model.spell(bus, model.WORD_TAG, *place, int(self.what))
 
 
 class Wrong(Exception):
@@ -55,120 +86,181 @@ def span(first: str, last: str | None) -> tuple[int, int]:
     return int(first), int(last or first)
 
 
+def targets_in(text: str, named: str | None, bus: model.Bus,
+               node: model.Node) -> tuple[model.Node, ...]:
+    """The nodes that a lie names, the liar itself among them for `self`."""
+    found = []
+    for name in named.split(",") if named else []:
+        is_self = name == "self"
+        target = node if is_self else ("BR".index(name[0]), int(name[1:]))
+        if not is_self and (target not in bus.nodes() or target[0] == node[0]):
+            raise Wrong(f"{text}: {name} is no node of the other kind")
+        found.append(target)
+    return tuple(found)
+
+
 def lie_in(text: str, scenario: model.Scenario, node: model.Node) -> Lie:
-    """The lie of a node that a word is; Wrong where it is none in this scenario."""
+    """The lie of a node that a word is; Wrong if it is none in this scenario."""
     found = LIE.fullmatch(text)
     if not found:
-        raise Wrong("%s is no lie: they are as 0/4/1=7@R0 or 0/5=silent" % text)
-    frames, slots, stages = (span(found[1], found[2]), span(found[3], found[4]), span(found[5], found[6]) if found[5] else (1, 3))
-    for what, (low, high), least, most in (("frames", frames, 0, scenario.frames - 1), ("slots", slots, 0, scenario.bus.sync),
+        raise Wrong(f"{text} is no lie: one is as 0/4/1=7@R0 or 0/5=silent")
+    frames, slots = span(found[1], found[2]), span(found[3], found[4])
+    stages = span(found[5], found[6]) if found[5] else (1, 3)
+    for what, (low, high), least, most in (("frames", frames, 0, scenario.frames - 1),
+                                           ("slots", slots, 0, scenario.bus.sync),
                                            ("stages", stages, 1, 3)):
         if not least <= low <= high <= most:
-            raise Wrong("%s: %s are to be a range within %d to %d" % (text, what, least, most))
-    targets = tuple((("B", "R").index(name[0]), int(name[1:])) for name in (found[8] or "").split(",") if name)
-    for target in targets:
-        if target not in scenario.bus.nodes() or target[0] == node[0]:
-            raise Wrong("%s: %s is no node of the other kind" % (text, name_of(target)))
+            raise Wrong(f"{text}: {what} are to be a range within {least} to {most}")
+    targets = targets_in(text, found[8], scenario.bus, node)
     if found[7].isdigit() and int(found[7]) >= 1 << 32:
-        raise Wrong("%s: a word is below 4294967296" % text)
+        raise Wrong(f"{text}: a word is below 4294967296")
     return Lie(frames, slots, stages, found[7], targets, text)
 
 
-class Liar(model.World):
-    """A run in which one node is not counted as good from its first lie on, and goes on by the rules all the same, but for its lies.
+@dataclass
+class Liar:
+    """A node with its lies, and what it did in the run."""
 
-    `came` has what came of it from then on: frame, slot, stage, receiver, tick of the receiver's window, how early in units, bytes."""
+    node: model.Node
+    lies: list[Lie]
+    is_aware: bool = True  # whether it keeps its own lies as its word
+    # What came from it from its first lie on, to nodes that are good then: frame, slot, stage,
+    # receiver, tick of the receiver's window, how early in units, bytes
+    came: list[tuple[int, int, int, model.Node, int, int, bytes]] = field(default_factory=list)
+    # The stages in which its lies make it accuse nodes, and these
+    accused: dict[Stage, set[model.Node]] = field(default_factory=dict)
+    last_lie: Slot | None = None  # the slot of its last lie about its own word
+    is_convicted: bool = False  # nobody takes anything from it any more
 
-    came: list[tuple[int, int, int, model.Node, int, int, bytes]]
+    @property
+    def onset(self) -> Slot:
+        """The frame and slot of its first lie."""
+        return min((lie.frames[0], lie.slots[0]) for lie in self.lies)
 
-    def __init__(self, scenario: model.Scenario, node: model.Node, lies: list[Lie]) -> None:
-        self.node, self.lies, self.came = node, lies, []
-        self.is_convicted = False  # from then on nobody takes what it says
+    def said_to(self, bus: model.Bus, target: model.Node, place: Stage,
+                text: bytes) -> bytes | None:
+        """What it says to a node in place of the right bytes; the last lie for it counts."""
+        for lie in reversed(self.lies):
+            if lie.is_for(place, target):
+                lie.is_used = True
+                return lie.bytes_at(bus, place)
+        return text
+
+    def believed(self, bus: model.Bus, place: Stage, told: list[bytes | None],
+                 text: bytes) -> model.Word:
+        """What it keeps as its own word: a lie that is for itself, else what all are told if they
+        are told the same, else the right word."""
+        said = text
+        if self.is_aware and any(lie.is_for(place, self.node) for lie in self.lies):
+            said = self.said_to(bus, self.node, place, text)
+        elif self.is_aware and len(set(told)) == 1:
+            said = told[0]
+        found = None if said is None else model.read_message(bus, said)
+        return found[4] if found and found[0] == model.WORD_TAG else model.FAULT
+
+
+class Lying(model.World):
+    """A run in which some nodes are not counted as good from their first lies on, and go on by the
+    rules all the same, but for their lies."""
+
+    def __init__(self, scenario: model.Scenario, liars: list[Liar]) -> None:
+        self.liars = {liar.node: liar for liar in liars}
         super().__init__(scenario)
-        liar = self.sites[node]
-        liar.is_running = lambda: liar.core.frame < scenario.frames
-        for site in self.sites.values():
-            if site.node[0] != node[0]:
-                self.listen_at(site)
-        if not scenario.is_good(node, 0, 0):
-            self.tell_frame(liar)
-            self.open_window(liar)
-            self.push_tick(liar)
+        for node, site in self.sites.items():
+            self.listen_at(site)
+            if node in self.liars:
+                self.keep_running(site)
+                if not scenario.is_good(node, 0, 0):
+                    self.tell_frame(site)
+                    self.open_window(site)
+                    self.push_tick(site)
+
+    def keep_running(self, site: model.Site) -> None:
+        """Has a liar's node run to the end, though it is not good any more."""
+        site.is_running = lambda: site.core.frame < self.scenario.frames
 
     def listen_at(self, site: model.Site) -> None:
-        """Has all kept that comes of the liar to a node of the other kind, as long as anybody takes it."""
+        """Keeps all that comes from liars to a good node, until they are convicted."""
         arrive = site.arrive
 
         def kept(time: int, source: int, text: bytes) -> None:
-            """Hands bytes over to the node, after keeping those of the liar that come from its first lie on."""
-            core, frame = site.core, site.core.frame
-            tick = site.clock.stamp_of(time)
-            if source == self.node[1] and not self.is_convicted and not self.scenario.is_good(self.node, frame, core.window.slot):
-                early = site.clock.time_of(tick) - time
-                self.came.append((frame, core.window.slot, core.window.stage, site.node, tick - core.first, early, text))
+            """Keeps bytes that come from a liar from its first lie on, and hands all over."""
+            core, liar = site.core, self.liars.get((model.other(site.node[0]), source))
+            tick, place = site.clock.stamp_of(time), (core.frame, core.window.slot)
+            is_good = self.scenario.is_good
+            if liar and not liar.is_convicted and is_good(site.node, *place):
+                if not is_good(liar.node, *place):
+                    early = site.clock.time_of(tick) - time
+                    liar.came.append((*place, core.window.stage, site.node, tick - core.first,
+                                      early, text))
             arrive(time, source, text)
 
         site.arrive = kept
 
     def settle_frame(self, frame: int, starts: dict[model.Node, model.FrameStart]) -> None:
-        """Looks whether the liar is convicted from this frame on, too."""
-        self.is_convicted = any(start.convicted[self.node[0]] >> self.node[1] & 1 for start in starts.values())
+        """Looks who of the liars is convicted from this frame on, too."""
+        for (kind, number), liar in self.liars.items():
+            liar.is_convicted = any(it.convicted[kind] >> number & 1 for it in starts.values())
         super().settle_frame(frame, starts)
 
-    def send(self, node: model.Node, time: int, frame: int, slot: int, stage: int, text: bytes) -> None:
-        """Sends to each node what the lies make of the bytes, where the liar speaks from its first lie on."""
-        if node != self.node or self.scenario.is_good(node, frame, slot):
+    def send(self, node: model.Node, time: int, frame: int, slot: int, stage: int,
+             text: bytes) -> None:
+        """Sends to each node what the lies make of the bytes, from a liar's first lie on."""
+        liar, place, told = self.liars.get(node), (frame, slot, stage), []
+        if liar is None or self.scenario.is_good(node, frame, slot):
             super().send(node, time, frame, slot, stage, text)
             return
-        for number in range(self.bus.size(model.other(node[0]))):
-            target = model.other(node[0]), number
-            said = self.said_to(target, (frame, slot, stage), text)
+        for target in (it for it in self.bus.nodes() if it[0] != node[0]):
+            said = liar.said_to(self.bus, target, place, text)
+            told.append(said)
             if said is not None:
-                delay = self.scenario.delay_of(node, target, frame, slot, stage)
+                delay = self.scenario.delay_of(node, target, *place)
                 self.push(time + delay, target, node[1], said)
+        if stage == 1 and slot < self.bus.sync and any(it.is_at(place) for it in liar.lies):
+            self.sites[node].core.kept = liar.believed(self.bus, place, told, text)
+            liar.last_lie = frame, slot
 
-    def said_to(self, target: model.Node, place: Stage, text: bytes) -> bytes | None:
-        """What is said to a node in place of the right bytes; the last lie that is for it counts."""
-        for lie in reversed(self.lies):
-            if lie.is_for(place, target):
-                lie.is_used = True
-                if lie.what == "silent":
-                    return None
-                if lie.what == "fault":
-                    return model.spell(self.bus, model.FAULT_TAG, *place)
-                return model.spell(self.bus, model.WORD_TAG, *place, int(lie.what))
-        return text
+    def proceed(self, site: model.Site, time: int, item: int) -> None:
+        """Has a tick of a node, and keeps whom a liar accuses because of its own lie."""
+        core, liar = site.core, self.liars.get(site.node)
+        place, before = (core.frame, core.window.slot, core.window.stage), set(core.mismatched)
+        super().proceed(site, time, item)
+        if liar and place[:2] == liar.last_lie and core.mismatched - before:
+            liar.accused[place] = {(core.far, it) for it in core.mismatched - before}
 
 
-def payload(run: Liar, slot: int, tick: int, early: int, text: bytes) -> tuple[str, ...]:
-    """What an entry says: the lines behind its ranges. Below the sync slot the tick within the window has no meaning, and is left out."""
-    tag, _, _, _, value = model.read_message(run.bus, text)
-    said = {model.WORD_TAG: "word = %d" % value, model.FAULT_TAG: "fault = true", model.SYNC_TAG: "sync = true"}[tag]
-    if slot < run.bus.sync:
+def payload(bus: model.Bus, slot: int, tick: int, early: int, text: bytes) -> tuple[str, ...]:
+    """What an entry says: the lines behind its ranges. Below the sync slot the tick within the
+    window has no meaning, and is left out."""
+    tag, _, _, _, value = model.read_message(bus, text)
+    said = {model.WORD_TAG: f"word = {value}", model.FAULT_TAG: "fault = true",
+            model.SYNC_TAG: "sync = true"}[tag]
+    if slot < bus.sync:
         return (said,)
-    plan = run.bus.plan
-    at = () if tick == plan.h else ("offset = %d" % tick,)
-    early = min(early, plan.u - plan.r - 1)
-    return at + (("early = %d" % early,) if early else ()) + (said,)
+    at = () if tick == bus.plan.h else (f"offset = {tick}",)
+    early = min(early, bus.plan.u - bus.plan.r - 1)
+    return at + ((f"early = {early}",) if early else ()) + (said,)
 
 
-def entries(run: Liar) -> list[Entry]:
-    """The entries: to whom, frames, slots, stage, payload. Those that differ in one range alone are made one."""
-    far = model.other(run.node[0])
+def entries(scenario: model.Scenario, liar: Liar) -> list[Entry]:
+    """A liar's entries. Those that differ in one range alone are made one."""
+    bus, far = scenario.bus, model.other(liar.node[0])
     places: dict[Stage, dict[tuple[str, ...], list[model.Node]]] = {}
-    for frame, slot, stage, target, tick, early, text in run.came:
-        places.setdefault((frame, slot, stage), {}).setdefault(payload(run, slot, tick, early, text), []).append(target)
+    for frame, slot, stage, target, tick, early, text in liar.came:
+        said = places.setdefault((frame, slot, stage), {})
+        said.setdefault(payload(bus, slot, tick, early, text), []).append(target)
     single = []
     for (frame, slot, stage), said in sorted(places.items()):
-        running = {node for node in run.bus.nodes() if node[0] == far and run.scenario.is_good(node, frame, slot)}
+        good = {it for it in bus.nodes() if it[0] == far and scenario.is_good(it, frame, slot)}
         for what, targets in said.items():
-            names = ["BR"[far]] if running <= set(targets) else [name_of(it) for it in targets]
-            single += [(name, (frame, frame), (slot, slot), stage, what) for name in names]
+            to = ["BR"[far]] if good <= set(targets) else [name_of(it) for it in targets]
+            single += [(name, (frame, frame), (slot, slot), stage, what) for name in to]
     return merged(merged(single, 2), 1)
 
 
 def merged(rows: list[Entry], at: int) -> list[Entry]:
-    """Rows that are alike but for the range at this place, where one ends just before the other begins, as one."""
+    """The rows, those made one that are alike but for the range at this place, if one of them ends
+    just before the other begins."""
     open_rows: dict[tuple[object, ...], int] = {}
     done: list[Entry] = []
     for row in sorted(rows, key=lambda it: it[at]):
@@ -182,22 +274,65 @@ def merged(rows: list[Entry], at: int) -> list[Entry]:
     return sorted(done, key=lambda it: (it[1], it[2], it[3], it[0]))
 
 
-def text_of(run: Liar, onset: Slot) -> str:
-    """The entries as TOML."""
-    name = name_of(run.node)
-    lines = ["", "[[fault]]", 'node = "%s"' % name, "frame = %d" % onset[0], "slot = %d" % onset[1]]
-    for to, frames, slots, stage, what in entries(run):
-        there = " to ".join(purpose(run.bus, slot) for slot in sorted(set(slots)))
-        lines += ["", "[[say]] # " + there, 'from = "%s"' % name, 'to = "%s"' % to, "frames = [%d, %d]" % frames,
-                  "slots = [%d, %d]" % slots, "stages = [%d, %d]" % (stage, stage), *what]
+def accusations(bus: model.Bus, liar: Liar) -> list[str]:
+    """Whom its lies make a liar accuse, a line for each stage in which it finds others."""
+    return [f"{name_of(liar.node)} accuses {names(found)} from frame {frame}, slot {slot} "
+            f"({purpose(bus, slot)}), stage {stage} on: they relay another word than it keeps as "
+            "its own" for (frame, slot, stage), found in sorted(liar.accused.items())]
+
+
+def text_of(scenario: model.Scenario, liar: Liar) -> str:
+    """A liar's entries as TOML, behind comments on whom its lies make it accuse."""
+    name, (frame, slot) = name_of(liar.node), liar.onset
+    notes = accusations(scenario.bus, liar) or [f"{name} accuses nobody for its own lies"]
+    lines = ["", *("# " + it for it in notes), "[[fault]]", f'node = "{name}"',
+             f"frame = {frame}", f"slot = {slot}"]
+    for to, frames, slots, stage, what in entries(scenario, liar):
+        there = " to ".join(purpose(scenario.bus, it) for it in sorted(set(slots)))
+        lines += ["", "[[say]] # " + there, f'from = "{name}"', f'to = "{to}"',
+                  f"frames = [{frames[0]}, {frames[1]}]", f"slots = [{slots[0]}, {slots[1]}]",
+                  f"stages = [{stage}, {stage}]", *what]
     return "\n".join(lines) + "\n"
 
 
-def lying(scenario: model.Scenario, node: model.Node, lies: list[Lie]) -> tuple[Liar, Slot]:
-    """The run of a scenario with the liar, and where the first lie is."""
-    onset = min((lie.frames[0], lie.slots[0]) for lie in lies)
-    scenario.onsets[node] = onset
-    return Liar(scenario, node, lies).run(), onset
+def lying(scenario: model.Scenario, liars: list[Liar]) -> Lying:
+    """The run of a scenario with the liars; Wrong if a lie changes nothing that its node says or
+    keeps."""
+    scenario.onsets.update({liar.node: liar.onset for liar in liars})
+    run = Lying(scenario, liars).run()
+    for liar, lie in ((liar, lie) for liar in liars for lie in liar.lies if not lie.is_used):
+        where, why = purpose(run.bus, lie.slots[0]), "the run ends with a breach first"
+        if not run.breach:
+            why = (f"a good {name_of(liar.node)} says nothing there, in {where} (tools/layout says "
+                   "who speaks in which slot and stage), or a later lie is for the same receivers")
+        raise Wrong(f"{lie.text}: {why}; a [[say]] entry by hand can")
+    return run
+
+
+def liars_in(words: list[str], scenario: model.Scenario, is_aware: bool) -> list[Liar]:
+    """The nodes and lies that the words name; Wrong if the scenario has no such thing."""
+    liars: list[Liar] = []
+    for word in words:
+        if "=" in word or "/" in word:
+            if not liars:
+                raise Wrong(f"{word} stands before the node that says it")
+            lie = lie_in(word, scenario, liars[-1].node)
+            if not is_aware and liars[-1].node in lie.targets:
+                raise Wrong(f"{word} names self, and with --unaware the right word is kept")
+            liars[-1].lies.append(lie)
+            continue
+        try:
+            node = model.node_in(scenario.bus, word)
+        except model.Refused:
+            raise Wrong(f"the bus has no node {word}") from None
+        if node in scenario.onsets or any(liar.node == node for liar in liars):
+            why = "a [[fault]] entry already" if node in scenario.onsets else "been named before"
+            raise Wrong(f"{word} has {why}")
+        liars.append(Liar(node, [], is_aware))
+    for liar in liars:
+        if not liar.lies:
+            raise Wrong(f"{name_of(liar.node)} has no lie: one is as 0/4/1=7@R0 or 0/5=silent")
+    return liars
 
 
 def main(words: list[str]) -> int:
@@ -205,31 +340,26 @@ def main(words: list[str]) -> int:
     parser = argparse.ArgumentParser(prog="tools/faults", description=HELP, usage=argparse.SUPPRESS,
                                      formatter_class=argparse.RawDescriptionHelpFormatter)
     parser.add_argument("scenario", help="a file, or - for standard input")
-    parser.add_argument("node", help="the node, as B1 or R2")
-    parser.add_argument("lies", nargs="+", metavar="LIE")
+    parser.add_argument("lies", nargs="+", metavar="NODE LIE..",
+                        help="a node, as B1 or R2, and its lies; then the next node")
+    parser.add_argument("--unaware", action="store_true",
+                        help="nodes keep the right word as their own, whatever they say")
     asked = parser.parse_args(words)
     scenario = scenario_or_status(asked.scenario, "tools/faults")
     if isinstance(scenario, int):
         return scenario
     try:
-        try:
-            node = model.node_in(scenario.bus, asked.node)
-        except model.Refused:
-            raise Wrong("the bus has no node %s" % asked.node) from None
-        if node in scenario.onsets:
-            raise Wrong("%s has a [[fault]] entry already" % asked.node)
-        lies = [lie_in(text, scenario, node) for text in asked.lies]
-        run, onset = lying(scenario, node, lies)
-        unused = [lie for lie in lies if not lie.is_used]
-        if unused:
-            why = "a good %s says nothing there, in %s (tools/layout says who speaks in which slot and stage), or another lie comes first" % (
-                asked.node, purpose(run.bus, unused[0].slots[0]))
-            raise Wrong("%s: %s; a [[say]] entry by hand can" % (unused[0].text, "the run ends with a breach first" if run.breach else why))
+        liars = liars_in(asked.lies, scenario, not asked.unaware)
+        lying(scenario, liars)
     except Wrong as fault:
-        print("tools/faults: %s" % fault, file=sys.stderr)
+        print(f"tools/faults: {fault}", file=sys.stderr)
         return 2
-    sys.stdout.write(text_of(run, onset))
-    count = len(scenario.says) + len(entries(run))
+    sys.stdout.write("".join(text_of(scenario, liar) for liar in liars))
+    notes = [note for liar in liars for note in accusations(scenario.bus, liar)]
+    count = len(scenario.says) + sum(len(entries(scenario, liar)) for liar in liars)
     if count > model.MOST_SAYS:
-        print("tools/faults: with these the scenario has %d [[say]] entries, and %d may be" % (count, model.MOST_SAYS), file=sys.stderr)
+        notes.append(f"the scenario then has {count} [[say]] entries, more than the "
+                     f"{model.MOST_SAYS} that it may have")
+    for note in notes:
+        print(f"tools/faults: {note}", file=sys.stderr)
     return 0
