@@ -2,6 +2,7 @@
 from __future__ import annotations
 
 import argparse
+import math
 import re
 from dataclasses import dataclass
 from fractions import Fraction
@@ -92,3 +93,36 @@ class Unit:
 def behind(unit: Optional[Unit], units: int) -> str:
     """The time of so many reference units in brackets; nothing if no unit is given."""
     return "" if unit is None else f" ({unit.time(units)})"
+
+
+# The greatest numbers of a timing plan: units of a tick, and of a delay
+MOST_OF_TICK, MOST_OF_DELAY = 10**6, 10**9
+
+
+@dataclass(frozen=True)
+class DataSheet:
+    """What data sheets say of clocks and links: a tick, its drift, the least and greatest delay."""
+
+    tick: Fraction
+    drift: Fraction
+    delays: Tuple[Fraction, Fraction]
+
+    def unit(self) -> Unit:
+        """The finest power of ten of a second by which the numbers are within a plan's ranges."""
+        power = SECONDS["fs"]
+        while (round(self.tick / Fraction(10) ** power) > MOST_OF_TICK
+               or math.ceil(self.delays[1] / Fraction(10) ** power) > MOST_OF_DELAY):
+            power += 1
+        return Unit(Fraction(10) ** power)
+
+    def numbers(self) -> Dict[str, int]:
+        """u, r, dmin and dmax in that unit: rounded so that r, dmin and dmax cover what the sheets
+        say; NoQuantity if a plan has no such numbers."""
+        one = self.unit().seconds
+        u = round(self.tick / one)
+        r = math.ceil(self.tick * self.drift / one + abs(self.tick / one - u))
+        dmin, dmax = math.floor(self.delays[0] / one), math.ceil(self.delays[1] / one)
+        if u < 2 or r >= u or dmin < 1:
+            raise NoQuantity(f"a tick of {time_text(self.tick)} and a delay of "
+                             f"{time_text(self.delays[0])} are too far apart for one unit")
+        return {"u": u, "r": r, "dmin": dmin, "dmax": dmax}
