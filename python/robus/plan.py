@@ -1,4 +1,4 @@
-"""The seven inequalities of a timing plan with what they leave over, and the least plan of a bus."""
+"""The seven inequalities of a timing plan, what they leave over, and the least plan of a bus."""
 from __future__ import annotations
 
 import argparse
