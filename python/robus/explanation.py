@@ -3,10 +3,10 @@ heard, taken and voted in a slot."""
 from __future__ import annotations
 
 import argparse
-import sys
 from dataclasses import dataclass
 from typing import Iterable, Iterator
 
+from robus.errors import BadArgument
 from robus.layout import begins, purpose, scenario_or_status
 from robus.model import BIU, RMU, Stage, model, name_of
 from robus.units import Unit, behind
@@ -402,15 +402,15 @@ def told(run: Watched, unit: Unit | None) -> list[str]:
 
 def explanation_of(scenario: model.Scenario, frame: int | None = None, slot: int | None = None,
                    unit: Unit | None = None) -> str:
-    """What is told of a scenario's run, or of a slot of it; ValueError if the run has no such
+    """What is told of a scenario's run, or of a slot of it; BadArgument if the run has no such
     slot."""
     if (frame is None) != (slot is None):
-        raise ValueError("frame and slot stand together")
+        raise BadArgument("FRAME and SLOT are wanted together")
     if frame is None:
         return "\n".join(told(watch(scenario), unit))
     run = watch(scenario, (frame, slot))
     if (frame, slot) not in run.reached:
-        raise ValueError(f"the run has no slot {slot} in frame {frame}")
+        raise BadArgument(f"FRAME, SLOT: the run has no slot {slot} in frame {frame}")
     return "\n".join(slot_table(run, frame, slot, unit))
 
 
@@ -426,11 +426,7 @@ def main(words: list[str]) -> int:
     scenario = scenario_or_status(asked.scenario, "tools/explain")
     if isinstance(scenario, int):
         return scenario
-    try:
-        text = explanation_of(scenario, asked.frame, asked.slot, asked.unit)
-    except ValueError as fault:
-        print(f"tools/explain: {fault}", file=sys.stderr)
-        return 2
+    text = explanation_of(scenario, asked.frame, asked.slot, asked.unit)
     print("(by tools/model, a second model of the bus, not by the proved program)\n")
     print(text)
     return 0

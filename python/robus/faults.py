@@ -6,6 +6,7 @@ import re
 import sys
 from dataclasses import dataclass, field
 
+from robus.errors import BadArgument
 from robus.explanation import names
 from robus.layout import purpose, scenario_or_status
 from robus.model import Slot, Stage, model, name_of
@@ -77,10 +78,6 @@ class Lie:
         return model.spell(bus, model.WORD_TAG, *place, int(self.what))
 
 
-class Wrong(Exception):
-    """Words that make no sense for this scenario."""
-
-
 def span(first: str, last: str | None) -> tuple[int, int]:
     """A range, or one number."""
     return int(first), int(last or first)
@@ -94,26 +91,26 @@ def targets_in(text: str, named: str | None, bus: model.Bus,
         is_self = name == "self"
         target = node if is_self else ("BR".index(name[0]), int(name[1:]))
         if not is_self and (target not in bus.nodes() or target[0] == node[0]):
-            raise Wrong(f"{text}: {name} is no node of the other kind")
+            raise BadArgument(f"{text}: {name} is no node of the other kind")
         found.append(target)
     return tuple(found)
 
 
 def lie_in(text: str, scenario: model.Scenario, node: model.Node) -> Lie:
-    """The lie of a node that a word is; Wrong if it is none in this scenario."""
+    """The lie of a node that a word is; BadArgument if it is none in this scenario."""
     found = LIE.fullmatch(text)
     if not found:
-        raise Wrong(f"{text} is no lie: one is as 0/4/1=7@R0 or 0/5=silent")
+        raise BadArgument(f"{text} is no lie: one is as 0/4/1=7@R0 or 0/5=silent")
     frames, slots = span(found[1], found[2]), span(found[3], found[4])
     stages = span(found[5], found[6]) if found[5] else (1, 3)
     for what, (low, high), least, most in (("frames", frames, 0, scenario.frames - 1),
                                            ("slots", slots, 0, scenario.bus.sync),
                                            ("stages", stages, 1, 3)):
         if not least <= low <= high <= most:
-            raise Wrong(f"{text}: {what} are to be a range within {least} to {most}")
+            raise BadArgument(f"{text}: {what} are to be a range within {least} to {most}")
     targets = targets_in(text, found[8], scenario.bus, node)
     if found[7].isdigit() and int(found[7]) >= 1 << 32:
-        raise Wrong(f"{text}: a word is below 4294967296")
+        raise BadArgument(f"{text}: a word is below 4294967296")
     return Lie(frames, slots, stages, found[7], targets, text)
 
 
@@ -296,8 +293,8 @@ def text_of(scenario: model.Scenario, liar: Liar) -> str:
 
 
 def lying(scenario: model.Scenario, liars: list[Liar]) -> Lying:
-    """The run of a scenario with the liars; Wrong if a lie changes nothing that its node says or
-    keeps."""
+    """The run of a scenario with the liars; BadArgument if a lie changes nothing that its node says
+    or keeps."""
     scenario.onsets.update({liar.node: liar.onset for liar in liars})
     run = Lying(scenario, liars).run()
     for liar, lie in ((liar, lie) for liar in liars for lie in liar.lies if not lie.is_used):
@@ -305,33 +302,32 @@ def lying(scenario: model.Scenario, liars: list[Liar]) -> Lying:
         if not run.breach:
             why = (f"a good {name_of(liar.node)} says nothing there, in {where} (tools/layout says "
                    "who speaks in which slot and stage), or a later lie is for the same receivers")
-        raise Wrong(f"{lie.text}: {why}; a [[say]] entry by hand can")
+        raise BadArgument(f"{lie.text}: {why}; a [[say]] entry by hand can")
     return run
 
 
 def liars_in(words: list[str], scenario: model.Scenario, is_aware: bool) -> list[Liar]:
-    """The nodes and lies that the words name; Wrong if the scenario has no such thing."""
+    """The nodes and lies that the words name; BadArgument if the scenario has no such thing."""
     liars: list[Liar] = []
     for word in words:
         if "=" in word or "/" in word:
             if not liars:
-                raise Wrong(f"{word} stands before the node that says it")
+                raise BadArgument(f"{word} stands before the node that says it")
             lie = lie_in(word, scenario, liars[-1].node)
             if not is_aware and liars[-1].node in lie.targets:
-                raise Wrong(f"{word} names self, and with --unaware the right word is kept")
+                raise BadArgument(f"{word} names self, and with --unaware the right word is kept")
             liars[-1].lies.append(lie)
             continue
         try:
             node = model.node_in(scenario.bus, word)
         except model.Refused:
-            raise Wrong(f"the bus has no node {word}") from None
+            raise BadArgument(f"the bus has no node {word}") from None
         if node in scenario.onsets or any(liar.node == node for liar in liars):
             why = "a [[fault]] entry already" if node in scenario.onsets else "been named before"
-            raise Wrong(f"{word} has {why}")
+            raise BadArgument(f"{word} has {why}")
         liars.append(Liar(node, [], is_aware))
-    for liar in liars:
-        if not liar.lies:
-            raise Wrong(f"{name_of(liar.node)} has no lie: one is as 0/4/1=7@R0 or 0/5=silent")
+    for name in (name_of(liar.node) for liar in liars if not liar.lies):
+        raise BadArgument(f"{name} has no lie: one is as 0/4/1=7@R0 or 0/5=silent")
     return liars
 
 
@@ -348,12 +344,8 @@ def main(words: list[str]) -> int:
     scenario = scenario_or_status(asked.scenario, "tools/faults")
     if isinstance(scenario, int):
         return scenario
-    try:
-        liars = liars_in(asked.lies, scenario, not asked.unaware)
-        lying(scenario, liars)
-    except Wrong as fault:
-        print(f"tools/faults: {fault}", file=sys.stderr)
-        return 2
+    liars = liars_in(asked.lies, scenario, not asked.unaware)
+    lying(scenario, liars)
     sys.stdout.write("".join(text_of(scenario, liar) for liar in liars))
     notes = [note for liar in liars for note in accusations(scenario.bus, liar)]
     count = len(scenario.says) + sum(len(entries(scenario, liar)) for liar in liars)

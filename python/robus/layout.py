@@ -5,6 +5,7 @@ import argparse
 import sys
 from dataclasses import dataclass
 
+from robus.errors import BadArgument
 from robus.model import BIU, RMU, TooLong, model, name_of, nodes_in, read
 from robus.units import Unit, behind
 
@@ -157,8 +158,7 @@ def main(words: list[str]) -> int:
     if asked.frame is not None:
         owners, convicted = owners_in(scenario, asked.frame)
         if owners is None:
-            print(f"tools/layout: the run has no schedule in frame {asked.frame}", file=sys.stderr)
-            return 2
+            raise BadArgument(f"--frame: the run has no schedule in frame {asked.frame}")
         names = [name for kind in (BIU, RMU) for name in nodes_in(convicted[kind], kind)]
         what = f"in frame {asked.frame}, with {', '.join(names) or 'nobody'} convicted"
     print(f"{bus.biu} BIUs, {bus.rmu} RMUs, {bus.slots} data slots: a frame of {bus.sync} slots "

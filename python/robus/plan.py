@@ -6,9 +6,9 @@ import sys
 from dataclasses import fields, replace
 
 from robus import forms, ranges, syntax
+from robus.errors import BadArgument
 from robus.model import TooLong, model
-from robus.units import (DataSheet, NoQuantity, Unit, behind, delays, drift, duration, tick_of_rate,
-                         time_text)
+from robus.units import DataSheet, Unit, behind, delays, drift, duration, tick_of_rate, time_text
 
 HELP = """Prints the seven inequalities of a scenario's timing plan, or of the least plan for a bus
 of the given sizes: both sides, what is left over, the failing ones marked with the number to raise,
@@ -173,15 +173,12 @@ def main(words: list[str]) -> int:
     asked = parser.parse_args(words)
     why = why_wrong(asked)
     if why:
-        parser.exit(2, f"tools/plan: {why}\n")
+        raise BadArgument(why)
     if asked.scenario is not None:
         return of_scenario(parser, asked.scenario, asked.unit)
     if asked.tick is not None:
         sheet = DataSheet(asked.tick, asked.drift, asked.delay)
-        try:
-            vars(asked).update(sheet.numbers(), unit=sheet.unit())
-        except NoQuantity as fault:
-            parser.exit(2, f"tools/plan: {fault}\n")
+        vars(asked).update(sheet.numbers(), unit=sheet.unit())
         print(f"the reference unit is {asked.unit}: {asked.u} units are a tick of "
               f"{time_text(sheet.tick)}")
     bus = sizes_in(asked)

@@ -8,6 +8,8 @@ from dataclasses import dataclass
 from fractions import Fraction
 from typing import Dict, Optional, Tuple
 
+from robus.errors import BadArgument
+
 SECONDS = {"s": 0, "ms": -3, "us": -6, "\u00b5s": -6, "\u03bcs": -6, "ns": -9, "ps": -12, "fs": -15}
 HERTZ = {"Hz": 0, "kHz": 3, "MHz": 6, "GHz": 9}
 SHARES = {"%": -2, "ppm": -6, "ppb": -9}
@@ -15,7 +17,7 @@ QUANTITY = re.compile(r"(\d+(?:\.\d+)?)([^\d.].*)", re.ASCII)
 DIGITS = 6
 
 
-class NoQuantity(argparse.ArgumentTypeError, ValueError):
+class NoQuantity(argparse.ArgumentTypeError, BadArgument):
     """A text that is no quantity of the kind that is wanted."""
 
 

@@ -9,7 +9,7 @@ import unittest
 from pathlib import Path
 
 from helpers import EXAMPLES, TOP, script
-from robus.campaign import in_order
+from robus.campaign import asked_in
 
 # Stands for GNU parallel: its version, or the command of its last words once for so many lines
 PARALLEL = """#!/usr/bin/env python3
@@ -46,9 +46,10 @@ class Campaigns(unittest.TestCase):
             shutil.copy(EXAMPLES / name, self.folder)
 
     def test_options_may_stand_first(self):
-        words = ["--model", "--jobs", "2", "FOLDER", "9", "1", "--generator", "COMMAND"]
-        self.assertEqual(in_order(words), ["FOLDER", "9", "1", "--model", "--jobs", "2", "--generator", "COMMAND"])
-        self.assertEqual(in_order(["FOLDER", "summary"]), ["FOLDER", "summary"])
+        asked = asked_in(["--model", "--jobs", "2", "FOLDER", "9", "1", "--generator", "COMMAND", "--retries", "3"])
+        self.assertEqual(asked.words, ["FOLDER", "9", "1"])
+        self.assertEqual(asked.values, {"--engine": "model", "--jobs": "2", "--generator": "COMMAND"})
+        self.assertEqual(asked.options, ["--retries", "3"])
 
     def test_the_rows_of_the_page(self):
         self.take("late_onset.toml", "two_sided.toml")
