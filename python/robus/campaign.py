@@ -90,7 +90,7 @@ def asked_in(words: List[str]) -> Asked:
             asked.values["--engine"] = "model"
         elif it in VALUES:
             value = next(rest, None)
-            if not value:
+            if not value or value.startswith("--"):
                 raise BadArgument(f"{it} wants {VALUES[it]}")
             asked.values[it] = value
         elif it.startswith("-") or asked.options or len(asked.words) == 3:
@@ -129,7 +129,11 @@ def bus_of(asked: Asked) -> Optional[BusFaults]:
         if option:
             raise BadArgument(f"{option} is for --bus, which is not there")
         return None
-    text = sys.stdin.read() if file == "-" else Path(file).read_text(encoding="utf-8")
+    data = sys.stdin.buffer.read() if file == "-" else Path(file).read_bytes()
+    try:
+        text = data.decode("utf-8")
+    except UnicodeDecodeError:
+        raise BadArgument(f"--bus: {file} is no text in UTF-8") from None
     found = BusFaults(text, *[asked.values.get(it, BUS_DEFAULTS[it]) for it in BUS_DEFAULTS])
     found.generator()
     return found

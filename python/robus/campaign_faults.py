@@ -111,12 +111,12 @@ def summary_of_faults(rows: Dict[int, Row], unit: Optional[Unit] = None) -> str:
     groups = groups_of(list(rows.values()))
     shares = table(("faulty nodes", "runs", "breach", "all convicted", "a delivery lost"),
                    [it.shares() for it in groups])
-    totals = table(("faulty nodes", "convicted", "deliveries", "lost", "from good", "latency: least",
-                    "median", "greatest"), [it.totals(unit) for it in groups])
+    totals = table(("faulty nodes", "convicted", "deliveries", "lost", "from good",
+                    "latency: least", "median", "greatest"), [it.totals(unit) for it in groups])
     return "\n".join([
         "runs, each with the 95 % Wilson interval of its share of the runs in its line:", "",
         *shares, "",
         "faulty nodes that were convicted; deliveries, how many of them were lost (none), and how",
-        "many of those from good senders; latency of words from good senders, from the offer to the",
-        f"delivery{'' if unit else ', in units of time'}: the least, and the median and the "
+        "many of those from good senders; latency of words from good senders, from the offer to",
+        f"the delivery{'' if unit else ', in units of time'}: the least, and the median and the "
         "greatest of the greatest of each run:", "", *totals]) + "\n"

@@ -12,7 +12,7 @@ Rows = Dict[int, Row]
 Test = Callable[[Row], object]
 ENDS = {0: "ended", 1: "breach of the fault premise", 3: "refused", 4: "too long", 7: "no memory"}
 STYLE = """.page { fill: #fff } text { font: 12px sans-serif; fill: #333 }
-.bar { fill: #3b6fb6 } .line { stroke: #999; stroke-width: 1 }
+.count { font-size: 9px } .bar { fill: #3b6fb6 } .line { stroke: #999; stroke-width: 1 }
 @media (prefers-color-scheme: dark) {
 .page { fill: #0d1117 } text { fill: #ccc } .bar { fill: #7aa7e0 } .line { stroke: #666 } }"""
 
@@ -87,10 +87,13 @@ def even_bins(values: List[int]) -> List[Bin]:
     """At most about thirty ranges of one round width. They begin at 0, unless the values are so
     near each other that they would leave most of the ranges empty."""
     low, high = min(values), max(values)
-    if high - low > high / 2:
-        low = 0
-    width = round_width(high - low, BINS)
-    first, last = low // width, high // width
+    if low == high:
+        width = round_width(high, 2 * BINS)
+        first, last = max(0, low // width - 2), high // width + 2
+    else:
+        low = 0 if high - low > high / 2 else low
+        width = round_width(high - low, BINS)
+        first, last = low // width, high // width
     return [(it * width, (it + 1) * width) for it in range(first, last + 1)]
 
 
@@ -121,7 +124,7 @@ def bars(bins: List[Bin], counts: List[int], unit: Optional[Unit]) -> Iterator[s
                f'width="{max(1, step - 2):.1f}" height="{tall}"><title>{title}</title></rect>')
         if len(bins) <= BINS:
             yield (f'<text x="{x + step / 2:.1f}" y="{TOP + HIGH - tall - 4}" '
-                   f'text-anchor="middle" font-size="9" style="font-size:9px">{found:,}</text>')
+                   f'text-anchor="middle" class="count">{found:,}</text>')
 
 
 def axes(bins: List[Bin], most: int, unit: Optional[Unit], is_log: bool) -> Iterator[str]:
