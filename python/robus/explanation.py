@@ -158,7 +158,7 @@ class Poll:
         faulty = names(it for it in self.valid if it not in good.valid)
         would = "would not" if good.missing > 0 else "would"
         return [f"  without the vectors of faulty nodes ({faulty}) it {would} be convicted: "
-                f"{len(good.naming)} of {len(good.valid)} name it"]
+                f"of {len(good.valid)} vectors, {named_by(good.naming) if good.naming else 'none names it'}"]
 
     def evidence(self) -> list[str]:
         """The evidence behind the vectors that name the node."""
@@ -196,10 +196,10 @@ def convicted_from(run: Watched) -> dict[model.Node, int]:
 def conviction(run: Watched, node: model.Node, frame: int) -> list[str]:
     """Which vectors convict a node from a frame on, and what they rest on."""
     poll = Poll.of(run, frame - 1, node)
-    count = len(poll.naming)
+    others = len(poll.valid) - len(poll.naming)
     lines = ["", f"{name_of(node)} is convicted from frame {frame} on: of the {len(poll.valid)} "
-             f"vectors of frame {frame - 1} that count, {count} name it ({names(poll.naming)}), "
-             f"and {len(poll.valid) - count} do not"]
+             f"vectors of frame {frame - 1} that count, {named_by(poll.naming)}, and {others} "
+             f"{'does' if others == 1 else 'do'} not"]
     if poll.lost:
         lines.append(f"  no vector of {names(poll.lost)} counts: there was none, or it names nodes "
                      "that there are not")
@@ -210,6 +210,12 @@ def since(run: Watched, node: model.Node) -> str:
     """From when on a node is faulty, in words."""
     frame, slot = run.scenario.onsets[node]
     return f" faulty since frame {frame}, slot {slot}"
+
+
+def named_by(accusers: Iterable[model.Node]) -> str:
+    """How many vectors name a node, and whose."""
+    them = list(accusers)
+    return f"{len(them)} name{'s' if len(them) == 1 else ''} it ({names(them)})"
 
 
 def is_reached(run: Watched, node: model.Node) -> bool:
@@ -235,9 +241,8 @@ def spared(run: Watched, node: model.Node) -> list[str]:
     head = f"{name_of(node)} {state} not convicted: "
     if nearest:
         frames = [it.frame for it in polls if it.naming == nearest.naming]
-        head += (f"{len(nearest.naming)} of the {len(nearest.valid)} vectors of "
-                 f"{frames_text(frames)} that count name it ({names(nearest.naming)}), and "
-                 f"{nearest.needed} would be needed")
+        head += (f"of the {len(nearest.valid)} vectors of {frames_text(frames)} that count, "
+                 f"{named_by(nearest.naming)}, and {nearest.needed} would be needed")
         return ["", head, *nearest.evidence(), *nearest.tipped()]
     if not found:
         return ["", head + "no good node has evidence against it"]

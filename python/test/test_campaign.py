@@ -224,17 +224,17 @@ class Faults(unittest.TestCase):
         with tempfile.TemporaryDirectory() as room:
             folder, bus = Path(room, "own"), Path(room, "bus.toml")
             bus.write_text(BUS)
-            words = [TOP / "tools/campaign", folder, "6", "1", "--model", "--bus", bus, "--faults", "1", "--unit", "1ns"]
+            words = [TOP / "tools/campaign", folder, "3", "1", "--model", "--jobs", "1", "--bus", bus, "--faults", "1", "--unit", "1ns"]
             done = subprocess.run(words, capture_output=True, text=True)
             self.assertEqual(done.returncode, 0, done.stderr)
             rows = (folder / "rows.csv").read_text().splitlines()
-            self.assertEqual(len(rows), 7)
+            self.assertEqual(len(rows), 4)
             self.assertTrue(rows[0].endswith(",faults,latency_least,latency_greatest,lost_of_good"))
             self.assertIn("1 of any kind", done.stdout)
             # The scenario behind a row needs the bus's file no more, and other faults are another campaign
             bus.unlink()
-            done = subprocess.run([*words[:2], "scenario", "6"], capture_output=True, text=True)
-            self.assertEqual(done.stdout.encode(), Generator.of(BUS, "1", KINDS, "any").text_of(6))
+            done = subprocess.run([*words[:2], "scenario", "3"], capture_output=True, text=True)
+            self.assertEqual(done.stdout.encode(), Generator.of(BUS, "1", KINDS, "any").text_of(3))
             bus.write_text(BUS)
             done = subprocess.run([*words[:-3], "2", "--unit", "1ns"], capture_output=True, text=True)
             self.assertIn("is another campaign", done.stderr)

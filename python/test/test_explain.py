@@ -83,8 +83,8 @@ class Explain(unittest.TestCase):
     def test_why_a_liar_is_not_convicted(self):
         # Only B0 is lied to: one of three vectors names R2, in both frames, and two are more than half
         text = self.liars("R2", "0/0/2=9@B0")
-        self.assertIn("R2 is faulty since frame 0, slot 0, and is not convicted: 1 of the 3 vectors of "
-                      "frames 0..1 that count name it (B0), and 2 would be needed\n"
+        self.assertIn("R2 is faulty since frame 0, slot 0, and is not convicted: of the 3 vectors of "
+                      "frames 0..1 that count, 1 names it (B0), and 2 would be needed\n"
                       "  B0: frame 0, slot 0 (request of B0), stage 2: it said 9, and 2 was right\n", text)
         # A word of a data slot is never held against its owner
         text = self.liars("B1", "0/4/1=7@R0", "0/4/1=8@R1,R2")
@@ -97,7 +97,7 @@ class Explain(unittest.TestCase):
     def test_whom_a_faulty_node_accuses_and_what_that_tips(self):
         text = self.liars("R2", "0/0/2=9@B0", "B1", "0/4/1=21", "--unaware")
         self.assertIn("R2 is convicted from frame 1 on", text)
-        self.assertIn("  without the vectors of faulty nodes (B1) it would not be convicted: 1 of 2 name it\n", text)
+        self.assertIn("  without the vectors of faulty nodes (B1) it would not be convicted: of 2 vectors, 1 names it (B0)\n", text)
         # R2 is convicted from frame 1 on, and vectors name trusted nodes alone
         self.assertIn("  B1 names R0 R1 in frame 1\n  B1 names R0..R2 in frame 0\n", text)
 
