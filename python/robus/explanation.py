@@ -157,8 +157,9 @@ class Poll:
             return []
         faulty = names(it for it in self.valid if it not in good.valid)
         would = "would not" if good.missing > 0 else "would"
+        left = named_by(good.naming) if good.naming else "none names it"
         return [f"  without the vectors of faulty nodes ({faulty}) it {would} be convicted: "
-                f"of {len(good.valid)} vectors, {named_by(good.naming) if good.naming else 'none names it'}"]
+                f"of {len(good.valid)} vectors, {left}"]
 
     def evidence(self) -> list[str]:
         """The evidence behind the vectors that name the node."""
