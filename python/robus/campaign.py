@@ -21,7 +21,7 @@ from robus.campaign_rows import HEAD, MORE, put, rows_in, settle
 from robus.campaign_summary import histogram_of, summary_of
 from robus.engines import TOP, Engine, choose
 from robus.errors import BadArgument, NoEngine
-from robus.units import Unit
+from robus.units import NoQuantity, Unit
 
 HELP = """Runs many scenarios, and keeps a row of each.
 
@@ -109,6 +109,14 @@ def number_in(name: str, text: str, least: int, most: Optional[int] = None) -> i
     return int(text)
 
 
+def unit_in(text: Optional[str]) -> Optional[Unit]:
+    """The unit of --unit; BadArgument if it is none."""
+    try:
+        return Unit.of(text) if text else None
+    except NoQuantity as fault:
+        raise BadArgument(f"--unit: {fault}") from None
+
+
 def engine_of(name: Optional[str]) -> Engine:
     """The engine that is asked for; tools/model has to be asked for by name."""
     try:
@@ -121,6 +129,12 @@ def engine_of(name: Optional[str]) -> Engine:
     return engine
 
 
+def jobs_in(asked: Asked) -> Optional[int]:
+    """How many workers are asked for."""
+    jobs = asked.get("--jobs")
+    return None if jobs is None else number_in("--jobs", jobs, 1)
+
+
 def bus_of(asked: Asked) -> Optional[BusFaults]:
     """The bus that is asked for, with its faults; BadArgument if they do not fit."""
     file = asked.get("--bus")
@@ -129,6 +143,8 @@ def bus_of(asked: Asked) -> Optional[BusFaults]:
         if option:
             raise BadArgument(f"{option} is for --bus, which is not there")
         return None
+    if file != "-" and not os.path.exists(file):
+        raise BadArgument(f"--bus: {file} is no file")
     data = sys.stdin.buffer.read() if file == "-" else Path(file).read_bytes()
     try:
         text = data.decode("utf-8")
@@ -204,7 +220,7 @@ def run(folder: Path, plan: Plan, count: int, engine: Engine, asked: Asked, lock
     numbers = [number for number in range(1, count + 1) if number not in found]
     items = [plan.item(folder, number) for number in numbers]
     name = "model" if engine.name == "model" else engine.path
-    jobs = asked.get("--jobs") and number_in("--jobs", asked.get("--jobs"), 1)
+    jobs = jobs_in(asked)
     with open(folder / "rows.csv", "ab") as rows:
         if asked.options:
             words = [str(TOP / "tools/campaign_row"), name]
@@ -216,7 +232,7 @@ def run(folder: Path, plan: Plan, count: int, engine: Engine, asked: Asked, lock
 
 def tell(folder: Path, plan: Plan) -> int:
     """Writes and prints what the rows say."""
-    rows, unit = rows_in(folder), Unit.of(plan.unit) if plan.unit else None
+    rows, unit = rows_in(folder), unit_in(plan.unit)
     if not rows:
         raise BadArgument(f"FOLDER: {folder} has no row yet")
     text = "run by tools/model, which is not proved\n\n" if plan.is_by_model else ""
@@ -241,9 +257,7 @@ def is_gnu_parallel() -> bool:
 
 def campaign(folder: Path, count: int, seed: int, asked: Asked) -> int:
     """Runs a campaign, or goes on with it, and tells what its rows say."""
-    bus, unit, engine = bus_of(asked), asked.get("--unit"), engine_of(asked.get("--engine"))
-    if unit:
-        Unit.of(unit)
+    bus, engine = bus_of(asked), engine_of(asked.get("--engine"))
     if asked.options and not is_gnu_parallel():
         fail(f"{asked.options[0]} is for GNU parallel, which is not there: apt-get install "
              "parallel, or the like")
@@ -254,7 +268,8 @@ def campaign(folder: Path, count: int, seed: int, asked: Asked) -> int:
             fcntl.flock(lock, fcntl.LOCK_EX | fcntl.LOCK_NB)
         except BlockingIOError:
             fail(f"another run works in {folder}")
-        plan = new_plan(folder, seed, engine.name, asked.get("--generator"), bus, unit)
+        plan = new_plan(folder, seed, engine.name, asked.get("--generator"), bus,
+                        asked.get("--unit"))
         plan = kept_plan(folder, plan, asked)
         count = min(count, len(plan.files)) if plan.files else count
         head = HEAD + (MORE if plan.bus else [])
@@ -282,6 +297,8 @@ def main(words: List[str]) -> int:
         print(HELP)
         return 0
     asked = asked_in(words)
+    unit_in(asked.get("--unit"))
+    jobs_in(asked)
     if len(asked.words) < 2:
         raise BadArgument("FOLDER and COUNT SEED, summary or scenario NUMBER are wanted; --help "
                           "says more")
@@ -292,6 +309,10 @@ def main(words: List[str]) -> int:
         plan = plan_of(folder)
         return tell(folder, replace(plan, unit=asked.get("--unit") or plan.unit))
     if rest[:1] == ["scenario"]:
-        return print_scenario(folder, rest[1] if rest[1:] else "nothing")
-    seed = rest[1] if rest[1:] else "nothing"
-    return campaign(folder, number_in("COUNT", rest[0], 1), number_in("SEED", seed, 0), asked)
+        if not rest[1:]:
+            raise BadArgument("NUMBER: that of a row is wanted behind scenario")
+        return print_scenario(folder, rest[1])
+    count = number_in("COUNT", rest[0], 1)
+    if not rest[1:]:
+        raise BadArgument("SEED: a number is wanted behind COUNT")
+    return campaign(folder, count, number_in("SEED", rest[1], 0), asked)

@@ -129,7 +129,7 @@ class Campaigns(unittest.TestCase):
         for words, named in ((["scenario", 1], "FOLDER"), (["summary"], "FOLDER"), (["x", 1], "COUNT"), ([3, "y"], "SEED"),
                              ([3], "SEED"), ([0, 1], "COUNT"), ([3, 1, "--jobs", "none"], "--jobs"), ([3, 1, "--bus"], "--bus"),
                              ([3, 1, "--bus", file], "FOLDER"), ([3, 1, "--kinds", "silent"], "--kinds"),
-                             ([3, 1, "--unit", "7"], "7")):
+                             ([3, 1, "--unit", "7"], "--unit"), (["scenario"], "NUMBER"), ([3, 1, "--bus", "none"], "--bus")):
             self.assert_one_line([*words, "--model"], named)
         self.assertEqual(self.campaign(1, 1, "--model")[0], 0)
         self.assert_one_line(["scenario", 99], "NUMBER: 99 is no number from 1 to 1")
