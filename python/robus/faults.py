@@ -31,8 +31,9 @@ Its accusations go into its vectors, and these count in convictions. So it matte
 believes it said. A lie that all receivers are told alike is told to the liar too, which then
 accuses nobody for it. If receivers are told different things, the liar keeps the right word and
 accuses all that relay a lie, unless a lie names self among its NODES: then it keeps that one. With
---unaware it always keeps the right word, like a node whose transmitter is broken. The head of the
-output and a line on standard error say whom the lies make a node accuse.
+--unaware it always keeps the right word, like a node whose transmitter is broken. It accuses, too,
+whoever accuses it for a lie and so takes nothing from it. The head of the output and lines on
+standard error say whom the liars accuse.
 
 The entries go behind the scenario: cat bus.toml lies.toml | robus run. The nodes must have no
 [[fault]] entry yet. Name all liars of a run in one call: entries that were written before do not
@@ -44,6 +45,10 @@ NAME = r"[BR]\d+"
 SPAN = r"(\d+)(?:\.\.(\d+))?"
 NODES = rf"(?:{NAME}|self)"
 LIE = re.compile(rf"{SPAN}/{SPAN}(?:/{SPAN})?=(silent|fault|\d+)(?:@({NODES}(?:,{NODES})*))?")
+# Why a node accuses others
+RELAYED = "its own word comes back changed"
+OUTVOTED = "their vote is not that of most"
+OUT_OF_PLACE = "a due message was missing or wrong, or one came where none was due"
 # To whom, frames, slots, stage, and the lines behind these
 Entry = tuple[str, model.Pair, model.Pair, int, tuple[str, ...]]
 
@@ -124,9 +129,8 @@ class Liar:
     # What came from it from its first lie on, to nodes that are good then: frame, slot, stage,
     # receiver, tick of the receiver's window, how early in units, bytes
     came: list[tuple[int, int, int, model.Node, int, int, bytes]] = field(default_factory=list)
-    # The stages in which its lies make it accuse nodes, and these
-    accused: dict[Stage, set[model.Node]] = field(default_factory=dict)
-    last_lie: Slot | None = None  # the slot of its last lie about its own word
+    # The stages from which on it accuses nodes, each with a reason, and these nodes
+    accused: dict[tuple[Stage, str], set[model.Node]] = field(default_factory=dict)
     is_convicted: bool = False  # nobody takes anything from it any more
 
     @property
@@ -213,17 +217,19 @@ class Lying(model.World):
             if said is not None:
                 delay = self.scenario.delay_of(node, target, *place)
                 self.push(time + delay, target, node[1], said)
-        if stage == 1 and slot < self.bus.sync and any(it.is_at(place) for it in liar.lies):
+        if stage == 1 and slot < self.bus.sync:
             self.sites[node].core.kept = liar.believed(self.bus, place, told, text)
-            liar.last_lie = frame, slot
 
     def proceed(self, site: model.Site, time: int, item: int) -> None:
-        """Has a tick of a node, and keeps whom a liar accuses because of its own lie."""
+        """Has a tick of a node, and keeps whom a liar accuses from then on."""
         core, liar = site.core, self.liars.get(site.node)
-        place, before = (core.frame, core.window.slot, core.window.stage), set(core.mismatched)
+        place = core.frame, core.window.slot, core.window.stage
+        before = set(core.evidence), set(core.mismatched)
         super().proceed(site, time, item)
-        if liar and place[:2] == liar.last_lie and core.mismatched - before:
-            liar.accused[place] = {(core.far, it) for it in core.mismatched - before}
+        for why, fresh in ((OUT_OF_PLACE, set(core.evidence) - before[0]),
+                           (OUTVOTED if place[2] == 3 else RELAYED, core.mismatched - before[1])):
+            if liar and fresh:
+                liar.accused[place, why] = {(core.far, number) for number in fresh}
 
 
 def payload(bus: model.Bus, slot: int, tick: int, early: int, text: bytes) -> tuple[str, ...]:
@@ -272,16 +278,16 @@ def merged(rows: list[Entry], at: int) -> list[Entry]:
 
 
 def accusations(bus: model.Bus, liar: Liar) -> list[str]:
-    """Whom its lies make a liar accuse, a line for each stage in which it finds others."""
+    """Whom a liar accuses, a line for each stage in which it finds others, and reason."""
     return [f"{name_of(liar.node)} accuses {names(found)} from frame {frame}, slot {slot} "
-            f"({purpose(bus, slot)}), stage {stage} on: they relay another word than it keeps as "
-            "its own" for (frame, slot, stage), found in sorted(liar.accused.items())]
+            f"({purpose(bus, slot)}), stage {stage} on: {why}"
+            for ((frame, slot, stage), why), found in sorted(liar.accused.items())]
 
 
 def text_of(scenario: model.Scenario, liar: Liar) -> str:
-    """A liar's entries as TOML, behind comments on whom its lies make it accuse."""
+    """A liar's entries as TOML, behind comments on whom it accuses."""
     name, (frame, slot) = name_of(liar.node), liar.onset
-    notes = accusations(scenario.bus, liar) or [f"{name} accuses nobody for its own lies"]
+    notes = accusations(scenario.bus, liar) or [f"{name} accuses nobody"]
     lines = ["", *("# " + it for it in notes), "[[fault]]", f'node = "{name}"',
              f"frame = {frame}", f"slot = {slot}"]
     for to, frames, slots, stage, what in entries(scenario, liar):

@@ -111,7 +111,8 @@ class Faults(unittest.TestCase):
         self.assertEqual(accused(*to_some), ["R0..R2"])
         self.assertEqual(accused(to_some[0], "0/4/1=8@R1,R2,self"), ["R0"])
         self.assertEqual(accused("0/4/1=7"), ["nobody"])
-        self.assertEqual(accused("0/4/1=silent"), ["nobody"])
+        # After the silence the RMUs take nothing from B1, so its vector in slot 8 comes back as a fault
+        self.assertEqual(accused("0/4/1=silent"), ["R0..R2"])
         # B1's word is 20: R0 alone is told another one
         self.assertEqual(accused("0/4/1=20@self", "0/4/1=7@R0"), ["R0"])
 
