@@ -7,6 +7,7 @@ from dataclasses import fields, replace
 
 from robus import forms, ranges, syntax
 from robus.errors import BadArgument
+from robus.laws import RAISE
 from robus.model import TooLong, model
 from robus.units import DataSheet, Unit, behind, delays, drift, duration, tick_of_rate, time_text
 
@@ -36,7 +37,6 @@ MEANING = {
     6: "nor after its last tick",
     7: "the next frame begins within p too",
 }
-RAISE = {1: "h", 2: "l", 3: "h", 4: "v", 5: "h", 6: "z", 7: "p"}
 MOST = 1000
 SIZES = "biu", "rmu", "slots"
 NUMBERS = "u", "r", "dmin", "dmax", "c"
