@@ -79,6 +79,18 @@ class Faults(unittest.TestCase):
             run = lying(read(data), [Liar(node, [lie_in(lie, scenario, node)])])
             self.assertEqual(run_model("run", data=data + text.encode()).splitlines(), run.lines)
 
+    def test_the_entries_of_two_make_the_run_of_both(self):
+        lies = {"R2": ["0/0/2=9@B0", "0/13=silent"], "B1": ["0/4/1=21", "1/4/1=22@R0,self"]}
+        status, text = output_of("faults", ["-", *(word for name in lies for word in (name, *lies[name]))], BUS)
+        self.assertEqual(status, 0)
+        scenario = read(BUS)
+        liars = []
+        for name, words in lies.items():
+            node = model.node_in(scenario.bus, name)
+            liars.append(Liar(node, [lie_in(word, scenario, node) for word in words]))
+        run = lying(scenario, liars)
+        self.assertEqual(run_model("run", data=BUS + text.encode()).splitlines(), run.lines)
+
     def test_a_word_to_some(self):
         status, text = output_of("faults", ["-", "B1", "0/4/1=7@R0", "0/4/1=8@R1,R2"], BUS)
         self.assertEqual(status, 0)
