@@ -26,11 +26,6 @@ class BadArgument(RobusError, ValueError):
     range."""
 
 
-class BadArgument(RobusError, ValueError):
-    """An argument has a value that it may not have. The message names the argument and its
-    range."""
-
-
 class NoEngine(RobusError):
     """The engine that was asked for is not there, or none that is there has these words."""
 
