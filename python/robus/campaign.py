@@ -2,26 +2,20 @@
 from __future__ import annotations
 
 import fcntl
-import itertools
 import os
-import shlex
-import signal
-import subprocess
 import sys
-from concurrent.futures import ThreadPoolExecutor
-from contextlib import suppress
-from dataclasses import dataclass, field, replace
+from dataclasses import replace
 from pathlib import Path
-from subprocess import PIPE
-from typing import BinaryIO, Dict, List, NoReturn, Optional, TextIO
+from typing import List, NoReturn, Optional, TextIO
 
 from robus.campaign_faults import summary_of_faults
 from robus.campaign_plan import BusFaults, Plan, new_plan, plan_of, text_of
 from robus.campaign_rows import HEAD, MORE, put, rows_in, settle
 from robus.campaign_summary import histogram_of, summary_of
+from robus.campaign_words import BUS_DEFAULTS, Asked, asked_in, jobs_in, number_in, unit_in
+from robus.campaign_workers import is_gnu_parallel, run_parallel, run_workers
 from robus.engines import TOP, Engine, choose
 from robus.errors import BadArgument, NoEngine
-from robus.units import NoQuantity, Unit
 
 HELP = """Runs many scenarios, and keeps a row of each.
 
@@ -54,67 +48,9 @@ slower, and needs no build.
 
 Written are rows.csv, summary.txt, spread.svg, and plan.json for the next run. `scenario` prints the
 scenario of a row. docs/CAMPAIGNS.md has more."""
-MOST_ITEMS = 64
-# The options of this tool with a value, and what that is
-VALUES = {"--generator": "a command", "--engine": "a name or a path", "--jobs": "a number above 0",
-          "--bus": "a file", "--faults": "a number or a range a..b", "--unit": "a time, as 1ps",
-          "--kinds": "kinds of faults", "--onset": "any, FRAMES or FRAMES/SLOTS"}
-BUS_DEFAULTS = {"--faults": "0..1", "--kinds": "silent,symmetric,asymmetric,babbling",
-                "--onset": "any"}
-
-
 def fail(why: str) -> NoReturn:
     """Ends the tool with status 1 and a line on standard error."""
     sys.exit("tools/campaign: " + why)
-
-
-@dataclass
-class Asked:
-    """The words: FOLDER and those behind it, the options of this tool, and those of parallel."""
-
-    words: List[str] = field(default_factory=list)
-    values: Dict[str, str] = field(default_factory=dict)
-    options: List[str] = field(default_factory=list)
-
-    def get(self, option: str) -> Optional[str]:
-        """The value of an option of this tool."""
-        return self.values.get(option)
-
-
-def asked_in(words: List[str]) -> Asked:
-    """The words, taken apart. FOLDER, COUNT and SEED are the first that are no options of this
-    tool; all that is unknown behind them is for parallel."""
-    asked, rest = Asked(), iter(words)
-    for it in rest:
-        if it == "--model":
-            asked.values["--engine"] = "model"
-        elif it in VALUES:
-            value = next(rest, None)
-            if not value or value.startswith("--"):
-                raise BadArgument(f"{it} wants {VALUES[it]}")
-            asked.values[it] = value
-        elif it.startswith("-") or asked.options or len(asked.words) == 3:
-            asked.options.append(it)
-        else:
-            asked.words.append(it)
-    return asked
-
-
-def number_in(name: str, text: str, least: int, most: Optional[int] = None) -> int:
-    """A number within a range; BadArgument with its name if it is none."""
-    is_number = text.isascii() and text.isdigit() and len(text) < 19
-    if not is_number or not least <= int(text) <= (int(text) if most is None else most):
-        upper = "on" if most is None else f"to {most}"
-        raise BadArgument(f"{name}: {text} is no number from {least} {upper}")
-    return int(text)
-
-
-def unit_in(text: Optional[str]) -> Optional[Unit]:
-    """The unit of --unit; BadArgument if it is none."""
-    try:
-        return Unit.of(text) if text else None
-    except NoQuantity as fault:
-        raise BadArgument(f"--unit: {fault}") from None
 
 
 def engine_of(name: Optional[str]) -> Engine:
@@ -127,12 +63,6 @@ def engine_of(name: Optional[str]) -> Engine:
         fail("no proved program is up to date: make build makes one, and --model runs tools/model "
              "in its place, which is not proved")
     return engine
-
-
-def jobs_in(asked: Asked) -> Optional[int]:
-    """How many workers are asked for."""
-    jobs = asked.get("--jobs")
-    return None if jobs is None else number_in("--jobs", jobs, 1)
 
 
 def bus_of(asked: Asked) -> Optional[BusFaults]:
@@ -173,47 +103,6 @@ def kept_plan(folder: Path, plan: Plan, asked: Asked) -> Plan:
     return old if asked.get("--unit") is None else replace(old, unit=plan.unit)
 
 
-def run_workers(words: List[str], items: List[str], jobs: int, rows: BinaryIO) -> None:
-    """Runs the items in so many worker processes, each of which is given the next item when it has
-    written the row of the last one. A signal lets what is under way come to its end."""
-    left, done, stopped = iter(items), itertools.count(1), []
-    for it in (signal.SIGTERM, signal.SIGINT):
-        signal.signal(it, lambda *_: stopped.append(True))
-
-    def work(_: int) -> None:
-        """Runs items in one worker process, as long as any are left."""
-        with suppress(BrokenPipeError), subprocess.Popen(words, stdin=PIPE, stdout=PIPE) as worker:
-            for item in left:
-                worker.stdin.write(item.encode() + b"\n")
-                worker.stdin.flush()
-                row = worker.stdout.readline()
-                os.write(rows.fileno(), row)
-                if stopped or not row:
-                    return
-                if sys.stderr.isatty():
-                    print("\r%d of %d " % (next(done), len(items)), end="", file=sys.stderr)
-
-    with ThreadPoolExecutor(jobs) as pool:
-        list(pool.map(work, range(min(jobs, len(items)))))
-    if sys.stderr.isatty():
-        print(file=sys.stderr)
-
-
-def run_parallel(words: List[str], items: List[str], jobs: Optional[int], asked: List[str],
-                 rows: BinaryIO, lock: TextIO) -> None:
-    """Runs the items by GNU parallel, so many in a worker. It holds the lock too, so that no second
-    run begins beside it where this process is killed."""
-    size = max(1, min(MOST_ITEMS, len(items) // 64))
-    options = ["--line-buffer", "--max-args", str(size), *asked]
-    if jobs:
-        options += ["--jobs", str(jobs)]
-    child = subprocess.Popen(["parallel", *options, *map(shlex.quote, words)], text=True,
-                             stdin=PIPE, stdout=rows, pass_fds=[lock.fileno()])
-    for it in (signal.SIGTERM, signal.SIGINT):
-        signal.signal(it, lambda *_: child.send_signal(signal.SIGTERM))
-    child.communicate("".join(item + "\n" for item in items))
-
-
 def run(folder: Path, plan: Plan, count: int, engine: Engine, asked: Asked, lock: TextIO) -> None:
     """Runs what has no row yet."""
     found = rows_in(folder)
@@ -244,15 +133,6 @@ def tell(folder: Path, plan: Plan) -> int:
     put(folder / "spread.svg", histogram_of(spreads, unit))
     print(text, end="")
     return 0
-
-
-def is_gnu_parallel() -> bool:
-    """Whether it is there; another program has the same name."""
-    try:
-        said = subprocess.run(["parallel", "--version"], capture_output=True, text=True).stdout
-    except OSError:
-        return False
-    return said.startswith("GNU parallel")
 
 
 def campaign(folder: Path, count: int, seed: int, asked: Asked) -> int:

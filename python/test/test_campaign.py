@@ -14,7 +14,7 @@ from pathlib import Path
 
 from helpers import EXAMPLES, TOP, run_model
 from robus.__main__ import run
-from robus.campaign import asked_in
+from robus.campaign_words import asked_in
 from robus.campaign_faults import summary_of_faults, wilson
 from robus.campaign_summary import histogram_of
 from robus.errors import BadArgument

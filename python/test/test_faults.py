@@ -3,7 +3,8 @@ import random
 import unittest
 
 from helpers import output_of, run_model, script
-from robus.faults import Liar, lie_in, lying
+from robus.faults import lie_in, lying
+from robus.liars import Liar
 from robus.model import model, name_of, read
 
 maker = script("compare_models")
