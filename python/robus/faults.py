@@ -31,10 +31,10 @@ Its accusations go into its vectors, and these count in convictions. So it matte
 believes it said. A lie that all receivers are told alike is told to the liar too, which then
 accuses nobody for it. If receivers are told different things, the liar keeps the right word and
 accuses all that relay a lie, unless a lie names self among its NODES: then it keeps that one. With
---unaware it always keeps the right word, like a node whose transmitter is broken. A liar that breaks
-the protocol, by silence for example, is ignored from then on by those that notice, and accuses them
-when its own word does not come back. The head of the output and lines on standard error say whom
-the liars accuse.
+--unaware it always keeps the right word, like a node whose transmitter is broken. A liar that
+breaks the protocol, by silence for example, is ignored from then on by those that notice, and
+accuses them when its own word does not come back. The head of the output and lines on standard
+error say whom the liars accuse.
 
 The entries go behind the scenario: cat bus.toml lies.toml | robus run. The nodes must have no
 [[fault]] entry yet. Name all liars of a run in one call: entries that were written before do not

@@ -4,7 +4,7 @@ from __future__ import annotations
 from dataclasses import dataclass
 from typing import Iterable
 
-from robus.model import BIU, RMU, Stage, model, name_of
+from robus.model import Stage, model, name_of
 from robus.texts import TAGS, heard_text, names, place_text, value_text
 from robus.watch import Watched
 

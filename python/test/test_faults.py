@@ -82,7 +82,8 @@ class Faults(unittest.TestCase):
 
     def test_the_entries_of_two_make_the_run_of_both(self):
         lies = {"R2": ["0/0/2=9@B0", "0/13=silent"], "B1": ["0/4/1=21", "1/4/1=22@R0,self"]}
-        status, text = output_of("faults", ["-", *(word for name in lies for word in (name, *lies[name]))], BUS)
+        words = [word for name in lies for word in (name, *lies[name])]
+        status, text = output_of("faults", ["-", *words], BUS)
         self.assertEqual(status, 0)
         scenario = read(BUS)
         liars = []
@@ -118,13 +119,14 @@ class Faults(unittest.TestCase):
     def test_whom_lies_make_the_liar_accuse(self):
         def accused(*words: str) -> list[str]:
             _, text = output_of("faults", ["-", "B1", *words], BUS)
-            return [line.split()[3] for line in text.splitlines() if line.startswith("# B1 accuses")]
+            lines = [line.split() for line in text.splitlines()]
+            return [line[3] for line in lines if line[:3] == ["#", "B1", "accuses"]]
 
         to_some = "0/4/1=7@R0", "0/4/1=8@R1,R2"
         self.assertEqual(accused(*to_some), ["R0..R2"])
         self.assertEqual(accused(to_some[0], "0/4/1=8@R1,R2,self"), ["R0"])
         self.assertEqual(accused("0/4/1=7"), ["nobody"])
-        # After the silence the RMUs take nothing from B1, so its vector in slot 8 comes back as a fault
+        # After the silence the RMUs take nothing from B1: its vector in slot 8 comes back as a fault
         self.assertEqual(accused("0/4/1=silent"), ["R0..R2"])
         # B1's word is 20: R0 alone is told another one
         self.assertEqual(accused("0/4/1=20@self", "0/4/1=7@R0"), ["R0"])

@@ -51,11 +51,13 @@ class Plans(unittest.TestCase):
 
     def test_a_data_sheet(self):
         # 1 us in units of 1 ps is the greatest u that a plan may have; 50 ppm of it are 50
-        words = ["--biu", "5", "--rmu", "4", "--slots", "12", "--drift", "50ppm", "--delay", "2us..9us"]
+        words = ["--biu", "5", "--rmu", "4", "--slots", "12", "--drift", "50ppm",
+                 "--delay", "2us..9us"]
         status, text = output_of("plan", [*words, "--rate", "1MHz"])
         self.assertEqual(status, 0)
         self.assertIn("the reference unit is 1 ps: 1000000 units are a tick of 1 us\n", text)
-        self.assertIn("plan = { u = 1000000, r = 50, dmin = 2000000, dmax = 9000000, l = 60, h = 24, ", text)
+        self.assertIn("plan = { u = 1000000, r = 50, dmin = 2000000, dmax = 9000000, l = 60, "
+                      "h = 24, ", text)
         # 26 slots of 3 windows of 60 ticks, then 60 + v + z, and the tail of at most v + z + 1
         plan = {key: int(value) for key, value in re.findall(r"(\w+) = (\d+)", text.split("\n")[3])}
         ticks = 26 * 180 + 60 + 2 * (plan["v"] + plan["z"]) + 1
@@ -64,7 +66,8 @@ class Plans(unittest.TestCase):
         self.assertEqual(output_of("plan", [*words, "--tick", "1us"]), (0, text))
 
     def test_numbers_that_are_no_whole_units_are_covered(self):
-        sheet = DataSheet(Fraction(1, 3_000_000), Fraction(50, 10**6), (Fraction(15, 10**13), Fraction(1, 10**9)))
+        sheet = DataSheet(Fraction(1, 3_000_000), Fraction(50, 10**6),
+                          (Fraction(15, 10**13), Fraction(1, 10**9)))
         # A tick is 333333 1/3 units: a third beside 50 ppm, which are 16 2/3; 1.5 ps rounds down
         self.assertEqual((sheet.unit(), sheet.numbers()),
                          (Unit.of("1ps"), {"u": 333333, "r": 17, "dmin": 1, "dmax": 1000}))
@@ -75,15 +78,17 @@ class Plans(unittest.TestCase):
     def test_words_of_a_data_sheet_that_make_no_sense(self):
         bus = ["--biu", "5", "--rmu", "4", "--slots", "12"]
         sheet = ["--tick", "1us", "--drift", "50ppm", "--delay", "2us..9us"]
-        for words in (["--tick", "1us"], [*bus, *sheet[:4]], [*bus, *sheet, "--u", "7"], ["-", "--biu", "5"],
-                      [*bus, *sheet[:4], "--delay", "9us..2us"], [*bus, *sheet[2:], "--tick", "0s"],
-                      [*bus, *sheet[2:], "--tick", "1"], [*bus, *sheet[2:], "--rate", "1us"],
+        for words in (["--tick", "1us"], [*bus, *sheet[:4]], [*bus, *sheet, "--u", "7"],
+                      ["-", "--biu", "5"], [*bus, *sheet[:4], "--delay", "9us..2us"],
+                      [*bus, *sheet[2:], "--tick", "0s"], [*bus, *sheet[2:], "--tick", "1"],
+                      [*bus, *sheet[2:], "--rate", "1us"],
                       [*bus, "--tick", "1s", "--drift", "0ppm", "--delay", "1ns"]):
             self.assertEqual(output_of("plan", words, b""), (2, ""), words)
 
     def test_times_as_text(self):
-        for seconds, text in ((Fraction(5041, 10**6), "5.041 ms"), (Fraction(0), "0 s"), (Fraction(25), "25 s"),
-                              (Fraction(1, 3_000_000), "333.333 ns"), (Fraction(-2, 10**6), "-2 us")):
+        for seconds, text in ((Fraction(5041, 10**6), "5.041 ms"), (Fraction(0), "0 s"),
+                              (Fraction(25), "25 s"), (Fraction(1, 3_000_000), "333.333 ns"),
+                              (Fraction(-2, 10**6), "-2 us")):
             self.assertEqual(time_text(seconds), text)
 
     def test_no_number_of_the_least_plan_can_be_less(self):
