@@ -71,8 +71,8 @@ class Campaigns(unittest.TestCase):
         self.take("late_onset.toml", "two_sided.toml")
         (self.folder / "broken.toml").write_text("biu = 1\n")
         status, out, said = self.campaign(9, 1, "--model")
-        self.assertEqual((status, said), (0, "tools/campaign: run by tools/model, a second model of "
-                                             "the bus, which is not proved\n"))
+        by = "tools/campaign: run by tools/model, a second model of the bus, which is not proved\n"
+        self.assertEqual((status, said), (0, by))
         rows = {line.split(",", 1)[1] for line in self.rows()}
         self.assertEqual(rows, {"scenario,status,frame,slot,stage,cause,convicted,spread,deliveries,none",
                                 "late_onset.toml,0,,,,,B2,0,30,2", "two_sided.toml,1,0,6,2,TwoSided,,0,7,0",

@@ -84,8 +84,9 @@ class Explain(unittest.TestCase):
         # Only B0 is lied to: one of three vectors names R2 in both frames; two are more than half
         text = self.liars("R2", "0/0/2=9@B0")
         self.assertIn("R2 is faulty since frame 0, slot 0, and is not convicted: of the 3 vectors "
-                      "of frames 0..1 that count, 1 names it (B0), and 2 would be needed\n  B0: "
-                      "frame 0, slot 0 (request of B0), stage 2: it said 9, and 2 was right\n", text)
+                      "of frames 0..1 that count, 1 names it (B0), and 2 would be needed\n"
+                      "  B0: frame 0, slot 0 (request of B0), stage 2: it said 9, and 2 was right",
+                      text)
         # A word of a data slot is never held against its owner
         text = self.liars("B1", "0/4/1=7@R0", "0/4/1=8@R1,R2")
         self.assertIn("B1 is faulty since frame 0, slot 4, and is not convicted: no good node "

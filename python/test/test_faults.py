@@ -126,7 +126,7 @@ class Faults(unittest.TestCase):
         self.assertEqual(accused(*to_some), ["R0..R2"])
         self.assertEqual(accused(to_some[0], "0/4/1=8@R1,R2,self"), ["R0"])
         self.assertEqual(accused("0/4/1=7"), ["nobody"])
-        # After the silence the RMUs take nothing from B1: its vector in slot 8 comes back as a fault
+        # After the silence the RMUs take nothing from B1: its vector comes back as a fault
         self.assertEqual(accused("0/4/1=silent"), ["R0..R2"])
         # B1's word is 20: R0 alone is told another one
         self.assertEqual(accused("0/4/1=20@self", "0/4/1=7@R0"), ["R0"])
@@ -139,8 +139,9 @@ class Faults(unittest.TestCase):
         self.assertNotIn("frames = [0, 1]", text)
 
     def test_words_that_make_no_sense(self):
-        for words in (["B1", "0/4"], ["B7", "0/4=1"], ["B1", "0/99=1"], ["B1", "5/4=1"], ["B1", "0/4=1@B0"], ["B1", "0/4/3=1"],
-                      ["B1"], ["0/4=1"], ["B1", "0/4=1", "B1", "0/5=1"], ["B1", "0/4/1=1@self", "--unaware"]):
+        for words in (["B1", "0/4"], ["B7", "0/4=1"], ["B1", "0/99=1"], ["B1", "5/4=1"],
+                      ["B1", "0/4=1@B0"], ["B1", "0/4/3=1"], ["B1"], ["0/4=1"],
+                      ["B1", "0/4=1", "B1", "0/5=1"], ["B1", "0/4/1=1@self", "--unaware"]):
             self.assertEqual(output_of("faults", ["-", *words], BUS), (2, ""), words)
 
 

@@ -38,7 +38,8 @@ class Layout(unittest.TestCase):
     def test_idle_slots_of_a_frame(self):
         rows = self.rows([EXAMPLES / "late_onset.toml", "--frame", 2])
         # B2 is convicted: its request slot 2 and its diagnosis slot 9 are idle
-        self.assertEqual([slot for slot, row in rows.items() if row[2] == "idle: B2 is convicted"], [2, 9])
+        idle = [slot for slot, row in rows.items() if row[2] == "idle: B2 is convicted"]
+        self.assertEqual(idle, [2, 9])
         rows = self.rows(["-"], b"biu = 2\nrmu = 1\nslots = 3\nframes = 1\n")
         self.assertEqual(rows[4], ("data 2", "nobody", "idle: nobody owns it"))
 
