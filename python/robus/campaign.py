@@ -16,6 +16,7 @@ from robus.campaign_words import BUS_DEFAULTS, Asked, asked_in, jobs_in, number_
 from robus.campaign_workers import is_gnu_parallel, run_parallel, run_workers
 from robus.engines import TOP, Engine, choose
 from robus.errors import BadArgument, NoEngine
+from robus.tool import input_of
 
 HELP = """Runs many scenarios, and keeps a row of each.
 
@@ -42,9 +43,10 @@ time of a reference unit, as 1ps: the summary has times in seconds then. What is
 tool may stand before FOLDER, too. The same line again goes on where the last run stopped; a greater
 COUNT adds to it.
 
-The scenarios are run by the library or the proved program (make build). --model, which is --engine
-model, runs them by tools/model, a second model of the bus in Python, which is not proved and
-slower, and needs no build.
+The scenarios are run by the library or the proved program (make build), or if none is up to date by
+an unproved build that tools/quick has kept. --model, which is --engine model, runs them by
+tools/model, a second model of the bus in Python, which is not proved and slower, and needs no
+build. The first line and the summary say if what runs them is not proved.
 
 Written are rows.csv, summary.txt, spread.svg, and plan.json for the next run. `scenario` prints the
 scenario of a row. docs/CAMPAIGNS.md has more."""
@@ -75,9 +77,8 @@ def bus_of(asked: Asked) -> Optional[BusFaults]:
         return None
     if file != "-" and not os.path.exists(file):
         raise BadArgument(f"--bus: {file} is no file")
-    data = sys.stdin.buffer.read() if file == "-" else Path(file).read_bytes()
     try:
-        text = data.decode("utf-8")
+        text = input_of(file).decode("utf-8")
     except UnicodeDecodeError:
         raise BadArgument(f"--bus: {file} is no text in UTF-8") from None
     found = BusFaults(text, *[asked.values.get(it, BUS_DEFAULTS[it]) for it in BUS_DEFAULTS])
@@ -97,7 +98,7 @@ def kept_plan(folder: Path, plan: Plan, asked: Asked) -> Plan:
         plan = replace(plan, generator=old.generator)
     if old.scenarios != plan.scenarios:
         raise BadArgument(f"FOLDER: {folder} is another campaign ({path}): take another folder")
-    if old.is_by_model != plan.is_by_model:
+    if old.unproved != plan.unproved:
         raise BadArgument(f"--engine: {folder} was begun with the engine {old.engine}: go on so, "
                           "or take another folder")
     return old if asked.get("--unit") is None else replace(old, unit=plan.unit)
@@ -124,7 +125,7 @@ def tell(folder: Path, plan: Plan) -> int:
     rows, unit = rows_in(folder), unit_in(plan.unit)
     if not rows:
         raise BadArgument(f"FOLDER: {folder} has no row yet")
-    text = "run by tools/model, which is not proved\n\n" if plan.is_by_model else ""
+    text = f"run by {plan.unproved}\n\n" if plan.unproved else ""
     text += summary_of(rows, unit)
     if plan.bus:
         text += "\n" + summary_of_faults(rows, unit)

@@ -20,6 +20,7 @@ if TYPE_CHECKING:
     from robus.generator import Generator
 
 MAKER = TOP / "tools/scenario"
+UNPROVED = {"model": "tools/model, which is not proved", "quick": "an unproved build"}
 
 
 class NoScenario(Exception):
@@ -54,9 +55,9 @@ class Plan:
     unit: Optional[str] = None  # the time of a reference unit, as 1ps
 
     @property
-    def is_by_model(self) -> bool:
-        """Whether tools/model runs the scenarios."""
-        return self.engine == "model"
+    def unproved(self) -> Optional[str]:
+        """What runs the scenarios, if nothing is proved about it; else None."""
+        return UNPROVED.get(self.engine)
 
     @property
     def scenarios(self) -> List[Any]:

@@ -12,19 +12,24 @@ from contextlib import suppress
 from subprocess import PIPE
 from typing import BinaryIO, List, Optional, TextIO
 
+from robus.engines import PACKAGE
+
 MOST_ITEMS = 64
 
 
 def run_workers(words: List[str], items: List[str], jobs: int, rows: BinaryIO) -> None:
-    """Runs the items in so many worker processes, each of which is given the next item when it has
-    written the row of the last one. A signal lets what is under way come to its end."""
+    """Runs the items in `jobs` worker processes. Each gets the next item when it has written the
+    row of the last one. After a signal the items that were begun are still run to their end."""
     left, done, stopped = iter(items), itertools.count(1), []
+    path = [str(PACKAGE.parent), *filter(None, [os.environ.get("PYTHONPATH")])]
+    env = {**os.environ, "PYTHONPATH": os.pathsep.join(path)}
     for it in (signal.SIGTERM, signal.SIGINT):
         signal.signal(it, lambda *_: stopped.append(True))
 
     def work(_: int) -> None:
         """Runs items in one worker process, as long as any are left."""
-        with suppress(BrokenPipeError), subprocess.Popen(words, stdin=PIPE, stdout=PIPE) as worker:
+        with suppress(BrokenPipeError), subprocess.Popen(words, stdin=PIPE, stdout=PIPE,
+                                                         env=env) as worker:
             for item in left:
                 worker.stdin.write(item.encode() + b"\n")
                 worker.stdin.flush()
@@ -43,8 +48,8 @@ def run_workers(words: List[str], items: List[str], jobs: int, rows: BinaryIO) -
 
 def run_parallel(words: List[str], items: List[str], jobs: Optional[int], asked: List[str],
                  rows: BinaryIO, lock: TextIO) -> None:
-    """Runs the items by GNU parallel, so many in a worker. It holds the lock too, so that no second
-    run begins beside it where this process is killed."""
+    """Runs the items by GNU parallel, several in a worker. It holds the lock too, so that no
+    second run begins beside it if this process is killed."""
     size = max(1, min(MOST_ITEMS, len(items) // 64))
     options = ["--line-buffer", "--max-args", str(size), *asked]
     if jobs:

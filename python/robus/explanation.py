@@ -2,13 +2,13 @@
 heard, taken and voted in a slot."""
 from __future__ import annotations
 
-import argparse
 from typing import Iterator
 
 from robus.errors import BadArgument
 from robus.layout import begins, purpose, scenario_or_status
 from robus.model import BIU, RMU, model, name_of
 from robus.texts import grouped, heard_text, message_text, names, place_text, value_text
+from robus.tool import Parser
 from robus.units import Unit, behind
 from robus.verdicts import of_nodes, since
 from robus.watch import Closed, Premise, Watched, watch
@@ -162,8 +162,7 @@ def explanation_of(scenario: model.Scenario, frame: int | None = None, slot: int
 
 def main(words: list[str]) -> int:
     """tools/explain with these words; its status."""
-    parser = argparse.ArgumentParser(prog="tools/explain", description=HELP,
-                                     formatter_class=argparse.RawDescriptionHelpFormatter)
+    parser = Parser("tools/explain", HELP)
     parser.add_argument("scenario", help="a file, or - for standard input")
     parser.add_argument("frame", type=int, nargs="?")
     parser.add_argument("slot", type=int, nargs="?")

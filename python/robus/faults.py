@@ -1,15 +1,16 @@
 """Writes the entries of nodes that are good but for given lies."""
 from __future__ import annotations
 
-import argparse
 import re
 import sys
+from argparse import SUPPRESS
 
 from robus.errors import BadArgument
 from robus.layout import purpose, scenario_or_status
 from robus.liars import Liar, Lie, Lying
 from robus.model import Stage, model, name_of
 from robus.texts import names
+from robus.tool import Parser
 
 HELP = """Writes the [[fault]] entry and the [[say]] entries of nodes that do all that good nodes
 do, but for the given lies. The scenario runs on tools/model, in which such a node goes on by the
@@ -193,8 +194,7 @@ def liars_in(words: list[str], scenario: model.Scenario, is_aware: bool) -> list
 
 def main(words: list[str]) -> int:
     """tools/faults with these words; its status."""
-    parser = argparse.ArgumentParser(prog="tools/faults", description=HELP, usage=argparse.SUPPRESS,
-                                     formatter_class=argparse.RawDescriptionHelpFormatter)
+    parser = Parser("tools/faults", HELP, SUPPRESS)
     parser.add_argument("scenario", help="a file, or - for standard input")
     parser.add_argument("lies", nargs="+", metavar="NODE LIE..",
                         help="a node, as B1 or R2, and its lies; then the next node")

@@ -1,12 +1,12 @@
 """The frame of a scenario, slot by slot: number, what it is for, who sends, who owns it."""
 from __future__ import annotations
 
-import argparse
 import sys
 from dataclasses import dataclass
 
 from robus.errors import BadArgument
 from robus.model import BIU, RMU, TooLong, model, name_of, nodes_in, read
+from robus.tool import Parser, input_of
 from robus.units import Unit, behind
 
 Masks = tuple[int, ...]  # by kind a mask of nodes
@@ -53,7 +53,7 @@ def listens(bus: model.Bus, slot: int, stage: int, kind: int) -> bool:
 
 
 def range_of(first: int, count: int) -> str:
-    """The range of so many numbers from the first on, as text."""
+    """The range of `count` numbers from the first on, as text."""
     return "%d" % first if count == 1 else "%d..%d" % (first, first + count - 1)
 
 
@@ -144,8 +144,7 @@ def table(bus: model.Bus, found: list[SlotRow], unit: Unit | None) -> list[str]:
 
 def main(words: list[str]) -> int:
     """tools/layout with these words; its status."""
-    parser = argparse.ArgumentParser(prog="tools/layout", description=HELP,
-                                     formatter_class=argparse.RawDescriptionHelpFormatter)
+    parser = Parser("tools/layout", HELP)
     parser.add_argument("scenario", help="a file, or - for standard input")
     parser.add_argument("--frame", type=int, help="the owners of this frame of the run")
     parser.add_argument("--unit", type=Unit.of, help="the time of a reference unit, as 1ps")
@@ -169,14 +168,12 @@ def main(words: list[str]) -> int:
 
 
 def scenario_or_status(path: str, tool: str) -> model.Scenario | int:
-    """The scenario of a file; where there is none, a status, with one line on standard error."""
+    """The scenario of a file; if it is refused or too long, a status, with one line on standard
+    error."""
     try:
-        return read(sys.stdin.buffer.read() if path == "-" else open(path, "rb").read())
-    except OSError as fault:
-        print("%s: %s: %s" % (tool, path, fault.strerror), file=sys.stderr)
-        return 2
+        return read(input_of(path))
     except model.Refused as refusal:
-        print("%s: %s: %s; tools/lint says where and why" % (tool, path, refusal), file=sys.stderr)
+        print(f"{tool}: {path}: {refusal}; tools/lint says where and why", file=sys.stderr)
         return 3
     except TooLong:
         print(f"{tool}: {path} is longer than {model.SCENARIO_LIMIT} bytes", file=sys.stderr)

@@ -2,13 +2,13 @@
 from __future__ import annotations
 
 import argparse
-import sys
 from dataclasses import fields, replace
 
 from robus import forms, ranges, syntax
 from robus.errors import BadArgument
 from robus.laws import RAISE
 from robus.model import TooLong, model
+from robus.tool import Parser, input_of
 from robus.units import DataSheet, Unit, behind, delays, drift, duration, tick_of_rate, time_text
 
 HELP = """Prints the seven inequalities of a scenario's timing plan, or of the least plan for a bus
@@ -110,7 +110,7 @@ def spelt(plan: model.Plan) -> str:
 def bus_of(path: str) -> model.Bus | None:
     """The bus of a scenario with its plan, whether it is feasible or not; None if sizes or plan are
     not within their ranges."""
-    data = sys.stdin.buffer.read() if path == "-" else open(path, "rb").read()
+    data = input_of(path)
     if len(data) > model.SCENARIO_LIMIT:
         raise TooLong
     if syntax.fault_of(data):
@@ -134,8 +134,7 @@ def sizes_in(asked: argparse.Namespace) -> model.Bus | list[str]:
 
 def parser_of_words() -> argparse.ArgumentParser:
     """What reads the words of tools/plan."""
-    parser = argparse.ArgumentParser(prog="tools/plan", description=HELP, usage=argparse.SUPPRESS,
-                                     formatter_class=argparse.RawDescriptionHelpFormatter)
+    parser = Parser("tools/plan", HELP, argparse.SUPPRESS)
     parser.add_argument("scenario", nargs="?", help="a file, or - for standard input")
     for key in SIZES:
         parser.add_argument("--" + key, type=int, help=forms.TABLES["root"][key][1])
@@ -191,8 +190,6 @@ def of_scenario(parser: argparse.ArgumentParser, path: str, unit: Unit | None) -
     """Prints the table of a scenario's plan; the status."""
     try:
         bus = bus_of(path)
-    except OSError as fault:
-        parser.exit(2, f"tools/plan: {path}: {fault.strerror}\n")
     except model.Refused as refusal:
         parser.exit(3, f"tools/plan: {path}: {refusal}; tools/lint says where and why\n")
     except TooLong:

@@ -85,7 +85,7 @@ class Unit:
         return cls(duration(text))
 
     def time(self, units: int) -> str:
-        """The time of so many reference units."""
+        """The time of a number of reference units."""
         return time_text(units * self.seconds)
 
     def __str__(self) -> str:
@@ -93,7 +93,7 @@ class Unit:
 
 
 def behind(unit: Optional[Unit], units: int) -> str:
-    """The time of so many reference units in brackets; nothing if no unit is given."""
+    """The time of a number of reference units in brackets; nothing if no unit is given."""
     return "" if unit is None else f" ({unit.time(units)})"
 
 

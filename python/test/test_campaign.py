@@ -24,7 +24,7 @@ from robus.latency import latencies
 from robus.model import model, read
 from robus.rows import rows_of
 
-# Stands for GNU parallel: its version, or the command of its last words once for so many lines
+# In place of GNU parallel: its version, or the command of its last words for groups of lines
 PARALLEL = """#!/usr/bin/env python3
 import subprocess, sys
 words = sys.argv[1:]
@@ -48,6 +48,7 @@ class Campaigns(unittest.TestCase):
 
     def campaign(self, *words, path: str = "") -> tuple[int, str, str]:
         env = dict(os.environ, PATH=path + os.environ["PATH"])
+        env.pop("PYTHONPATH", None)  # the tool finds its package itself
         done = subprocess.run([str(TOP / "tools/campaign"), str(self.folder), *map(str, words)],
                               capture_output=True, text=True, env=env)
         return done.returncode, done.stdout, done.stderr
