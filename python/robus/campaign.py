@@ -57,13 +57,10 @@ def fail(why: str) -> NoReturn:
 
 def engine_of(name: Optional[str]) -> Engine:
     """The engine that is asked for; tools/model has to be asked for by name."""
-    try:
-        engine = choose(["run"], name)
-    except NoEngine as fault:
-        fail(str(fault))
+    engine = choose(["run"], name)
     if engine.name == "model" and not (name or os.environ.get("ROBUS_ENGINE")):
-        fail("no proved program is up to date: make build makes one, and --model runs tools/model "
-             "in its place, which is not proved")
+        raise NoEngine("no program is up to date: make build makes one, and --model runs "
+                       "tools/model in its place, which is not proved")
     return engine
 
 
