@@ -133,7 +133,7 @@ def begins(bus: model.Bus, slot: int, unit: Unit) -> str:
 
 
 def table(bus: model.Bus, found: list[SlotRow], unit: Unit | None) -> list[str]:
-    """The rows under a head, with the time at which each begins if a unit is given."""
+    """The rows under a head. If a unit is given, they have the time at which each slot begins."""
     times = [begins(bus, it.slot, unit) if unit else "" for it in found]
     wide = max(map(len, times)) + 2 if unit else 0
     lines = ["slot  " + ("begins".ljust(wide) if unit else "") + "for               owner   stages"]

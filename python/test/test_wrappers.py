@@ -64,7 +64,8 @@ class Words(unittest.TestCase):
             self.assertTrue(said.startswith(tool + ": "), said)
 
     def test_help(self):
-        tools = {str(path.relative_to(TOP)) for path in (TOP / "tools").iterdir() if path.is_file()} - {"tools/robus"}
+        tools = {str(path.relative_to(TOP)) for path in (TOP / "tools").iterdir()
+                 if path.is_file() and os.access(path, os.X_OK)} - {"tools/robus"}
         for (tool, _), (status, out, said) in calls(*[(tool, "--help") for tool in sorted(tools)]):
             self.assertEqual((status, said), (0, ""), tool)
             self.assertIn(tool, out)
