@@ -2,59 +2,33 @@
 
     tools/campaign_row ENGINE [ITEM..]
 
-runs the scenarios of the items, or where there are none those of the lines of standard input, and
+runs the scenarios of the items, or if there are none those of the lines of standard input, and
 writes a row of each. An item is `NUMBER file PATH`, `NUMBER seed SEED` for a scenario of
-tools/scenario, or `NUMBER command SEED COMMAND`, whose output is the scenario. An item whose
-scenario can't be had, or whose run is killed, has an empty line in place of its row, and the status
-is 1 then. After SIGINT or SIGTERM no further item is run."""
+tools/scenario, `NUMBER bus SEED PLAN` for one of the bus in a campaign's plan.json, or
+`NUMBER command SEED COMMAND`, whose output is the scenario. An item whose scenario can't be had, or
+whose run is killed, has an empty line in place of its row, and the status is 1 then. After SIGINT
+or SIGTERM no further item is run."""
 from __future__ import annotations
 
 import csv
 import io
 import os
 import signal
-import subprocess
 import sys
-from functools import lru_cache
-from importlib.machinery import SourceFileLoader
-from importlib.util import module_from_spec, spec_from_loader
 from pathlib import Path
-from types import ModuleType
 from typing import Dict, List
 
-from robus.engines import TOP, Engine, named
+from robus.campaign_plan import NoScenario, columns_of, text_of
+from robus.engines import Engine, named
 from robus.errors import RobusError
-from robus.rows import cell
-from robus.summary import summary_of_output
+from robus.rows import cell, rows_of
+from robus.summary import summary_of
 from robus.sweep import COLUMNS
 
 HEAD = ["number", "scenario", *COLUMNS]
-
-
-class NoScenario(Exception):
-    """The scenario of an item can't be had, or its run gave nothing."""
-
-
-@lru_cache(maxsize=None)
-def maker() -> ModuleType:
-    """tools/scenario, as a module."""
-    loader = SourceFileLoader("robus_scenario_maker", str(TOP / "tools/scenario"))
-    module = module_from_spec(spec_from_loader(loader.name, loader))
-    loader.exec_module(module)
-    return module
-
-
-def text_of(kind: str, source: str) -> bytes:
-    """The scenario of an item."""
-    if kind == "file":
-        return Path(source).read_bytes()
-    if kind == "seed":
-        return maker().text_of(int(source))
-    command = source.partition(" ")[2]
-    done = subprocess.run(["bash", "-c", command], stdout=subprocess.PIPE)
-    if done.returncode != 0:
-        raise NoScenario("the command %s ended with %d" % (command, done.returncode))
-    return done.stdout
+# What a row of a bus with faults has beside these
+MORE = ["faults", "latency_least", "latency_greatest", "lost_of_good"]
+NUMBERS = "number", "deliveries", "none"  # what each whole row has as a number
 
 
 def name_of(kind: str, source: str) -> str:
@@ -65,11 +39,16 @@ def name_of(kind: str, source: str) -> str:
 def row_text(engine: Engine, item: str) -> str:
     """The row of an item, as a line of CSV."""
     number, kind, source = item.split(" ", 2)
-    found = engine.call(["run"], text_of(kind, source))
-    summary = summary_of_output(found.status, found.output)
+    text = text_of(kind, source)
+    found = engine.call(["run"], text)
+    if found.status < 0:
+        raise NoScenario(f"{engine} was killed by signal {-found.status}")
+    rows = list(rows_of(found.output.decode("ascii").splitlines()))
+    summary, more = summary_of(found.status, rows), columns_of(kind, source, text, rows)
     line = io.StringIO()
     csv.writer(line, lineterminator="\n").writerow(
-        [number, name_of(kind, source), *[cell(getattr(summary, name)) for name in COLUMNS]])
+        [number, name_of(kind, source), *[cell(getattr(summary, name)) for name in COLUMNS],
+         *[cell(more[name]) for name in MORE if more]])
     return line.getvalue()
 
 
@@ -87,7 +66,7 @@ def main(words: List[str]) -> int:
         try:
             row = row_text(engine, item)
         except (NoScenario, OSError, RobusError) as fault:
-            print("campaign: no row %s: %s" % (item.split(" ")[0], fault), file=sys.stderr)
+            print(f"campaign: no row {item.split(' ')[0]}: {fault}", file=sys.stderr)
             row, status = "\n", 1
         os.write(sys.stdout.fileno(), row.encode())
     return status
@@ -103,21 +82,25 @@ def put(path: Path, text: str) -> None:
     os.replace(new, path)
 
 
-def rows_in(folder: Path) -> Dict[int, List[str]]:
-    """The whole rows, by number; what a killed run left of its last one is none."""
+def rows_in(folder: Path) -> Dict[int, Dict[str, str]]:
+    """The whole rows by number, each by column; what a killed run left of its last one is none."""
     path, rows = folder / "rows.csv", {}
     text = path.read_text(encoding="utf-8", errors="replace") if path.exists() else ""
-    for line in text.split("\n")[1:-1]:
-        found = next(csv.reader([line]), [])
-        if len(found) == len(HEAD) and found[0].isdigit() and found[-1].isdigit():
-            rows.setdefault(int(found[0]), found)
+    lines = text.split("\n")
+    head = next(csv.reader(lines[:1]), [])
+    for line in lines[1:-1]:
+        cells = next(csv.reader([line]), [])
+        found = dict(zip(head, cells))
+        if len(cells) == len(head) and all(found.get(it, "").isdigit() for it in NUMBERS):
+            rows.setdefault(int(found["number"]), found)
     return rows
 
 
-def settle(folder: Path) -> Dict[int, List[str]]:
+def settle(folder: Path, head: List[str]) -> Dict[int, Dict[str, str]]:
     """Leaves each whole row once, in order."""
     rows, text = rows_in(folder), io.StringIO()
-    out = csv.writer(text, lineterminator="\n")
-    out.writerows([HEAD] + [rows[number] for number in sorted(rows)])
+    out = csv.DictWriter(text, head, lineterminator="\n", restval="", extrasaction="ignore")
+    out.writeheader()
+    out.writerows(rows[number] for number in sorted(rows))
     put(folder / "rows.csv", text.getvalue())
     return rows

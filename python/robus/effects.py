@@ -1,4 +1,4 @@
-"""What an accepted scenario says that can have no effect, or another one than meant: warnings."""
+"""Warnings: what an accepted scenario says that can have no effect, or another than meant."""
 from __future__ import annotations
 
 from typing import Iterator
@@ -28,15 +28,19 @@ def receivers(bus: model.Bus, pattern: model.Pattern) -> list[model.Node]:
 
 
 def unheard(scenario: model.Scenario, place: Place, say: model.Say) -> Iterator[Warned]:
-    """A say entry in stages in which no receiver listens, or to receivers that are all faulty by then."""
+    """A say entry in stages in which no receiver listens, or to receivers that are all faulty by
+    then."""
     bus, kind = scenario.bus, say.target[0]
     if not any(listens(bus, slot, stage, kind) for slot, stage in windows_of(say)):
         slot, stage = say.slots[0], say.stages[0]
-        what = "the tail" if stage == TAIL else "stage %d of slot %d (%s)" % (stage, slot, purpose(bus, slot))
-        yield place, "no %s listens in %s: what is said there is never taken, and is evidence against %s" % (
-            ("BIU", "RMU")[kind], what, name_of(say.source))
-    if not any(scenario.is_good(node, say.frames[0], say.slots[0]) for node in receivers(bus, say.target)):
-        yield place + ("to",), "each node to which this is said is faulty by then, and hears nothing"
+        place_text = f"stage {stage} of slot {slot} ({purpose(bus, slot)})"
+        what = "the tail" if stage == TAIL else place_text
+        yield place, (f"no {('BIU', 'RMU')[kind]} listens in {what}: what is said there is never "
+                      f"taken, and is evidence against {name_of(say.source)}")
+    frame, slot = say.frames[0], say.slots[0]
+    if not any(scenario.is_good(node, frame, slot) for node in receivers(bus, say.target)):
+        yield place + ("to",), ("each node to which this is said is faulty by then, and hears "
+                                "nothing")
 
 
 def said_twice(scenario: model.Scenario, places: list[Place]) -> Iterator[Warned]:
@@ -49,9 +53,12 @@ def said_twice(scenario: model.Scenario, places: list[Place]) -> Iterator[Warned
     for index, say in enumerate(scenario.says):
         for before, other in enumerate(scenario.says[:index]):
             same = say.source == other.source and heard[index] & heard[before]
-            if same and meet(say.frames, other.frames) and meet(say.slots, other.slots) and meet(say.stages, other.stages):
-                yield places[index], ("%s speaks to the same receiver in the same window: two messages there are evidence, "
-                                      "and none is taken" % title(places[before]))
+            ranges = ((say.frames, other.frames), (say.slots, other.slots),
+                      (say.stages, other.stages))
+            if same and all(meet(*it) for it in ranges):
+                yield places[index], (f"{title(places[before])} speaks to the same receiver in the "
+                                      "same window: two messages there are evidence, and none is "
+                                      "taken")
                 break
 
 
@@ -69,48 +76,63 @@ def covered_links(scenario: model.Scenario) -> Iterator[Warned]:
     skipped = len(scenario.links) - len(links)
     for index, rule in enumerate(links):
         for later, other in enumerate(links[index + 1:], index + 1):
-            if (end_within(rule.source, other.source) and end_within(rule.target, other.target) and within(rule.frames, other.frames)
-                    and within(rule.slots, other.slots) and within(rule.stages, other.stages)):
-                yield ("link", skipped + index), "%s is for all of these messages, and the last one counts" % title(
-                    ("link", skipped + later))
+            ends = (rule.source, other.source), (rule.target, other.target)
+            ranges = ((rule.frames, other.frames), (rule.slots, other.slots),
+                      (rule.stages, other.stages))
+            if all(end_within(*it) for it in ends) and all(within(*it) for it in ranges):
+                yield ("link", skipped + index), (f"{title(('link', skipped + later))} is for all "
+                                                  "of these messages, and the last one counts")
                 break
 
 
 def of_root(scenario: model.Scenario, document: model.Document) -> Iterator[Warned]:
-    """Words that are never said, a probation in which no accusation lapses, and clocks that nothing asks."""
+    """Words that are never said, a probation in which no accusation lapses, and clocks that
+    nothing asks."""
     bus = scenario.bus
     if "requests" in document and "words" in document:
         for number, asked in enumerate(scenario.requests):
             if not asked and scenario.words[number]:
-                yield ("words", number), "B%d asks for no data slot, so its word is never said" % number
+                yield ("words", number), (f"B{number} asks for no data slot, so its word is never "
+                                          "said")
     if "probation" in document and 0 < scenario.frames <= bus.probation:
-        yield ("probation",), "no accusation lapses in a run of %d frames" % scenario.frames
+        yield ("probation",), f"no accusation lapses in a run of {scenario.frames} frames"
     for number, entry in enumerate(document.get("clock", [])):
         onset = scenario.onsets.get(("BR".index(entry["node"][0]), int(entry["node"][1:])))
         if onset == (0, 0):
-            yield ("clock", number), "%s is faulty from the first slot on, so nothing asks its clock" % entry["node"]
+            yield ("clock", number), (f"{entry['node']} is faulty from the first slot on, so "
+                                      "nothing asks its clock")
+
+
+def convicted_since(run: Watched, node: model.Node) -> int | None:
+    """The frame from which on some good node holds a node convicted."""
+    kind, number = node
+    return min((frame for frame, starts in run.starts.items()
+                if any(it.convicted[kind] >> number & 1 for it in starts.values())), default=None)
 
 
 def of_run(run: Watched, places: list[Place]) -> Iterator[Warned]:
-    """Say entries of nodes that are convicted by then, in idle slots, or past the end of the run."""
+    """Say entries of nodes that are convicted by then, in idle slots, or past the end of the
+    run."""
     scenario, bus = run.scenario, run.bus
     for place, say in zip(places, scenario.says):
-        first = say.frames[0], say.slots[0]
-        if run.breach and (say.frames[0], say.slots[0], say.stages[0]) > run.place:
-            yield place, "the run ends before, with the breach in frame %d, slot %d, stage %d" % run.place
+        frame, slot = say.frames[0], say.slots[0]
+        if run.breach and (frame, slot, say.stages[0]) > run.place:
+            yield place, "the run ends before, with the breach in frame %d, slot %d, stage %d" % (
+                run.place)
             continue
-        masks = next(iter(run.starts.get(say.frames[0], {}).values()), None)
-        if masks and masks.convicted[say.source[0]] >> say.source[1] & 1:
-            since = min(frame for frame, starts in run.starts.items()
-                        if any(it.convicted[say.source[0]] >> say.source[1] & 1 for it in starts.values()))
-            yield place, "%s is convicted from frame %d on, so nobody takes what it says" % (name_of(say.source), since)
-        elif say.slots[1] < bus.sync and all(is_idle(run, frame, slot) for frame in range(say.frames[0], say.frames[1] + 1)
-                                             for slot in range(say.slots[0], say.slots[1] + 1)):
-            yield place, "slot %d of frame %d is idle, its sender being convicted or none, so nobody listens" % (first[1], first[0])
+        since = convicted_since(run, say.source)
+        slots = [(at, it) for at in range(say.frames[0], say.frames[1] + 1)
+                 for it in range(say.slots[0], say.slots[1] + 1)]
+        if since is not None and since <= frame:
+            yield place, (f"{name_of(say.source)} is convicted from frame {since} on, so nobody "
+                          "takes what it says")
+        elif say.slots[1] < bus.sync and all(is_idle(run, *it) for it in slots):
+            yield place, (f"slot {slot} of frame {frame} is idle, its sender being convicted or "
+                          "none, so nobody listens")
 
 
 def is_idle(run: Watched, frame: int, slot: int) -> bool:
-    """Whether no good node has a sender in this slot; not where the run did not come there."""
+    """Whether no good node has a sender in this slot; not if the run does not come there."""
     return (frame, slot) in run.reached and (frame, slot) not in run.busy
 
 
@@ -121,10 +143,12 @@ def warnings(data: bytes) -> list[tuple[int, Place, str]]:
     document = syntax.tomllib.loads(model.older_toml(text))
     locator = Locator(text)
     places = [("say", number) for number in range(len(scenario.says))]
-    found = list(of_root(scenario, document)) + list(covered_links(scenario)) + list(said_twice(scenario, places))
+    found = [*of_root(scenario, document), *covered_links(scenario), *said_twice(scenario, places)]
     for place, say in zip(places, scenario.says):
         found += unheard(scenario, place, say)
-    if scenario.says and 3 * scenario.bus.sync * scenario.frames * len(scenario.bus.nodes()) <= MOST_STAGES:
+    stages = 3 * scenario.bus.sync * scenario.frames * len(scenario.bus.nodes())
+    if scenario.says and stages <= MOST_STAGES:
         known = {place[:2] for place, _ in found if place[0] == "say"}
         found += [it for it in of_run(watch(scenario), places) if it[0] not in known]
-    return sorted(((locator.line_of(place), place, why) for place, why in found), key=lambda it: it[0])
+    return sorted(((locator.line_of(place), place, why) for place, why in found),
+                  key=lambda it: it[0])

@@ -1,17 +1,30 @@
-"""Campaigns: the rows that docs/CAMPAIGNS.md shows, what a stopped one does, and how GNU parallel is called."""
+"""Campaigns: the rows that docs/CAMPAIGNS.md shows, what a stopped one does, how GNU parallel is
+called, and faults that are drawn."""
+import contextlib
+import io
 import json
 import os
+import re
 import shutil
 import stat
 import subprocess
 import tempfile
 import unittest
+from math import sqrt
 from pathlib import Path
 
-from helpers import EXAMPLES, TOP, script
-from robus.campaign import in_order
+from helpers import EXAMPLES, TOP, run_model
+from robus.__main__ import run
+from robus.campaign_words import asked_in
+from robus.campaign_faults import summary_of_faults, wilson
+from robus.campaign_summary import histogram_of
+from robus.errors import BadArgument
+from robus.generator import Generator
+from robus.latency import latencies
+from robus.model import model, read
+from robus.rows import rows_of
 
-# Stands for GNU parallel: its version, or the command of its last words once for so many lines
+# In place of GNU parallel: its version, or the command of its last words for groups of lines
 PARALLEL = """#!/usr/bin/env python3
 import subprocess, sys
 words = sys.argv[1:]
@@ -35,7 +48,9 @@ class Campaigns(unittest.TestCase):
 
     def campaign(self, *words, path: str = "") -> tuple[int, str, str]:
         env = dict(os.environ, PATH=path + os.environ["PATH"])
-        done = subprocess.run([str(TOP / "tools/campaign"), str(self.folder), *map(str, words)], capture_output=True, text=True, env=env)
+        env.pop("PYTHONPATH", None)  # the tool finds its package itself
+        done = subprocess.run([str(TOP / "tools/campaign"), str(self.folder), *map(str, words)],
+                              capture_output=True, text=True, env=env)
         return done.returncode, done.stdout, done.stderr
 
     def rows(self) -> list[str]:
@@ -46,15 +61,19 @@ class Campaigns(unittest.TestCase):
             shutil.copy(EXAMPLES / name, self.folder)
 
     def test_options_may_stand_first(self):
-        words = ["--model", "--jobs", "2", "FOLDER", "9", "1", "--generator", "COMMAND"]
-        self.assertEqual(in_order(words), ["FOLDER", "9", "1", "--model", "--jobs", "2", "--generator", "COMMAND"])
-        self.assertEqual(in_order(["FOLDER", "summary"]), ["FOLDER", "summary"])
+        asked = asked_in(["--model", "--jobs", "2", "FOLDER", "9", "1", "--generator", "COMMAND",
+                          "--retries", "3"])
+        self.assertEqual(asked.words, ["FOLDER", "9", "1"])
+        self.assertEqual(asked.values,
+                         {"--engine": "model", "--jobs": "2", "--generator": "COMMAND"})
+        self.assertEqual(asked.options, ["--retries", "3"])
 
     def test_the_rows_of_the_page(self):
         self.take("late_onset.toml", "two_sided.toml")
         (self.folder / "broken.toml").write_text("biu = 1\n")
         status, out, said = self.campaign(9, 1, "--model")
-        self.assertEqual((status, said), (0, "tools/campaign: run by tools/model, a second model of the bus, which is not proved\n"))
+        by = "tools/campaign: run by tools/model, a second model of the bus, which is not proved\n"
+        self.assertEqual((status, said), (0, by))
         rows = {line.split(",", 1)[1] for line in self.rows()}
         self.assertEqual(rows, {"scenario,status,frame,slot,stage,cause,convicted,spread,deliveries,none",
                                 "late_onset.toml,0,,,,,B2,0,30,2", "two_sided.toml,1,0,6,2,TwoSided,,0,7,0",
@@ -95,7 +114,8 @@ class Campaigns(unittest.TestCase):
 
     def test_it_goes_on_with_what_it_began_with(self):
         self.take("late_onset.toml")
-        (self.folder / "plan.json").write_text(json.dumps({"seed": 1, "files": ["late_onset.toml"], "generator": None, "program": "proved"}))
+        plan = {"seed": 1, "files": ["late_onset.toml"], "generator": None, "program": "proved"}
+        (self.folder / "plan.json").write_text(json.dumps(plan))
         self.assertIn("was begun with the engine program", self.campaign(1, 1, "--model")[2])
 
     def test_options_of_parallel(self):
@@ -110,13 +130,180 @@ class Campaigns(unittest.TestCase):
         self.assertEqual((status, len(self.rows())), (0, 4), said)
 
 
-class Pictures(unittest.TestCase):
-    def test_ranges_of_the_histogram(self):
-        from robus.campaign_summary import histogram_of
+    def test_mistakes_are_one_line_that_names_the_argument(self):
+        self.take("late_onset.toml")
+        file = self.folder / "late_onset.toml"
+        for words, named in (
+                (["scenario", 1], "FOLDER"), (["scenario"], "NUMBER"), (["summary"], "FOLDER"),
+                (["x", 1], "COUNT"), ([0, 1], "COUNT"), ([3, "y"], "SEED"), ([3], "SEED"),
+                ([3, 1, "--jobs", "none"], "--jobs"), ([3, 1, "--unit", "7"], "--unit"),
+                ([3, 1, "--bus"], "--bus"), ([3, 1, "--bus", "none"], "--bus"),
+                ([3, 1, "--bus", file], "FOLDER"), ([3, 1, "--kinds", "silent"], "--kinds")):
+            self.assert_one_line([*words, "--model"], named)
+        self.assertEqual(self.campaign(1, 1, "--model")[0], 0)
+        self.assert_one_line(["scenario", 99], "NUMBER: 99 is no number from 1 to 1")
+        (self.folder / "plan.json").write_text('{"seed": 1, "files"')
+        for words in (["scenario", 1], ["summary"], [1, 1, "--model"]):
+            self.assert_one_line(words, "plan.json is damaged")
+        none = self.folder / "none"
+        for folder, words in ((file, ["summary"]), (file, [1, 1, "--model"]), (none, ["summary"]),
+                              (none, ["scenario", 1])):
+            self.folder = folder
+            self.assert_one_line(words, f"FOLDER: {folder} is no folder")
 
-        drawn = histogram_of([0, 0, 7, 299], "spreads")
-        self.assertIn("<title>0 to 9: 3</title>", drawn)
+    def assert_one_line(self, words: list, named: str):
+        """One line behind the one that names the engine, and the status of wrong words."""
+        out, said = io.StringIO(), io.StringIO()
+        with contextlib.redirect_stdout(out), contextlib.redirect_stderr(said):
+            status = run("campaign", [str(word) for word in (self.folder, *words)])
+        lines = [line for line in said.getvalue().splitlines() if ": run by " not in line]
+        self.assertEqual((status, out.getvalue(), len(lines)), (2, "", 1), (words, lines))
+        self.assertIn(named, lines[0], words)
+
+
+BUS = """biu = 4
+rmu = 4
+slots = 6
+frames = 5
+requests = [2, 1, 1, 1]
+words = [10, 20, 30, 40]
+"""
+KINDS = "silent,symmetric,asymmetric,babbling"
+
+
+class Faults(unittest.TestCase):
+    """Campaigns of one bus with faults."""
+
+    def test_what_is_drawn(self):
+        generator = Generator.of(BUS, "1..2", "silent,asymmetric", "1..2/3..9")
+        found = [generator.faults_of(seed) for seed in range(200)]
+        self.assertEqual({len(it) for it in found}, {1, 2})
+        faults = [fault for it in found for fault in it]
+        self.assertEqual({it.node for it in faults},
+                         {f"{kind}{number}" for kind in "BR" for number in range(4)})
+        self.assertEqual({it.kind for it in faults}, {"silent", "asymmetric"})
+        self.assertEqual({(it.frame, it.slot) for it in faults},
+                         {(frame, slot) for frame in (1, 2) for slot in range(3, 10)})
+        # Two faulty nodes are never the same one, and one that is faulty in the bus is not drawn
+        self.assertTrue(all(len({it.node for it in some}) == len(some) for some in found))
+        faulty = BUS + '[[fault]]\nnode = "R1"\nframe = 0\nslot = 0\n'
+        generator = Generator.of(faulty, "7", KINDS, "any")
+        self.assertNotIn("R1", {it.node for it in generator.faults_of(3)})
+
+    def test_kinds_are_heard_as_their_names_say(self):
+        short = BUS.replace("frames = 5", "frames = 1")
+        for kind, name in (("silent", "benign"), ("symmetric", "symmetric"),
+                           ("asymmetric", "asymmetric")):
+            for seed in range(8):
+                generator = Generator.of(short, "1", kind, "0/0")
+                run = FirstFrame(read(generator.text_of(seed))).run()
+                node = model.node_in(run.bus, generator.faults_of(seed)[0].node)
+                self.assertEqual(run.class_of(node), name, (kind, seed))
+
+    def test_what_a_babbler_says_is_heard_everywhere(self):
+        scenario = read(Generator.of(BUS, "1", "babbling", "2/7").text_of(1))
+        said = [(it.frames, it.slots, it.stages) for it in scenario.says]
+        # From slot 7 of frame 2 on, up to the sync slot, 2 * 4 + 4 + 6 = 18; then whole frames
+        self.assertEqual(said, [((2, 2), (7, 18), (1, 3)), ((3, 4), (0, 18), (1, 3))])
+
+    def test_latency_by_hand(self):
+        # 2 l - 1 - h ticks of 10000 units by one clock; B0 begins 1000 units after all others
+        data = BUS + '[[clock]]\nnode = "B0"\nstart = 1000\n'
+        scenario = read(data.encode())
+        rows = rows_of(run_model("run", data=data.encode()).splitlines())
+        found = [it for it, row in zip(latencies(scenario, rows), range(8))]
+        # The first two slots are those of B0 and B1, each with its four receivers
+        self.assertEqual(found, [230000, 229000, 229000, 229000,
+                                 231000, 230000, 230000, 230000])
+
+    def test_the_interval_is_that_of_wilson(self):
+        # 0 of 10: from 0 to z^2 / (10 + z^2); 5 of 10: (1 -+ z / sqrt(10 + z^2)) / 2
+        square = 3.841458820694
+        half = sqrt(square / (10 + square)) / 2
+        for found, low, high in ((0, 0, square / (10 + square)), (5, 0.5 - half, 0.5 + half)):
+            self.assertAlmostEqual(wilson(found, 10)[0], low)
+            self.assertAlmostEqual(wilson(found, 10)[1], high)
+
+    def test_the_summary_counts(self):
+        def row(faults: str, status: int, convicted: str, none: int) -> dict:
+            return {"faults": faults, "status": str(status), "convicted": convicted,
+                    "deliveries": "20", "none": str(none), "lost_of_good": "0",
+                    "latency_least": "5", "latency_greatest": "9"}
+
+        text = summary_of_faults({1: row("", 0, "", 0), 2: row("B1:silent:0/0", 0, "B1", 2),
+                                  3: row("R1:silent:3/5", 1, "", 0),
+                                  4: row("B1:silent:0/0 R2:babbling:1/1", 0, "R2", 4)})
+        lines = [re.split(r"  +", line.strip()) for line in text.splitlines()]
+        self.assertIn(["none", "1", "0 (0.0..79.3 %)", "-", "0 (0.0..79.3 %)"], lines)
+        half = "1 (9.5..90.5 %)"
+        self.assertIn(["1 silent", "2", half, half, half], lines)
+        self.assertIn(["1 babbling, 1 silent", "1 of 2", "20", "4", "0", "5", "9", "9"], lines)
+
+    def test_a_campaign_of_a_bus(self):
+        with tempfile.TemporaryDirectory() as room:
+            folder, bus = Path(room, "own"), Path(room, "bus.toml")
+            bus.write_text(BUS)
+            words = [TOP / "tools/campaign", folder, "3", "1", "--model", "--jobs", "1",
+                     "--bus", bus, "--unit", "1ns", "--faults", "1"]
+            done = subprocess.run(words, capture_output=True, text=True)
+            self.assertEqual(done.returncode, 0, done.stderr)
+            rows = (folder / "rows.csv").read_text().splitlines()
+            self.assertEqual(len(rows), 4)
+            self.assertTrue(rows[0].endswith(",faults,latency_least,latency_greatest,lost_of_good"))
+            self.assertIn("1 of any kind", done.stdout)
+            # The scenario behind a row does not need the file of the bus any more
+            bus.unlink()
+            done = subprocess.run([*words[:2], "scenario", "3"], capture_output=True, text=True)
+            self.assertEqual(done.stdout.encode(), Generator.of(BUS, "1", KINDS, "any").text_of(3))
+            # Other faults are another campaign
+            bus.write_text(BUS)
+            done = subprocess.run([*words[:-1], "2"], capture_output=True, text=True)
+            self.assertIn("is another campaign", done.stderr)
+
+    def test_arguments_that_do_not_fit_the_bus(self):
+        for words in (("9", KINDS, "any"), ("2..1", KINDS, "any"), ("1", "loud", "any"),
+                      ("1", "", "any"), ("1", KINDS, "5"), ("1", KINDS, "0/19"),
+                      ("1", KINDS, "soon")):
+            self.assertRaises(BadArgument, Generator.of, BUS, *words)
+        self.assertRaises(BadArgument, Generator.of, "biu = 1", "1", KINDS, "any")
+        large = ("biu = 16\nrmu = 16\nslots = 64\nframes = 9\n"
+                 "plan = { l = 17, h = 7, v = 20, z = 22, p = 60121 }\n")
+        self.assertRaises(BadArgument, Generator.of, large, "16", "asymmetric", "any")
+
+
+class FirstFrame(model.World):
+    """A run that keeps how nodes were heard in frame 0."""
+
+    first = None
+
+    def settle_frame(self, frame, starts):
+        if frame == 1:
+            self.first = self.judge
+        super().settle_frame(frame, starts)
+
+    def class_of(self, node: model.Node) -> str:
+        judge = self.first or self.judge
+        if node[1] in judge.unlike[node[0]]:
+            return "asymmetric"
+        return "symmetric" if node[1] in judge.heard[node[0]] else "benign"
+
+
+class Pictures(unittest.TestCase):
+    def test_even_ranges(self):
+        drawn = histogram_of([0, 100, 200, 299])
+        self.assertIn("<title>0 to 9: 1</title>", drawn)
         self.assertIn("<title>290 to 299: 1</title>", drawn)
+        self.assertNotIn("logarithmic", drawn)
+        # All alike: a bar in the middle
+        drawn = histogram_of([5000] * 3)
+        self.assertEqual(drawn.count('class="bar"'), 1)
+        self.assertIn('<rect class="bar" x="327.0"', drawn)
+
+    def test_ranges_of_a_logarithmic_axis(self):
+        drawn = histogram_of([0, 0, 7, 299])
+        for title in ("0 to 4: 2", "5 to 9: 1", "200 to 499: 1"):
+            self.assertIn(f"<title>{title}</title>", drawn)
+        self.assertIn("on a logarithmic axis", drawn)
 
 
 if __name__ == "__main__":

@@ -18,6 +18,13 @@ node = "R2"
 frame = 0
 slot = %d
 """
+BUS = b"""biu = 3
+rmu = 3
+slots = 4
+frames = 2
+requests = [2, 1, 1]
+words = [10, 20, 30]
+"""
 
 
 def explained(name: str, *words) -> str:
@@ -67,6 +74,55 @@ class Explain(unittest.TestCase):
         text = explained("two_buses.toml")
         self.assertIn("it sent bytes that spell no message of this bus (010000000002000000020607)", text)
         self.assertIn("nobody is convicted", explained("probation.toml"))
+
+    def liars(self, *words: str) -> str:
+        """What is explained of BUS with the liars that tools/faults writes."""
+        _, entries = output_of("faults", ["-", *words], BUS)
+        return output_of("explain", ["-"], BUS + entries.encode())[1]
+
+    def test_why_a_liar_is_not_convicted(self):
+        # Only B0 is lied to: one of three vectors names R2 in both frames; two are more than half
+        text = self.liars("R2", "0/0/2=9@B0")
+        self.assertIn("R2 is faulty since frame 0, slot 0, and is not convicted: of the 3 vectors "
+                      "of frames 0..1 that count, 1 names it (B0), and 2 would be needed\n"
+                      "  B0: frame 0, slot 0 (request of B0), stage 2: it said 9, and 2 was right",
+                      text)
+        # A word of a data slot is never held against its owner
+        text = self.liars("B1", "0/4/1=7@R0", "0/4/1=8@R1,R2")
+        self.assertIn("B1 is faulty since frame 0, slot 4, and is not convicted: no good node "
+                      "has evidence against it\n", text)
+        # In the last diagnosis slot of the last frame all BIUs have said their vectors
+        text = self.liars("R2", "1/12=silent")
+        self.assertIn("no vector of a frame that ended names it, but B0..B2 would\n  B0..B2: ",
+                      text)
+
+    def test_whom_a_faulty_node_accuses_and_what_that_tips(self):
+        text = self.liars("R2", "0/0/2=9@B0", "B1", "0/4/1=21", "--unaware")
+        self.assertIn("R2 is convicted from frame 1 on", text)
+        self.assertIn("  without the vectors of faulty nodes (B1) it would not be convicted: "
+                      "of 2 vectors, 1 names it (B0)\n", text)
+        # R2 is convicted from frame 1 on, and vectors name trusted nodes alone
+        self.assertIn("  B1 names R0 R1 in frame 1\n  B1 names R0..R2 in frame 0\n", text)
+
+    def test_how_near_the_premise_came_to_a_breach(self):
+        # Two good against one heard liar: with one more liar it is one against two
+        text = self.liars("R2", "0/0/2=9@B0")
+        self.assertIn("  BIUs: 3 good, 0 others heard; "
+                      "a breach takes 2 more of the good to lie there\n", text)
+        self.assertIn("  RMUs: 2 good, 1 other heard (R2) in frame 0, slot 0 (request of B0), "
+                      "stage 2; a breach takes 1 more of the good to lie there\n", text)
+        self.assertIn("  heard differently: R2 in frame 0, slot 0 (request of B0), stage 2; "
+                      "a breach takes one of the BIUs too\n", text)
+        text = explained("asymmetric_sender.toml", 0, 4)
+        self.assertIn("  premise: BIUs 2 good, 1 other heard (B1); RMUs 3 good, 0 others heard\n",
+                      text)
+
+    def test_times_beside_ticks(self):
+        # Slot 4 is 12 windows of 15 ticks of 10000 units behind the frame's start; a message that
+        # is sent at tick 6 of its window takes a tick
+        _, text = output_of("explain", ["-", "0", "4", "--unit", "100ps"], BUS)
+        self.assertIn("frame 0, slot 4: data 1, from tick 180 (180 us) of the frame on\n", text)
+        self.assertIn(" B1 20 at tick 7 (7 us) ", text)
 
     def test_a_slot(self):
         rows = [line.split("  ") for line in explained("asymmetric_sender.toml", 0, 4).splitlines()]

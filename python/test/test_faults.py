@@ -4,6 +4,7 @@ import unittest
 
 from helpers import output_of, run_model, script
 from robus.faults import lie_in, lying
+from robus.liars import Liar
 from robus.model import model, name_of, read
 
 maker = script("compare_models")
@@ -76,8 +77,21 @@ class Faults(unittest.TestCase):
             status, text = output_of("faults", ["-", name_of(node), lie], data)
             if status == 2:
                 continue
-            run, _ = lying(read(data), node, [lie_in(lie, scenario, node)])
+            run = lying(read(data), [Liar(node, [lie_in(lie, scenario, node)])])
             self.assertEqual(run_model("run", data=data + text.encode()).splitlines(), run.lines)
+
+    def test_the_entries_of_two_make_the_run_of_both(self):
+        lies = {"R2": ["0/0/2=9@B0", "0/13=silent"], "B1": ["0/4/1=21", "1/4/1=22@R0,self"]}
+        words = [word for name in lies for word in (name, *lies[name])]
+        status, text = output_of("faults", ["-", *words], BUS)
+        self.assertEqual(status, 0)
+        scenario = read(BUS)
+        liars = []
+        for name, words in lies.items():
+            node = model.node_in(scenario.bus, name)
+            liars.append(Liar(node, [lie_in(word, scenario, node) for word in words]))
+        run = lying(scenario, liars)
+        self.assertEqual(run_model("run", data=BUS + text.encode()).splitlines(), run.lines)
 
     def test_a_word_to_some(self):
         status, text = output_of("faults", ["-", "B1", "0/4/1=7@R0", "0/4/1=8@R1,R2"], BUS)
@@ -87,6 +101,36 @@ class Faults(unittest.TestCase):
         self.assertIn("c 2 B0 0 0", report)
         self.assertIn("d 1 4 B0 B1 20", report)
 
+    def convicted_by(self, *words: str) -> list[str]:
+        """The last convictions that B0 tells of BUS with these liars."""
+        status, text = output_of("faults", ["-", *words], BUS)
+        self.assertEqual(status, 0)
+        report = run_model("run", data=BUS + text.encode()).splitlines()
+        return [line for line in report if line.startswith("c 2 B0")]
+
+    def test_a_lie_that_all_are_told_is_told_to_the_liar(self):
+        # B0 alone has evidence against R2, and one of three vectors convicts nobody
+        lies = ["R2", "0/0/2=9@B0", "B1", "0/4/1=21"]
+        self.assertEqual(self.convicted_by(*lies), ["c 2 B0 0 0"])
+        # An unaware B1 holds the three relays of 21 against R0, R1 and R2: with B0's two of three
+        # vectors name R2
+        self.assertEqual(self.convicted_by(*lies, "--unaware"), ["c 2 B0 0 4"])
+
+    def test_whom_lies_make_the_liar_accuse(self):
+        def accused(*words: str) -> list[str]:
+            _, text = output_of("faults", ["-", "B1", *words], BUS)
+            lines = [line.split() for line in text.splitlines()]
+            return [line[3] for line in lines if line[:3] == ["#", "B1", "accuses"]]
+
+        to_some = "0/4/1=7@R0", "0/4/1=8@R1,R2"
+        self.assertEqual(accused(*to_some), ["R0..R2"])
+        self.assertEqual(accused(to_some[0], "0/4/1=8@R1,R2,self"), ["R0"])
+        self.assertEqual(accused("0/4/1=7"), ["nobody"])
+        # After the silence the RMUs take nothing from B1: its vector comes back as a fault
+        self.assertEqual(accused("0/4/1=silent"), ["R0..R2"])
+        # B1's word is 20: R0 alone is told another one
+        self.assertEqual(accused("0/4/1=20@self", "0/4/1=7@R0"), ["R0"])
+
     def test_silence_in_one_slot_convicts(self):
         _, text = output_of("faults", ["-", "R2", "0/5=silent"], BUS)
         report = run_model("run", data=BUS + text.encode()).splitlines()
@@ -95,7 +139,9 @@ class Faults(unittest.TestCase):
         self.assertNotIn("frames = [0, 1]", text)
 
     def test_words_that_make_no_sense(self):
-        for words in (["B1", "0/4"], ["B7", "0/4=1"], ["B1", "0/99=1"], ["B1", "5/4=1"], ["B1", "0/4=1@B0"], ["B1", "0/4/3=1"]):
+        for words in (["B1", "0/4"], ["B7", "0/4=1"], ["B1", "0/99=1"], ["B1", "5/4=1"],
+                      ["B1", "0/4=1@B0"], ["B1", "0/4/3=1"], ["B1"], ["0/4=1"],
+                      ["B1", "0/4=1", "B1", "0/5=1"], ["B1", "0/4/1=1@self", "--unaware"]):
             self.assertEqual(output_of("faults", ["-", *words], BUS), (2, ""), words)
 
 

@@ -35,6 +35,19 @@ class Layout(unittest.TestCase):
         self.assertEqual([before[slot][1] for slot in range(3, 7)], ["B0", "B1", "B2", "B0"])
         self.assertEqual([after[slot][1] for slot in range(3, 7)], ["B0", "B1", "B0", "B1"])
 
+    def test_idle_slots_of_a_frame(self):
+        rows = self.rows([EXAMPLES / "late_onset.toml", "--frame", 2])
+        # B2 is convicted: its request slot 2 and its diagnosis slot 9 are idle
+        idle = [slot for slot, row in rows.items() if row[2] == "idle: B2 is convicted"]
+        self.assertEqual(idle, [2, 9])
+        rows = self.rows(["-"], b"biu = 2\nrmu = 1\nslots = 3\nframes = 1\n")
+        self.assertEqual(rows[4], ("data 2", "nobody", "idle: nobody owns it"))
+
+    def test_the_time_of_each_slot(self):
+        _, text = output_of("layout", ["-", "--unit", "100ps"], BUS)
+        # A slot has three windows of 15 ticks of 1 us
+        self.assertRegex(text, r"\n4     tick 180 \(180 us\) +data 0 +B0 ")
+
     def test_a_frame_that_there_is_not(self):
         self.assertEqual(output_of("layout", [EXAMPLES / "late_onset.toml", "--frame", 7])[0], 2)
 

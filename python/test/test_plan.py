@@ -1,11 +1,14 @@
 """What tools/plan computes: docs/SCENARIOS.md's numbers, and a plan of which no number can be less."""
 import random
+import re
 import unittest
 from dataclasses import replace
+from fractions import Fraction
 
 from helpers import output_of, script
 from robus.model import model
 from robus.plan import least
+from robus.units import DataSheet, Unit, time_text
 
 maker = script("compare_models")
 
@@ -45,6 +48,48 @@ class Plans(unittest.TestCase):
                                              ((10000, 1, 100, 100, 5), 20002 + 6 + 49905), ((1000, 2, 299500, 299500, 300), 2004 + 12 + 1200)):
             plan = model.Plan(u=u, r=r, dmin=dmin, dmax=dmax, c=c, l=1, h=1, v=1, z=1)
             self.assertEqual(model.sides_of(model.Bus(1, 1, 1, plan))[6], (60200, right))
+
+    def test_a_data_sheet(self):
+        # 1 us in units of 1 ps is the greatest u that a plan may have; 50 ppm of it are 50
+        words = ["--biu", "5", "--rmu", "4", "--slots", "12", "--drift", "50ppm",
+                 "--delay", "2us..9us"]
+        status, text = output_of("plan", [*words, "--rate", "1MHz"])
+        self.assertEqual(status, 0)
+        self.assertIn("the reference unit is 1 ps: 1000000 units are a tick of 1 us\n", text)
+        self.assertIn("plan = { u = 1000000, r = 50, dmin = 2000000, dmax = 9000000, l = 60, "
+                      "h = 24, ", text)
+        # 26 slots of 3 windows of 60 ticks, then 60 + v + z, and the tail of at most v + z + 1
+        plan = {key: int(value) for key, value in re.findall(r"(\w+) = (\d+)", text.split("\n")[3])}
+        ticks = 26 * 180 + 60 + 2 * (plan["v"] + plan["z"]) + 1
+        self.assertIn(f"a frame has at most {ticks} ticks, {ticks}000000 units of time "
+                      f"({ticks / 1000} ms)\n", text)
+        self.assertEqual(output_of("plan", [*words, "--tick", "1us"]), (0, text))
+
+    def test_numbers_that_are_no_whole_units_are_covered(self):
+        sheet = DataSheet(Fraction(1, 3_000_000), Fraction(50, 10**6),
+                          (Fraction(15, 10**13), Fraction(1, 10**9)))
+        # A tick is 333333 1/3 units: a third beside 50 ppm, which are 16 2/3; 1.5 ps rounds down
+        self.assertEqual((sheet.unit(), sheet.numbers()),
+                         (Unit.of("1ps"), {"u": 333333, "r": 17, "dmin": 1, "dmax": 1000}))
+        # A delay of 2 s takes at most 10^9 units: 10 ns each
+        sheet = DataSheet(Fraction(1, 1000), Fraction(0), (Fraction(1), Fraction(2)))
+        self.assertEqual((str(sheet.unit()), sheet.numbers()["u"]), ("10 ns", 100000))
+
+    def test_words_of_a_data_sheet_that_make_no_sense(self):
+        bus = ["--biu", "5", "--rmu", "4", "--slots", "12"]
+        sheet = ["--tick", "1us", "--drift", "50ppm", "--delay", "2us..9us"]
+        for words in (["--tick", "1us"], [*bus, *sheet[:4]], [*bus, *sheet, "--u", "7"],
+                      ["-", "--biu", "5"], [*bus, *sheet[:4], "--delay", "9us..2us"],
+                      [*bus, *sheet[2:], "--tick", "0s"], [*bus, *sheet[2:], "--tick", "1"],
+                      [*bus, *sheet[2:], "--rate", "1us"],
+                      [*bus, "--tick", "1s", "--drift", "0ppm", "--delay", "1ns"]):
+            self.assertEqual(output_of("plan", words, b""), (2, ""), words)
+
+    def test_times_as_text(self):
+        for seconds, text in ((Fraction(5041, 10**6), "5.041 ms"), (Fraction(0), "0 s"),
+                              (Fraction(25), "25 s"), (Fraction(1, 3_000_000), "333.333 ns"),
+                              (Fraction(-2, 10**6), "-2 us")):
+            self.assertEqual(time_text(seconds), text)
 
     def test_no_number_of_the_least_plan_can_be_less(self):
         rng = random.Random(7)
