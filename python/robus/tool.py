@@ -94,7 +94,7 @@ def failure_of(fault: BaseException) -> Tuple[str, int]:
     if isinstance(fault, NotWritten):
         return str(fault), NOT_WRITTEN
     if isinstance(fault, OSError):
-        where = "" if fault.filename is None else os.fsdecode(fault.filename) + ": "
+        where = "" if fault.filename is None else (os.fsdecode(fault.filename) or "''") + ": "
         return f"{where}{fault.strerror or fault}", MISUSED
     if isinstance(fault, MemoryError):
         return "no memory was left", NO_ANSWER
