@@ -80,7 +80,7 @@ install:
 	tools/manual docs/robus_bridge.md robus_bridge 1 > "$(AT)/share/man/man1/robus_bridge.1"
 	tools/manual docs/SCENARIOS.md robus_scenario 5 "scenarios of a fault-tolerant broadcast bus" > "$(AT)/share/man/man5/robus_scenario.5"
 	tools/manual docs/FORMATS.md robus_formats 5 "messages and logs of a fault-tolerant broadcast bus" > "$(AT)/share/man/man5/robus_formats.5"
-	cp -R README.md docs examples "$(AT)/share/doc/robus"
+	cp -R README.md CHANGELOG.md docs examples "$(AT)/share/doc/robus"
 	$(MAKE) install-python
 	@if tools/proved $(LIBRARY).so; then $(MAKE) install-library; else echo "make install: no library is up to date (make library): it is left out" >&2; fi
 
