@@ -93,11 +93,14 @@ install-library:
 	printf 'prefix=%s\nName: robus\nDescription: a fault-tolerant broadcast bus, as proved calls\nVersion: 1.0\nCflags: -I$${prefix}/include\nLibs: -L$${prefix}/lib -lrobus\n' "$(PREFIX)" > "$(AT)/lib/pkgconfig/robus.pc"
 
 install-python:
-	install -d "$(PACKAGES)/robus/second_model"
+	install -d "$(PACKAGES)/robus/second_model" "$(PACKAGES)/robus/page" "$(AT)/share/wireshark"
 	install -m 644 python/robus/*.py python/robus/py.typed "$(PACKAGES)/robus"
 	install -m 644 python/robus/second_model/*.py "$(PACKAGES)/robus/second_model"
+	install -m 644 python/robus/page/view.* "$(PACKAGES)/robus/page"
+	install -m 644 share/wireshark/robus.lua "$(AT)/share/wireshark"
 
 uninstall:
 	rm -f "$(AT)/bin/robus" "$(AT)/bin/robus_picture" "$(AT)/bin/robus_bridge" "$(AT)/share/man/man1/robus.1" "$(AT)/share/man/man1/robus_picture.1" "$(AT)/share/man/man1/robus_bridge.1" "$(AT)/share/man/man5/robus_scenario.5" "$(AT)/share/man/man5/robus_formats.5"
 	rm -f "$(AT)/include/robus.h" "$(AT)/lib/librobus.a" "$(AT)/lib/librobus.so" "$(AT)/lib/pkgconfig/robus.pc"
+	rm -f "$(AT)/share/wireshark/robus.lua"
 	rm -rf "$(AT)/share/doc/robus" "$(PACKAGES)/robus"

@@ -33,7 +33,8 @@ def release() -> str:
 
 def files() -> dict:
     """The files of the package, by their names in a wheel."""
-    found = sorted(it for it in (HERE / "robus").rglob("*") if it.suffix == ".py" or it.name == "py.typed")
+    kinds = (".py", ".typed", ".html", ".css", ".js")
+    found = sorted(it for it in (HERE / "robus").rglob("*") if it.suffix in kinds)
     return {str(it.relative_to(HERE)): it.read_bytes() for it in found}
 
 

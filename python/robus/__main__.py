@@ -6,6 +6,7 @@
     faults    writes the say entries of a node that is good but for given lies
     explain   says who broke a run, why a node was convicted, and what was said in a slot
     trace     writes what was on the links of a run for Wireshark
+    view      writes a run as a page for a browser
     sweep     runs a scenario with other values at its keys, a row of CSV for each
     campaign  runs many scenarios, a row of each
     table     a report as CSV or as JSON lines
@@ -28,8 +29,8 @@ from robus.tool import MISUSED, guarded, open_output
 from robus.words import FORMS
 
 # The tools: the module of each, its function, and the name under which it speaks
-NAMES = ("lint", "plan", "layout", "faults", "trace", "sweep", "campaign", "table", "model",
-         "quick")
+NAMES = ("lint", "plan", "layout", "faults", "trace", "view", "sweep", "campaign", "table",
+         "model", "quick")
 TOOLS: Dict[str, Tuple[str, str, str]] = {name: (name, "main", "tools/" + name) for name in NAMES}
 TOOLS.update(explain=("explanation", "main", "tools/explain"),
              campaign_rows=("campaign_rows", "main", "tools/campaign_row"),

@@ -31,12 +31,12 @@ scenario is refused, 70 there was no answer"""
 
 def frames_in(text: str | None, run: Run) -> range:
     """The frames that FIRST:LAST asks for; all without a text."""
-    if text is None:
-        return range(run.scenario.frames)
-    found = re.fullmatch(r"(\d{1,4})(?::(\d{1,4}))?", text, re.ASCII)
-    first, last = (int(found[1]), int(found[2] or found[1])) if found else (1, 0)
     breach = run.report.breach
     most = breach.frame if breach else run.scenario.frames - 1
+    if text is None:
+        return range(most + 1)
+    found = re.fullmatch(r"(\d{1,4})(?::(\d{1,4}))?", text, re.ASCII)
+    first, last = (int(found[1]), int(found[2] or found[1])) if found else (1, 0)
     if not first <= last <= most:
         raise BadArgument(f"--frames: {text!r} is no FIRST:LAST of the run's frames, 0:{most}")
     return range(first, last + 1)

@@ -127,6 +127,13 @@ def messages_in(log: bytes, node: model.Node, clock: model.Timeline) -> Iterator
             yield Message(clock.time_of(tick), node, source, tick, second)
 
 
+def check(run: Run, world: model.World) -> None:
+    """Raises Failed if the second model, which ran the same scenario, has another report."""
+    if run.report.output != model.text_of(world.lines):
+        raise Failed(("run",), run.report.status,
+                     f"and its report is not that of the second model ({run.engine})")
+
+
 def is_faulty(scenario: model.Scenario, node: model.Node, place: Stage) -> bool:
     """Whether a node is faulty in the slot of a window."""
     return not scenario.is_good(node, *place[:2])

@@ -145,8 +145,9 @@ class Watched(model.World):
             self.place = frame, slot, stage
             self.classes = {it: self.class_of(it, trusted, set(good)) for it in self.bus.nodes()}
 
-    def keep_premise(self, place: Stage, trusted: model.Trusted, good: set[model.Node]) -> None:
-        """Keeps how the premise stands after a stage, if it is asked for or nearest to a breach."""
+    def keep_premise(self, place: Stage, trusted: model.Trusted, good: set[model.Node]) -> Premise:
+        """How the premise stands after a stage; it is kept if it is asked for or nearest to a
+        breach."""
         bad = [{it for it in trusted[kind] if (kind, it) not in good} for kind in (BIU, RMU)]
         heard, unlike = ([tuple((kind, it) for it in sorted(bad[kind] & seen[kind]))
                           for kind in (BIU, RMU)] for seen in (self.judge.heard, self.judge.unlike))
@@ -159,6 +160,7 @@ class Watched(model.World):
                 self.tightest[kind] = it
         if it.faces > (self.two_faced.faces if self.two_faced else 0):
             self.two_faced = it
+        return it
 
     def class_of(self, node: model.Node, trusted: model.Trusted, good: set[model.Node]) -> str:
         """A node's class in this frame so far: convicted, good, asymmetric, symmetric or benign."""

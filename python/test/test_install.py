@@ -24,8 +24,9 @@ class Wheel(unittest.TestCase):
         with tempfile.TemporaryDirectory() as folder:
             wheel = zipfile.ZipFile(Path(folder, backend.build_wheel(folder)))
             names = wheel.namelist()
-            for path in (TOP / "python/robus").rglob("*.py"):
-                self.assertIn(str(path.relative_to(TOP / "python")), names)
+            for path in (TOP / "python/robus").rglob("*.*"):
+                if "__pycache__" not in path.parts:
+                    self.assertIn(str(path.relative_to(TOP / "python")), names)
             text = wheel.read("robus-1.0.dist-info/RECORD").decode()
             record = list(csv.reader(io.StringIO(text)))
             self.assertEqual([it[0] for it in record], names)

@@ -1,0 +1,86 @@
+"""Writes a run as one page of HTML that a browser shows without anything else."""
+from __future__ import annotations
+
+import json
+from pathlib import Path
+from typing import Any
+
+from robus.explanation import told
+from robus.layout import purpose
+from robus.model import name_of
+from robus.trace import frames_in, parser_of, run_of
+from robus.trace_messages import Run
+from robus.units import Unit
+from robus.view_run import Sent, Viewed, view_of
+
+PAGE = Path(__file__).resolve().parent / "page"
+
+HELP = """Writes a run as one page of HTML on standard output: a lane for each node with its windows
+and an arrow for each message, the table of each slot as tools/explain prints it, and the frames
+with deliveries, convictions and the breach. The page fetches nothing. docs/TRACES.md shows it.
+
+    tools/view examples/two_sided.toml > run.html
+
+Messages are those of the nodes' logs by the program, as it was proved if a proved one is there.
+What else is shown is by tools/model, a second model of the bus, and nothing is written if its
+report differs from the program's. The page itself is not proved.
+
+status: 0 done, 1 done and the run ended with a breach, 2 wrong words or no such file, 3 the
+scenario is refused, 70 there was no answer"""
+
+
+def frame_of(run: Run, world: Viewed, frame: int, sent: list[Sent]) -> dict[str, Any]:
+    """A frame as the page has it."""
+    nodes, starts = run.bus.nodes(), world.starts[frame]
+    convicted = sorted({name for it in run.report.convictions if it.frame == frame
+                        for name in it.convicted})
+    return {
+        "number": frame,
+        "epochs": [starts[node].tick if node in starts else None for node in nodes],
+        "convicted": convicted,
+        "deliveries": [[it.slot, it.receiver, it.sender, it.word]
+                       for it in run.report.deliveries if it.frame == frame],
+        "sent": [it.packed() for it in sent],
+        "tables": {f"{slot}.{stage}": rows for (at, slot, stage), rows in world.tables.items()
+                   if at == frame},
+        "premise": {f"{slot}.{stage}": text
+                    for (at, slot, stage), text in world.standings.items() if at == frame},
+    }
+
+
+def data_of(run: Run, frames: range, unit: Unit | None, name: str) -> dict[str, Any]:
+    """All that the page shows, to be written as JSON."""
+    world, sent = view_of(run, frames, unit)
+    bus, breach = run.bus, run.report.breach
+    shown = [frame_of(run, world, frame, sent.get(frame, [])) for frame in frames]
+    return {
+        "name": name, "engine": str(run.engine), "ending": run.report.ending(),
+        "nodes": [name_of(it) for it in bus.nodes()],
+        "clocks": [run.scenario.clocks[it] for it in bus.nodes()],
+        "windows": [[it.first, it.slot, it.stage] for it in bus.windows()],
+        "tail": bus.longest_tail(),
+        "purposes": [purpose(bus, slot) for slot in range(bus.sync + 1)],
+        "onsets": {name_of(node): it for node, it in run.scenario.onsets.items()},
+        "breach": [breach.frame, breach.slot, breach.stage, breach.cause] if breach else None,
+        "unit": float(unit.seconds) if unit else None,
+        "story": told(world, unit), "frames": shown, "strings": list(world.strings.numbers),
+    }
+
+
+def page_of(data: dict[str, Any]) -> str:
+    """The page with its script, its style and the data in it."""
+    page, script, style = ((PAGE / f"view.{it}").read_text(encoding="utf-8")
+                           for it in ("html", "js", "css"))
+    text = json.dumps(data, separators=(",", ":")).replace("<", "\\u003c")
+    for mark, part in (("/*STYLE*/", style), ("/*SCRIPT*/", script), ("/*DATA*/", text)):
+        page = page.replace(mark, part, 1)
+    return page
+
+
+def main(words: list[str]) -> int:
+    """tools/view with these words; its status."""
+    asked = parser_of("tools/view", HELP).parse_args(words)
+    run = run_of("tools/view", asked)
+    name = "standard input" if asked.scenario == "-" else Path(asked.scenario).name
+    print(page_of(data_of(run, frames_in(asked.frames, run), asked.unit, name)))
+    return run.report.status
