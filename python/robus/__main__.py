@@ -5,7 +5,7 @@
     layout    the frame of a scenario, slot by slot
     faults    writes the say entries of a node that is good but for given lies
     explain   says who broke a run, why a node was convicted, and what was said in a slot
-    trace     writes what was on the links of a run for Wireshark
+    trace     writes what was on the links of a run for Wireshark and GTKWave
     view      writes a run as a page for a browser
     sweep     runs a scenario with other values at its keys, a row of CSV for each
     campaign  runs many scenarios, a row of each

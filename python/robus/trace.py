@@ -12,6 +12,7 @@ from robus.scenario import Scenario
 from robus.tool import ENGINE_HELP, Parser, input_of
 from robus.trace_messages import Run
 from robus.units import Unit
+from robus.vcd import Waves
 
 HELP = """Writes what happened on the links of a run: the messages that good nodes received for
 Wireshark (--pcap), and what the nodes said, heard, delivered and accused for GTKWave (--vcd), with
@@ -63,14 +64,27 @@ def run_of(tool: str, asked: argparse.Namespace) -> Run:
         return Run.of(engine, Scenario(data, name))
 
 
+def write_waves(path: Path, waves: Waves, unit: Unit | None) -> None:
+    """Writes a value change dump, and beside it a save file of GTKWave."""
+    save = path.with_suffix(".gtkw")
+    if save == path:
+        raise BadArgument(f"--vcd: {path} is the name of its save file; end it with .vcd")
+    path.write_text("".join(f"{it}\n" for it in waves.lines(unit)), "ascii", "replace")
+    save.write_text("".join(f"{it}\n" for it in waves.save_file(path.name, unit)), "utf-8")
+
+
 def main(words: list[str]) -> int:
     """tools/trace with these words; its status."""
     parser = parser_of("tools/trace", HELP)
     parser.add_argument("--pcap", metavar="FILE", help="a capture for Wireshark, of form pcapng")
+    parser.add_argument("--vcd", metavar="FILE", help="waves for GTKWave, and FILE's save file")
     asked = parser.parse_args(words)
-    if asked.pcap is None:
-        raise BadArgument("--pcap FILE is wanted; --help says more")
+    if asked.pcap is None and asked.vcd is None:
+        raise BadArgument("--pcap FILE or --vcd FILE is wanted; --help says more")
     run = run_of("tools/trace", asked)
     frames = frames_in(asked.frames, run)
-    Path(asked.pcap).write_bytes(pcap.capture(run, frames, asked.unit))
+    if asked.vcd is not None:
+        write_waves(Path(asked.vcd), Waves.of(run, frames), asked.unit)
+    if asked.pcap is not None:
+        Path(asked.pcap).write_bytes(pcap.capture(run, frames, asked.unit))
     return run.report.status
