@@ -6,7 +6,7 @@ from typing import Iterator
 
 from robus.errors import BadArgument
 from robus.layout import begins, purpose, scenario_or_status
-from robus.model import BIU, RMU, model, name_of
+from robus.model import BIU, RMU, TAIL, model, name_of
 from robus.texts import grouped, heard_text, message_text, names, place_text, value_text
 from robus.tool import Parser
 from robus.units import Unit, behind
@@ -100,17 +100,23 @@ def shown(run: Watched, node: model.Node, found: str, unit: Unit | None) -> list
     return lines
 
 
+def stages_in(bus: model.Bus, slot: int) -> tuple[int, ...]:
+    """The stages of a slot in which nodes speak, and the tail."""
+    if slot == bus.sync:
+        return 1, 2, 3, TAIL
+    return (1, 2) if bus.sender_place(slot)[0] == "data" else (1, 2, 3)
+
+
 def slot_table(run: Watched, frame: int, slot: int, unit: Unit | None) -> Iterator[str]:
     """What each good node said, heard, took and voted in each stage of a slot."""
     bus, at = run.bus, f", from {begins(run.bus, slot, unit)} of the frame on" if unit else ""
     yield f"frame {frame}, slot {slot}: {purpose(bus, slot)}{at}"
-    is_data = slot < bus.sync and bus.sender_place(slot)[0] == "data"
-    for stage in (1, 2, 3, 4) if slot == bus.sync else (1, 2) if is_data else (1, 2, 3):
+    for stage in stages_in(bus, slot):
         found = run.stages.get((frame, slot, stage))
         if not found:
             continue
         yield ""
-        yield "tail" if stage == 4 else f"stage {stage}"
+        yield "tail" if stage == TAIL else f"stage {stage}"
         if stage in run.premises:
             counts = [f"{KINDS[it]} {kind_text(run.premises[stage], it)}" for it in (BIU, RMU)]
             yield "  premise: " + "; ".join(counts)

@@ -6,7 +6,7 @@ from dataclasses import dataclass, field
 from typing import Any
 
 from robus.errors import Failed
-from robus.explanation import KINDS, kind_text, row_of
+from robus.explanation import KINDS, kind_text, row_of, stages_in
 from robus.model import BIU, RMU, Stage, model, name_of
 from robus.texts import TAGS, value_text
 from robus.trace_messages import Message, Run, check, is_faulty
@@ -44,6 +44,8 @@ class Viewed(Watched):
         """Keeps the tables of a frame."""
         for place in [it for it in self.stages if it[0] == frame and frame in self.kept]:
             closed, is_sync = self.stages[place], place[1] == self.bus.sync
+            if place[2] not in stages_in(self.bus, place[1]):
+                continue
             rows = [row_of(self.bus, node, closed[node], is_sync, self.unit)
                     for node in self.bus.nodes() if node in closed]
             self.tables[place] = [[self.strings[text] for text in row] for row in rows]
