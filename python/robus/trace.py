@@ -64,11 +64,16 @@ def run_of(tool: str, asked: argparse.Namespace) -> Run:
         return Run.of(engine, Scenario(data, name))
 
 
+def save_file_of(path: Path) -> Path:
+    """The save file of GTKWave beside a value change dump."""
+    if not path.name or path.suffix == ".gtkw":
+        raise BadArgument(f"--vcd: {path} is no name of a dump; one ends with .vcd")
+    return path.with_suffix(".gtkw")
+
+
 def write_waves(path: Path, waves: Waves, unit: Unit | None) -> None:
     """Writes a value change dump, and beside it a save file of GTKWave."""
-    save = path.with_suffix(".gtkw")
-    if save == path:
-        raise BadArgument(f"--vcd: {path} is the name of its save file; end it with .vcd")
+    save = save_file_of(path)
     path.write_text("".join(f"{it}\n" for it in waves.lines(unit)), "ascii", "replace")
     save.write_text("".join(f"{it}\n" for it in waves.save_file(path.name, unit)), "utf-8")
 
@@ -81,6 +86,8 @@ def main(words: list[str]) -> int:
     asked = parser.parse_args(words)
     if asked.pcap is None and asked.vcd is None:
         raise BadArgument("--pcap FILE or --vcd FILE is wanted; --help says more")
+    if asked.vcd is not None:
+        save_file_of(Path(asked.vcd))
     run = run_of("tools/trace", asked)
     frames = frames_in(asked.frames, run)
     if asked.vcd is not None:

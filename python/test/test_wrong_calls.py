@@ -195,6 +195,26 @@ sweep FILE frames=1 --workers x
 sweep FILE frames=1 --engine nosuch
 sweep FILE frames=1 --engine /bin/true
 sweep FILE frames=1 --engine /
+trace
+trace FILE
+trace nosuch.toml --pcap FOLDER
+trace FILE --pcap
+trace FILE --pcap /
+trace FILE --vcd /
+trace FILE --vcd run.gtkw
+trace FILE --pcap FOLDER --frames x
+trace FILE --pcap FOLDER --frames 2:1
+trace FILE --pcap FOLDER --frames 0:3
+trace FILE --pcap FOLDER --unit 1V
+trace FILE --pcap FOLDER --engine nosuch
+trace BRIDGE --pcap FOLDER
+view
+view nosuch.toml
+view FILE more
+view FILE --frames 9
+view FILE --unit x
+view FILE --engine /bin/true
+view BRIDGE
 table nosuch
 table deliveries nosuch
 table deliveries /

@@ -2,7 +2,8 @@
 // The page of tools/view. The data is what robus/view.py writes: texts by their numbers in
 // `strings`, times in reference units, nodes by their numbers in `nodes`.
 const run = JSON.parse(document.getElementById("data").textContent);
-const LEFT = 46, TOP = 30, LANE = 38, TAIL = 4;
+const LEFT = 46, TOP = 30, TAIL = 4;
+const LANE = run.nodes.length > 16 ? 26 : 38;
 const KINDS = { garbage: 3, outOfTurn: 4 };
 const at = { frame: 0, slot: 0, from: 0, to: 1 }; // the place, and the times at both ends
 const search = { places: [], index: -1 };
@@ -122,6 +123,10 @@ function timeAt(x) {
 
 function drawBands(pen) {
   for (let node = 0; node < run.nodes.length; node++) {
+    if (!windowsOf(node).length) {
+      pen.fillStyle = color("--bad-band");
+      pen.fillRect(LEFT, TOP + LANE * node + 4, width() - LEFT, LANE - 8);
+    }
     for (const it of windowsOf(node)) {
       const from = Math.max(LEFT, xOf(it.from)), to = xOf(it.to);
       if (to < LEFT || from > width()) continue;
