@@ -71,9 +71,8 @@ def save_file_of(path: Path) -> Path:
     return path.with_suffix(".gtkw")
 
 
-def write_waves(path: Path, waves: Waves, unit: Unit | None) -> None:
-    """Writes a value change dump, and beside it a save file of GTKWave."""
-    save = save_file_of(path)
+def write_waves(path: Path, save: Path, waves: Waves, unit: Unit | None) -> None:
+    """Writes a value change dump and its save file."""
     path.write_text("".join(f"{it}\n" for it in waves.lines(unit)), "ascii", "replace")
     save.write_text("".join(f"{it}\n" for it in waves.save_file(path.name, unit)), "utf-8")
 
@@ -86,12 +85,11 @@ def main(words: list[str]) -> int:
     asked = parser.parse_args(words)
     if asked.pcap is None and asked.vcd is None:
         raise BadArgument("--pcap FILE or --vcd FILE is wanted; --help says more")
-    if asked.vcd is not None:
-        save_file_of(Path(asked.vcd))
+    save = None if asked.vcd is None else save_file_of(Path(asked.vcd))
     run = run_of("tools/trace", asked)
     frames = frames_in(asked.frames, run)
-    if asked.vcd is not None:
-        write_waves(Path(asked.vcd), Waves.of(run, frames), asked.unit)
+    if save is not None:
+        write_waves(Path(asked.vcd), save, Waves.of(run, frames), asked.unit)
     if asked.pcap is not None:
         Path(asked.pcap).write_bytes(pcap.capture(run, frames, asked.unit))
     return run.report.status

@@ -1,16 +1,22 @@
 """The page of tools/view: what it shows of a run, and how it answers in Chromium where it is
 there."""
+import io
 import json
 import re
 import shutil
 import subprocess
 import tempfile
 import unittest
+from dataclasses import dataclass
 from pathlib import Path
 
 from helpers import EXAMPLES, ending_of, output_of
+from robus.engines import Answer, Engine, Model
+from robus.errors import Failed
 from robus.model import model, read
-from robus.view_run import Viewed
+from robus.scenario import Scenario
+from robus.trace_messages import Run
+from robus.view_run import Viewed, view_of
 from test_trace import logged
 
 TWO_SIDED = EXAMPLES / "two_sided.toml"
@@ -35,6 +41,22 @@ addEventListener("error", (event) => seen.push(["error", event.message]));
 draw();
 document.title = JSON.stringify(seen);
 </script></body>"""
+
+
+@dataclass(frozen=True)
+class Other(Engine):
+    """The second model under another name, in whose logs the bytes `before` are `after`."""
+
+    path: str = "other"
+    before: bytes = b""
+    after: bytes = b""
+
+    def raw(self, words, data=b"", program="robus"):
+        """What the second model answers, changed if it is a log."""
+        status, output = model.program.answer(list(words), io.BytesIO(data))
+        if words[0] == "record" and self.before:
+            output = output.replace(self.before, self.after)
+        return Answer(status, output)
 
 
 def page(path: Path, *words: str) -> str:
@@ -114,6 +136,17 @@ class Data(unittest.TestCase):
             status, out, said = ending_of("view", [TWO_SIDED, "--engine", path])
         self.assertEqual((status, out), (70, ""))
         self.assertIn("its report is not that of the second model", said)
+
+    def test_a_log_that_the_second_model_has_not_is_refused(self):
+        scenario = Scenario(TWO_SIDED.read_bytes(), "two_sided.toml")
+        # What B0 says in its data slot: 10 in slot 4, and in the other logs 11
+        word, other = (bytes.fromhex(it) for it in ("01000000 04010000000a0e",
+                                                    "01000000 04010000000b0f"))
+        run, same = (Run.of(engine, scenario) for engine in (Other(), Model()))
+        self.assertEqual(run.messages, same.messages)
+        view_of(run, range(1), None)
+        with self.assertRaisesRegex(Failed, "a message that the second model has not"):
+            view_of(Run.of(Other("other", word, other), scenario), range(1), None)
 
     def test_it_fetches_nothing(self):
         self.assertNotRegex(page(TWO_SIDED), r"https?:|\bfetch\(|XMLHttpRequest|@import|url\(")

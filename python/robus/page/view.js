@@ -477,6 +477,7 @@ function startSearch(event) {
   search.places = query ? matches(query) : [];
   search.index = -1;
   find("hits").textContent = query ? "nothing found" : "";
+  if (search.places.length) find("query").blur(); // so that n and p are keys again
   goToHit(1);
 }
 
@@ -567,7 +568,7 @@ document.addEventListener("keydown", (event) => {
     if (event.key === "Escape") event.target.blur();
     return;
   }
-  if (event.key === "/") find("query").focus();
+  if (event.key === "/") find("query").select();
   else if (event.key === "PageDown") go(at.frame + 1, at.slot);
   else if (event.key === "PageUp") go(at.frame - 1, at.slot);
   else if (Object.hasOwn(keys, event.key)) actions[keys[event.key]]();
