@@ -88,8 +88,9 @@ def main(words: list[str]) -> int:
     save = None if asked.vcd is None else save_file_of(Path(asked.vcd))
     run = run_of("tools/trace", asked)
     frames = frames_in(asked.frames, run)
-    if save is not None:
-        write_waves(Path(asked.vcd), save, Waves.of(run, frames), asked.unit)
-    if asked.pcap is not None:
-        Path(asked.pcap).write_bytes(pcap.capture(run, frames, asked.unit))
+    with patience("tools/trace", run.engine):
+        if save is not None:
+            write_waves(Path(asked.vcd), save, Waves.of(run, frames), asked.unit)
+        if asked.pcap is not None:
+            Path(asked.pcap).write_bytes(pcap.capture(run, frames, asked.unit))
     return run.report.status

@@ -43,8 +43,12 @@ class Run:
     def of(cls, engine: Engine, document: Scenario) -> Run:
         """The run of a scenario by an engine; Refused if the scenario is refused."""
         found = answer(engine, ["run"], document.text, scenario=document)
-        report = Report(engine, found.status, found.output)
-        return cls(engine, document, model.read_scenario(document.text), report)
+        try:
+            scenario = model.read_scenario(document.text)
+        except model.Refused as refusal:
+            why = f"but the second model says '{refusal}' ({engine})"
+            raise Failed(("run",), found.status, why) from None
+        return cls(engine, document, scenario, Report(engine, found.status, found.output))
 
     @property
     def bus(self) -> model.Bus:

@@ -172,7 +172,7 @@ class Waves:
 
     @classmethod
     def of(cls, run: Run, frames: range) -> Waves:
-        """Those of some frames."""
+        """The changes of a run in these frames; Failed if the second model has another report."""
         world = Traced(run.scenario)
         world.run()
         check(run, world)

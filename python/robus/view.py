@@ -8,6 +8,7 @@ from typing import Any
 from robus.explanation import told
 from robus.layout import purpose
 from robus.model import name_of
+from robus.runner import patience
 from robus.trace import frames_in, parser_of, run_of
 from robus.trace_messages import Run
 from robus.units import Unit
@@ -82,5 +83,7 @@ def main(words: list[str]) -> int:
     asked = parser_of("tools/view", HELP).parse_args(words)
     run = run_of("tools/view", asked)
     name = "standard input" if asked.scenario == "-" else Path(asked.scenario).name
-    print(page_of(data_of(run, frames_in(asked.frames, run), asked.unit, name)))
+    with patience("tools/view", run.engine):
+        data = data_of(run, frames_in(asked.frames, run), asked.unit, name)
+    print(page_of(data))
     return run.report.status
