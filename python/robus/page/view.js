@@ -511,7 +511,8 @@ function showTip(x, y) {
     + `${run.nodes[came.node]}: ${it.text}, slot ${it.slot}, stage ${it.stage}${sent}, `
     + `came at ${timeText(came.time)}`;
   tip.style.left = `${Math.min(x + 12, Math.max(0, width() - 310))}px`;
-  tip.style.top = `${y + 14}px`;
+  const high = tip.offsetHeight, isLow = y + 14 + high > canvas.clientHeight;
+  tip.style.top = `${isLow ? y - 14 - high : y + 14}px`;
 }
 
 function slotAt(x, y) {
