@@ -5,6 +5,7 @@ import json
 from pathlib import Path
 from typing import Any
 
+from robus.errors import BadArgument
 from robus.explanation import told
 from robus.layout import purpose
 from robus.model import name_of
@@ -15,12 +16,17 @@ from robus.units import Unit
 from robus.view_run import Sent, Viewed, view_of
 
 PAGE = Path(__file__).resolve().parent / "page"
+# The most windows of nodes on a page of all frames, which is then about 10 MB
+MOST_WINDOWS = 200_000
 
 HELP = """Writes a run as one page of HTML on standard output: a lane for each node with its windows
 and an arrow for each message, the table of each slot as tools/explain prints it, and the frames
 with deliveries, convictions and the breach. The page fetches nothing. docs/TRACES.md shows it.
 
     tools/view examples/two_sided.toml > run.html
+
+For a long run --frames says which frames to show. Without it a run is refused whose page would be
+much larger than 10 MB.
 
 Messages are those of the nodes' logs by the program, as it was proved if a proved one is there.
 What else is shown is by tools/model, a second model of the bus, and nothing is written if its
@@ -78,12 +84,22 @@ def page_of(data: dict[str, Any]) -> str:
     return page
 
 
+def refuse_long(run: Run, frames: range) -> None:
+    """Raises BadArgument if a page of these frames would be too large."""
+    if len(frames) * len(run.bus.windows()) * len(run.bus.nodes()) > MOST_WINDOWS:
+        raise BadArgument(f"a page of all {len(frames)} frames would be too large; "
+                          "--frames FIRST:LAST says which to show")
+
+
 def main(words: list[str]) -> int:
     """tools/view with these words; its status."""
     asked = parser_of("tools/view", HELP).parse_args(words)
     run = run_of("tools/view", asked)
     name = "standard input" if asked.scenario == "-" else Path(asked.scenario).name
+    frames = frames_in(asked.frames, run)
+    if asked.frames is None:
+        refuse_long(run, frames)
     with patience("tools/view", run.engine):
-        data = data_of(run, frames_in(asked.frames, run), asked.unit, name)
+        data = data_of(run, frames, asked.unit, name)
     print(page_of(data))
     return run.report.status

@@ -9,6 +9,7 @@ import tempfile
 import unittest
 from dataclasses import dataclass
 from pathlib import Path
+from unittest import mock
 
 from helpers import EXAMPLES, ending_of, output_of
 from robus.engines import Answer, Engine, Model
@@ -127,6 +128,14 @@ class Data(unittest.TestCase):
         self.assertEqual(data["frames"][1]["convicted"], ["B2"])
         self.assertEqual(ending_of("view", ["-"], b"biu = 1\n")[:2], (3, ""))
         self.assertEqual(ending_of("view", [TWO_SIDED, "--frames", "2:1"])[:2], (2, ""))
+
+    @mock.patch("robus.view.MOST_WINDOWS", 500)
+    def test_a_long_run_wants_its_frames(self):
+        # Three frames of 14 slots with three windows each and a tail, at six nodes
+        status, out, said = ending_of("view", [EXAMPLES / "late_onset.toml"])
+        self.assertEqual((status, out), (2, ""))
+        self.assertIn("a page of all 3 frames would be too large; --frames FIRST:LAST", said)
+        self.assertIn("Frame", page(EXAMPLES / "late_onset.toml", "--frames", "0:2"))
 
     def test_another_report_than_the_second_model_s_is_refused(self):
         with tempfile.TemporaryDirectory() as folder:
