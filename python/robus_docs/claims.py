@@ -87,8 +87,8 @@ def lemma_faults(text: str, known: dict[str, Library]) -> Iterator[Fault]:
 
 
 def words_of_code() -> set[str]:
-    """The words of the sources, definitions, proofs, mutants and lists of runs, and the names of all
-    files and folders beside them."""
+    """The words of the sources, definitions, proofs, mutants and lists of runs, and the names of
+    all files and folders beside them."""
     words = {"crates"} | set(re.findall(r"[\w-]+", text_of(TOP / "crates.txt")))
     for crate in CRATES.iterdir():
         words.add(crate.name)

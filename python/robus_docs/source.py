@@ -15,7 +15,8 @@ CRATES = TOP / "crates"
 WORD = r"[\w«»◌]+"
 HEAD = re.compile(rf"((?:abbrev |unfoldable |pub |record |data )*)({WORD}|◌\S+◌)(?=[\s:]|$)")
 NO_HEAD = ("use ", "--", " ", "pub mod", "pub use", "infix")
-FUNCTION = re.compile(r'(?m)^[ \t]*(pub(?:\(\w+\))? )?(?:const |unsafe |extern *"[^"]*" *)*fn (\w+)')
+FUNCTION = re.compile(
+    r'(?m)^[ \t]*(pub(?:\(\w+\))? )?(?:const |unsafe |extern *"[^"]*" *)*fn (\w+)')
 CLAUSE = re.compile(r"\s*(ensures|requires)\b\*?\s*(\w+)?\s*\{")
 NO_CODE = re.compile(r"""//[^\n]*|r(#+)".*?"\1|"(?:\\.|[^"\\])*"|'(?:\\[^']+|[^'\\\n])'""", re.S)
 Import = tuple[list[str], Optional[str]]  # a module's name in parts, and the name in it if one is

@@ -1,0 +1,221 @@
+"""The pages of documents, of the Python package, of the C header, and of files that they link to."""
+from __future__ import annotations
+
+import ast
+import os
+import re
+from pathlib import Path
+from typing import Iterator, Optional
+
+from robus_docs.atlas import Atlas, anchor_of
+from robus_docs.markdown import Renderer
+from robus_docs.markup import anchor, escape, named
+from robus_docs.source import CRATES, TOP, text_of
+
+PICTURES = (".svg", ".png")
+SHOWN = (".md", ".rt", ".antt", ".py", ".toml", ".c", ".h", ".edit", ".txt", ".sh", "")
+
+
+def documents() -> list[Path]:
+    """The documents, in order."""
+    return [TOP / "README.md", *sorted((TOP / "docs").glob("*.md")), TOP / "examples/README.md",
+            *(it for it in [TOP / "CHANGELOG.md"] if it.exists())]
+
+
+def document_url(path: Path) -> str:
+    """The address of a document."""
+    name = "_".join(path.relative_to(TOP).with_suffix("").parts).removeprefix("docs_")
+    return f"docs/{'START' if name == 'README' and path.parent != TOP else name}.html"
+
+
+class Documents:
+    """Renders documents. `files` and `pictures` are the files of the repository they link to."""
+
+    def __init__(self, atlas: Atlas) -> None:
+        self.atlas = atlas
+        self.files: set[Path] = set()
+        self.pictures: set[Path] = set()
+        self.known = {path: document_url(path) for path in documents()}
+
+    def renderer(self, folder: Path = TOP) -> Renderer:
+        """A renderer of texts whose links are from this folder."""
+        return Renderer(self.name, lambda link: self.follow(folder, link))
+
+    def name(self, said: str) -> str:
+        """A name in code font, as a link if it means something."""
+        url = self.atlas.url_named(said)
+        if not url and "/" in said and " " not in said:
+            url = self.path_url(said)
+        if not url and (found := re.match(r"(tools/\w+|make \w+)", said)):
+            word = found.group(1)
+            url = self.file_url(TOP / (word if word.startswith("tools/") else "Makefile"))
+        return named(url, said)
+
+    def path_url(self, said: str) -> Optional[str]:
+        """The address of a path of the repository or below crates/."""
+        for path in (TOP / said, CRATES / said):
+            for suffix in ("", ".antt", ".rt"):
+                file = path.with_name(path.name + suffix) if suffix else path
+                if file.is_file() and TOP in file.resolve().parents:
+                    return self.file_url(file)
+        return None
+
+    def follow(self, folder: Path, link: str) -> str:
+        """The address behind a link of a document."""
+        if re.match(r"\w+:", link):
+            return escape(link)
+        target, _, part = link.partition("#")
+        if not target:
+            return f"#{escape(part)}"
+        path = Path(os.path.normpath(folder / target))
+        url = self.file_url(path)
+        url = url or os.path.relpath(path, TOP)
+        return f"~/{escape(url)}" + (f"#{escape(part)}" if part else "")
+
+    def file_url(self, path: Path) -> Optional[str]:
+        """The address of a file or folder of the repository. None means that there is none."""
+        if path.is_dir():
+            if path == CRATES:
+                return "crates/index.html"
+            if (path / "README.md") in self.known:
+                return self.known[path / "README.md"]
+            if path == TOP / "docs":
+                return "docs/index.html"
+        if path in self.known:
+            return self.known[path]
+        if path == TOP / "include/robus.h":
+            return "header.html"
+        if path.suffix == ".antt" and path.parent.name == "specs":
+            return f"definitions/{path.parent.parent.name}/{path.stem}.html"
+        if not path.exists():
+            return None
+        kept = self.pictures if path.suffix in PICTURES else self.files
+        kept.add(path)
+        name = path.relative_to(TOP).as_posix()
+        return f"files/{name}" if path.suffix in PICTURES else f"files/{name}.html"
+
+    def page(self, path: Path) -> str:
+        """A document."""
+        return self.renderer(path.parent).render(text_of(path))
+
+    def index(self) -> str:
+        """The list of documents."""
+        rows = []
+        for path, url in self.known.items():
+            title = text_of(path).split("\n", 1)[0].lstrip("# ")
+            rows.append(f"<li>{anchor(url, self.renderer().inline(title))} "
+                        f"<small>{path.relative_to(TOP)}</small></li>")
+        return f"<h1>Documents</h1><ul>{''.join(rows)}</ul>"
+
+    def file_page(self, path: Path) -> str:
+        """A file of the repository as it is, or the names in a folder."""
+        title = f"<h1>{escape(path.relative_to(TOP).as_posix())}</h1>"
+        if path.is_dir():
+            names = "".join(f"<li><code>{escape(it.name)}</code></li>" for it in sorted(path.iterdir())
+                            if it.name != "out")
+            return f"{title}<ul>{names}</ul>"
+        lines = text_of(path).rstrip("\n").split("\n")
+        body = "".join(f'<span id="L{at}">{escape(line)}\n</span>'
+                       for at, line in enumerate(lines, 1))
+        return f'{title}<pre class="file"><code>{body}</code></pre>'
+
+    def header(self) -> str:
+        """The C header: each comment as text, and what it is about as code."""
+        text = text_of(TOP / "include/robus.h")
+        parts = ["<h1>The C header</h1>", '<p class="lead"><code>#include "robus.h"</code></p>']
+        end = 0
+        for found in re.finditer(r"(?ms)^/\*(.*?)\*/\n", text):
+            parts.append(self.declaration(text[end:found.start()]))
+            said = re.sub(r"(?m)^ \* ?", "", found.group(1)).strip()
+            if re.match(r"[A-Z][A-Z ]+\n", said):
+                title, _, said = said.partition("\n")
+                parts.append(f'<h2 id="{anchor_of(title)}">{escape(title.capitalize())}</h2>')
+            parts.append(f'<div class="said">{self.said(said)}</div>')
+            end = found.end()
+        return "".join(parts) + self.declaration(text[end:])
+
+    def said(self, text: str) -> str:
+        """A comment of the header with the names in it as links."""
+        return re.sub(r"\b(?:rb_\w+|robus_c)::\w+(?:::\w+)?|\bdocs/\w+\.md",
+                      lambda found: self.name_or_path(found.group(0)), escape(text))
+
+    def name_or_path(self, said: str) -> str:
+        """A call or document as a link."""
+        return self.name(said) if "::" in said else named(self.path_url(said), said)
+
+    def declaration(self, text: str) -> str:
+        """Declarations, each name at the start of a line with an anchor."""
+        text = text.strip("\n")
+        if not text.strip():
+            return ""
+        marks = "".join(f'<span id="{name}"></span>'
+                        for name in dict.fromkeys(re.findall(r"(?m)^(?:\w[\w ]*[ *])?(robus_\w+)\(", text)
+                                                  + re.findall(r"(?m)^\} (robus_\w+);", text)))
+        return f"{marks}<pre><code>{escape(text)}</code></pre>"
+
+    def header_names(self) -> Iterator[str]:
+        """The names of the header's calls and types."""
+        text = text_of(TOP / "include/robus.h")
+        yield from dict.fromkeys(re.findall(r"(?m)^(?:\w[\w ]*[ *])(robus_\w+)\(", text)
+                                 + re.findall(r"(?m)^\} (robus_\w+);", text))
+
+
+class Package:
+    """The page of the Python package, from its docstrings."""
+
+    def __init__(self, renderer: Renderer) -> None:
+        self.renderer = renderer
+        self.files = sorted((TOP / "python/robus").rglob("*.py"))
+
+    @staticmethod
+    def module_name(file: Path) -> str:
+        """The name of a module."""
+        parts = file.relative_to(TOP / "python").with_suffix("").parts
+        return ".".join(it for it in parts if it != "__init__")
+
+    def page(self) -> str:
+        """All modules with their public classes and functions."""
+        parts = ["<h1>The Python package</h1>"]
+        names = [self.module_name(file) for file in self.files]
+        listed = " · ".join(f'<a href="#{it}">{it.removeprefix("robus.")}</a>' for it in names)
+        parts.append(f"<p>{anchor('docs/LIBRARY.html', 'LIBRARY')} says how to use it.</p>"
+                     f"<p>{listed}</p>")
+        for file, name in zip(self.files, names):
+            tree = ast.parse(text_of(file))
+            parts.append(f'<h2 id="{name}">{name}</h2>{self.said(tree)}')
+            parts += [self.item(name, it) for it in self.items(tree)]
+        return "".join(parts)
+
+    def items(self, tree: ast.AST) -> Iterator[ast.AST]:
+        """The public classes and functions in a body."""
+        for it in getattr(tree, "body", []):
+            if isinstance(it, (ast.ClassDef, ast.FunctionDef)) and not it.name.startswith("_"):
+                yield it
+
+    def said(self, node: ast.AST) -> str:
+        """A docstring."""
+        return self.renderer.render(ast.get_docstring(node) or "")
+
+    def item(self, owner: str, node: ast.AST) -> str:
+        """A class or function."""
+        name = f"{owner}.{node.name}"
+        inside = ""
+        if isinstance(node, ast.ClassDef):
+            bases = ", ".join(ast.unparse(it) for it in node.bases)
+            head = f"class {node.name}({bases})" if bases else f"class {node.name}"
+            inside = "".join(self.item(name, it) for it in self.items(node))
+        else:
+            result = f" -> {ast.unparse(node.returns)}" if node.returns else ""
+            head = f"{node.name}({ast.unparse(node.args)}){result}"
+        return (f'<section class="call" id="{name}"><p><code><b>{escape(head)}</b></code></p>'
+                f"{self.said(node)}{inside}</section>")
+
+    def names(self) -> Iterator[tuple[str, str]]:
+        """Each public class, function and method with the first line of its docstring."""
+        for file in self.files:
+            todo = [(self.module_name(file), it) for it in self.items(ast.parse(text_of(file)))]
+            for owner, it in todo:
+                name = f"{owner}.{it.name}"
+                yield name, (ast.get_docstring(it) or "").split("\n")[0]
+                todo += [(name, inner) for inner in self.items(it)
+                         if isinstance(it, ast.ClassDef)]

@@ -1,0 +1,73 @@
+"""The front page: what the project is, and the promise of a run in one paragraph."""
+from __future__ import annotations
+
+import re
+
+from robus_docs.atlas import Atlas
+from robus_docs.markup import anchor, count, escape
+from robus_docs.reading import Reading
+
+# Each phrase in brackets is a link to the definition behind the bar
+PROMISE = """If the program's drive is plain and its status is Done or Breach, then
+[the input was read to its end|rb_outside.Bytes.ReadsToEnd], it is
+[the text of an accepted scenario|rb_top.Inputs.IsTextOf], which is
+[lawful|rb_rules.Lawful.IsLawful], and what was added to the output is exactly
+[the report|rb_top.Texts.told_by_run] of [its rounds|rb_rules.Rounds.records_of]. The status is Breach
+[if and only if the rounds end with a breach|rb_top.Commands.EndsAs] of
+[the fault premise|rb_rules.Judging.verdict_of]. Up to that breach
+[good nodes begin each slot at most|rb_rules.Headline.BeginSlotsNear]
+[a stated skew|rb_rules.Headline.stated_skew] apart,
+[good BIUs deliver one value|rb_rules.Headline.DeliverAlike] in each slot that has an owner,
+[a good owner's value is the word that its application offered|rb_rules.Headline.DeliverTheWord],
+good nodes [hold one schedule|rb_rules.Headline.HoldOneSchedule] and
+[convict the same nodes|rb_rules.Headline.ConvictAlike],
+[never a good one|rb_rules.Headline.ConvictNoGoodNode].
+All good nodes together [stand for one machine|rb_rules.StandsFor.StandsFor],
+[each good BIU owns the slots that it asks for|rb_laws_promise.Shares.GetTheirShare] up to an equal
+share, and [nodes that run event by event|rb_laws_events.Promise.RunningNodesKeepThePromise], each by
+its own clock, hold what the rounds hold."""
+ABOUT = """ROBUS is a fault-tolerant broadcast bus: protocol, simulator, library and node core, proved
+from the bytes of a scenario to the bytes of its report. Processors are attached to bus interface
+units (BIUs), which are linked only with redundancy management units (RMUs). While enough nodes are
+good, all good BIUs deliver the same words at nearly the same time, whatever faulty nodes say."""
+
+
+def front(reading: Reading, atlas: Atlas) -> str:
+    """The front page."""
+    places = {f"{it}": place for place in atlas.places for it in [reading_key(place)]}
+
+    def phrase(found: re.Match[str]) -> str:
+        text, key = found.groups()
+        return anchor(reading.link(places[key]), escape(text))
+
+    promise = re.sub(r"\[([^|\]]+)\|([^\]]+)\]", phrase, PROMISE)
+    size = count(len(reading.places()), "definition")
+    laws = sum(1 for crate, _, _ in atlas.calls() if crate.startswith("rb_laws_"))
+    items = [
+        (anchor("promise.html", "The promise, read downwards"),
+         f"the {size} that say it, from the top call to the ground, to be ticked off"),
+        (anchor("laws/index.html", "Laws"), f"{laws} theorems, each with its premises and uses"),
+        (anchor("docs/RULES.html", "The rules of the bus"), "the definitions in words"),
+        (anchor("docs/PROMISES.html", "Promises"), "every promise with the clause that carries it"),
+        (anchor("docs/PROOF.html", "The proof"), "the argument, from report down to inequalities"),
+        (anchor("crates/index.html", "Crates"), "calls with contracts, types, and mutants that are "
+         "refused"),
+        (anchor("docs/TUTORIAL.html", "Tutorial"), "an hour with the program"),
+        (anchor("docs/index.html", "All documents"), "the manual pages of the programs among them"),
+        (anchor("python.html", "Python"), "the package, from its docstrings"),
+        (anchor("header.html", "C"), "the calls and the node core for a host"),
+    ]
+    listed = "".join(f"<li>{link}: {said}</li>" for link, said in items)
+    clause = anchor("promise.html", "the clause <code>promise</code> of <code>run_robus</code>")
+    return (f'<h1>ROBUS</h1><p class="lead">{ABOUT}</p>'
+            f'<p><img src="~/files/docs/bus.svg" alt="A word on its way over the bus"></p>'
+            f"<h2>What is proved of <code>run</code></h2><p>{promise}</p>"
+            f"<p>This is {clause}: each link leads to the definition that says the phrase. "
+            "On each page every name in a definition is a link to its own definition.</p>"
+            f"<h2>Read</h2><ul>{listed}</ul>")
+
+
+def reading_key(place) -> str:
+    """The key of a definition."""
+    from robus_docs.atlas import key_of
+    return key_of(place)
