@@ -220,6 +220,16 @@ class Atlas:
         place = self.named(name)
         return url_of(place) if place else self.module_url(name)
 
+    def url_within(self, crate: str, name: str) -> Optional[str]:
+        """The address of what a comment of a crate names: something of the crate itself, or a call
+        or crate by its whole name."""
+        for file in (*sources_of(crate), *definitions_of(crate)):
+            if name in module(file).blocks:
+                return url_of((file, name))
+        if crate in self.libraries and name in self.libraries[crate].calls:
+            return call_url(crate, name)
+        return self.url_named(name) if "::" in name or name in crates() else None
+
     def type_url(self, crate: str, name: str) -> str:
         """The address of a public type; that of a trait is its heading among the calls."""
         for file in sources_of(crate):

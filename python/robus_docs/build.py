@@ -27,7 +27,7 @@ class Site:
         self.folder = folder
         self.atlas = Atlas()
         self.documents = Documents(self.atlas)
-        self.pages = Pages(self.atlas, self.documents.renderer())
+        self.pages = Pages(self.atlas, self.documents)
         self.reading = Reading(self.atlas, self.pages)
         self.laws = Laws(self.pages, citing_proofs(self.atlas))
         self.package = Package(self.documents.renderer())

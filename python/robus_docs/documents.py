@@ -41,6 +41,11 @@ class Documents:
         """A renderer of texts whose links are from this folder."""
         return Renderer(self.name, lambda link: self.follow(folder, link))
 
+    def of_crate(self, crate: str) -> Renderer:
+        """A renderer of the comments of a crate."""
+        return Renderer(lambda said: named(self.atlas.url_within(crate, said), said),
+                        lambda link: self.follow(TOP, link))
+
     def name(self, said: str) -> str:
         """A name in code font, as a link if it means something."""
         url = self.atlas.url_named(said)

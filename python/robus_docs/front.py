@@ -3,12 +3,13 @@ from __future__ import annotations
 
 import re
 
-from robus_docs.atlas import Atlas
+from robus_docs.atlas import Atlas, key_of
 from robus_docs.markup import anchor, count, escape
 from robus_docs.reading import Reading
 
-# Each phrase in brackets is a link to the definition behind the bar
-PROMISE = """If the program's drive is plain and its status is Done or Breach, then
+# Each phrase in brackets is a link to the definition or page behind the bar
+PROMISE = """If [the drive is plain|crates/rb_world.html#owner.Drive], as the program's own is, and
+[the status|rb_top.status.Status] is Done or Breach, then
 [the input was read to its end|rb_outside.Bytes.ReadsToEnd], it is
 [the text of an accepted scenario|rb_top.Inputs.IsTextOf], which is
 [lawful|rb_rules.Lawful.IsLawful], and what was added to the output is exactly
@@ -26,6 +27,9 @@ All good nodes together [stand for one machine|rb_rules.StandsFor.StandsFor],
 [each good BIU owns the slots that it asks for|rb_laws_promise.Shares.GetTheirShare] up to an equal
 share, and [nodes that run event by event|rb_laws_events.Promise.RunningNodesKeepThePromise], each by
 its own clock, hold what the rounds hold."""
+PREMISE = """The [fault premise|rb_rules.Judging.cause_of]: in each stage, the good nodes of each kind
+outnumber the faulty trusted ones that were heard in this frame, and faulty nodes of at most one kind
+say different things to different receivers."""
 ABOUT = """ROBUS is a fault-tolerant broadcast bus: protocol, simulator, library and node core, proved
 from the bytes of a scenario to the bytes of its report. Processors are attached to bus interface
 units (BIUs), which are linked only with redundancy management units (RMUs). While enough nodes are
@@ -34,13 +38,14 @@ good, all good BIUs deliver the same words at nearly the same time, whatever fau
 
 def front(reading: Reading, atlas: Atlas) -> str:
     """The front page."""
-    places = {f"{it}": place for place in atlas.places for it in [reading_key(place)]}
+    places = {key_of(place): place for place in atlas.places}
 
     def phrase(found: re.Match[str]) -> str:
         text, key = found.groups()
-        return anchor(reading.link(places[key]), escape(text))
+        return anchor(key if "/" in key else reading.link(places[key]), escape(text))
 
-    promise = re.sub(r"\[([^|\]]+)\|([^\]]+)\]", phrase, PROMISE)
+    promise, premise = (re.sub(r"\[([^|\]]+)\|([^\]]+)\]", phrase, it)
+                        for it in (PROMISE, PREMISE))
     size = count(len(reading.places()), "definition")
     laws = sum(1 for crate, _, _ in atlas.calls() if crate.startswith("rb_laws_"))
     items = [
@@ -61,13 +66,8 @@ def front(reading: Reading, atlas: Atlas) -> str:
     clause = anchor("promise.html", "the clause <code>promise</code> of <code>run_robus</code>")
     return (f'<h1>ROBUS</h1><p class="lead">{ABOUT}</p>'
             f'<p><img src="~/files/docs/bus.svg" alt="A word on its way over the bus"></p>'
-            f"<h2>What is proved of <code>run</code></h2><p>{promise}</p>"
+            f"<h2>What is proved of <code>run</code></h2><p>{promise}</p><p>{premise}</p>"
             f"<p>This is {clause}: each link leads to the definition that says the phrase. "
             "On each page every name in a definition is a link to its own definition.</p>"
             f"<h2>Read</h2><ul>{listed}</ul>")
 
-
-def reading_key(place) -> str:
-    """The key of a definition."""
-    from robus_docs.atlas import key_of
-    return key_of(place)

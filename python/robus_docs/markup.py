@@ -36,9 +36,8 @@ def named(url: Optional[str], name: str) -> str:
 def page(url: str, title: str, body: str) -> str:
     """The whole text of a page at an address."""
     root = "../" * url.count("/")
-    here = [(it, name) for it, name in MENU]
-    menu = " ".join(f'<a href="~/{it}"{" class=here" if it == url else ""}>{name}</a>'
-                    for it, name in here).replace("class=here", 'class="here"')
+    menu = " ".join(f'<a{mark} href="~/{it}">{name}</a>' for it, name in MENU
+                    for mark in [' class="here"' if it == url else ""])
     text = f"""<!DOCTYPE html>
 <html lang="en" data-root="{root}">
 <head>
@@ -79,20 +78,20 @@ def code(text: str, here: Module, link: Link, own: str = "") -> str:
         said = found.group(0)
         if found.lastgroup == "comment":
             parts.append(f'<span class="comment">{escape(said)}</span>')
+        elif said == own:
+            parts.append(f"<b>{escape(said)}</b>")
         elif found.lastgroup == "word" and said in KEYWORDS:
             parts.append(f'<span class="keyword">{said}</span>')
         elif found.lastgroup == "word" and said not in bound and before != ".":
-            parts.append(word(said, here, link, types, own))
+            parts.append(word(said, here, link, types))
         else:
             parts.append(escape(said))
         before = said
     return f"<pre><code>{''.join(parts)}</code></pre>"
 
 
-def word(said: str, here: Module, link: Link, types: dict[str, Place], own: str) -> str:
+def word(said: str, here: Module, link: Link, types: dict[str, Place]) -> str:
     """A word of code, as a link if it means something that has a page."""
-    if said == own:
-        return f"<b>{escape(said)}</b>"
     meant = meaning_of(here, said) or types.get(said)
     if isinstance(meant, str):
         return f'<span class="kit" title="from the kit: {escape(meant)}">{escape(said)}</span>'

@@ -4,31 +4,35 @@ from __future__ import annotations
 import re
 import textwrap
 from pathlib import Path
-from typing import Iterator, Optional
+from typing import Iterator
 
 from robus_docs.atlas import (COMPUTED, Atlas, call_anchor, call_url, crate_of, definition_of,
                               key_of, mutants_of, url_of)
+from robus_docs.documents import Documents
 from robus_docs.library import Call
-from robus_docs.markdown import Renderer
 from robus_docs.markup import Link, anchor, code, count, details, escape, named
-from robus_docs.source import (CRATES, Clause, Place, crates, definitions_of, module, named_by,
+from robus_docs.source import (CRATES, Place, crates, definitions_of, meaning_of, module,
                                sources_of)
 
 
 class Pages:
-    """Makes these pages from the atlas. `files` collects the files that they link to."""
+    """Makes these pages from the atlas."""
 
-    def __init__(self, atlas: Atlas, renderer: Renderer) -> None:
-        self.atlas, self.renderer = atlas, renderer
+    def __init__(self, atlas: Atlas, documents: Documents) -> None:
+        self.atlas, self.renderer, self.documents = atlas, documents.renderer(), documents
 
-    def prose(self, text: str) -> str:
-        """A docstring or comment as HTML, with the calls and definitions in it as links."""
-        return self.renderer.render(text)
+    def prose(self, crate: str, text: str) -> str:
+        """A docstring of a crate as HTML, with the names in it as links."""
+        return self.documents.of_crate(crate).render(text)
+
+    def comment(self, crate: str, text: str) -> str:
+        """A comment of a crate in one line as HTML."""
+        return self.documents.of_crate(crate).inline(text.replace("\n", " "))
 
     def definition(self, place: Place, anchor_name: str, link: Link = url_of) -> str:
         """A definition with its comment, its text and what hangs on it."""
         it, here = definition_of(place), module(place[0])
-        said = escape(it.comment)
+        said = self.comment(crate_of(place[0]), it.comment)
         where = f"{crate_of(place[0])}, {place[0].stem}"
         home = anchor(url_of(place).partition("#")[0], escape(where))
         size = self.atlas.count_behind(place)
@@ -57,11 +61,11 @@ class Pages:
             details(f"In the contracts of {count(len(callers), 'call')}", callers),
             details(f"Computed by {count(len(cases), 'case')}", cases)])
 
-    def module_page(self, crate: str, file) -> str:
+    def module_page(self, crate: str, file: Path) -> str:
         """The page of a module of definitions."""
         here = module(file)
         places = [(file, name) for name in here.blocks]
-        about = self.renderer.inline(here.about.replace("\n", " "))
+        about = self.comment(crate, here.about)
         listed = " · ".join(f'<a href="#{escape(name)}">{escape(name)}</a>' for _, name in places)
         return (f"<h1>{escape(file.stem)}</h1>"
                 f"<p class=\"lead\">{about}</p><p>{anchor(f'crates/{crate}.html', crate)} · "
@@ -82,7 +86,7 @@ class Pages:
         title = (anchor(call_url(crate, name), escape(name)) if crate.startswith("rb_laws_")
                  else f'<a href="#{anchor_name}">{escape(name)}</a>')
         return (f'<section class="call" id="{anchor_name}"><h3>{title}</h3>'
-                f"{self.prose(call.docstring)}{self.contract(call)}"
+                f"{self.prose(crate, call.docstring)}{self.contract(call)}"
                 + details(f"Named in {count(len(sentences), 'sentence')} of PROMISES and RULES",
                           sentences)
                 + details(f"{count(len(rests), 'definition')} in the contract", rests)
@@ -92,7 +96,7 @@ class Pages:
         """The page of a crate."""
         library = self.atlas.libraries.get(crate)
         lib = CRATES / crate / "src/lib.rt"
-        about = self.prose(module(lib).about) if lib.exists() else ""
+        about = self.prose(crate, module(lib).about) if lib.exists() else ""
         uses = ", ".join(anchor(f"crates/{it}.html", it) if it in crates() else it
                          for it in crates()[crate]) or "nothing"
         used_by = [it for it in sorted(crates()) if crate in crates()[it]]
@@ -132,7 +136,7 @@ class Pages:
     def owner(self, crate: str, owner: str) -> str:
         """The heading of a type's calls, with what clauses see of a trait."""
         library = self.atlas.libraries[crate]
-        said = self.prose(library.types.get(owner, ""))
+        said = self.prose(crate, library.types.get(owner, ""))
         seen = "\n".join(library.seen.get(owner, []))
         ghost = f"<pre><code>{escape(seen)}</code></pre>" if seen else ""
         return f'<h3 class="owner" id="owner.{owner}">{owner}</h3>{said}{ghost}'
@@ -144,7 +148,7 @@ class Pages:
             for it in module(file).functions:
                 call = Call(it)
                 parts.append(f'<section class="call" id="{call_anchor(it.name)}">'
-                             f"<h3>{escape(it.name)}</h3>{self.prose(it.docstring)}"
+                             f"<h3>{escape(it.name)}</h3>{self.prose(crate, it.docstring)}"
                              f"{self.contract(call)}</section>")
         return "".join(parts)
 
@@ -164,7 +168,7 @@ class Pages:
             if here.blocks:
                 url = f"definitions/{crate}/{file.stem}.html"
                 size = count(len(here.blocks), "definition")
-                about = self.renderer.inline(here.about.replace("\n", " "))
+                about = self.comment(crate, here.about)
                 items.append(f"<li>{anchor(url, file.stem)}: {about} <small>{size}</small></li>")
         return f"<h2>Definitions</h2><ul>{''.join(items)}</ul>" if items else ""
 
@@ -187,7 +191,7 @@ class Pages:
         for crate in sorted(crates()):
             lib = CRATES / crate / "src/lib.rt"
             about = module(lib).about if lib.exists() else module(CRATES / crate / "src/main.rt").about
-            said = self.renderer.inline(first_sentence(about))
+            said = self.comment(crate, first_sentence(about))
             rows.append(f"<tr><td>{anchor(f'crates/{crate}.html', crate)}</td><td>{said}</td></tr>")
         return f"<h1>Crates</h1><table>{''.join(rows)}</table>"
 
@@ -218,7 +222,7 @@ class Laws:
     def page(self, crate: str, name: str, call: Call) -> str:
         """The page of a law: statement, premises, instances, and who cites it."""
         places = self.atlas.in_contract(call)
-        parts = [f"<h1>{escape(name)}</h1>", f'<div class="lead">{self.pages.prose(call.docstring)}'
+        parts = [f"<h1>{escape(name)}</h1>", f'<div class="lead">{self.pages.prose(crate, call.docstring)}'
                  f"</div><p>A law of {anchor(f'crates/{crate}.html', crate)}.</p>",
                  self.pages.contract(call)]
         parts += [self.pages.definition(it, it[1]) for it in places]
@@ -261,7 +265,8 @@ class Laws:
                         f"<code>{escape(it.name)}</code>") for it in self.atlas.cases.get(place, [])]
         met = f"met by {', '.join(cases[:8])}" if cases else "no computed case names it"
         said = definition_of(place).comment
-        return f"{named(url_of(place), place[1])}: {escape(said)} <small>({met})</small>"
+        comment = self.pages.comment(crate_of(place[0]), said)
+        return f"{named(url_of(place), place[1])}: {comment} <small>({met})</small>"
 
     def sentences(self, crate: str, name: str) -> str:
         """The sentences of PROMISES that name a law."""
@@ -275,18 +280,18 @@ class Laws:
         parts, last = ["<h1>Laws</h1><p>A law is the contract of a function that does nothing.</p>"], ""
         for crate, name, call in self.all():
             if crate != last:
-                about = self.pages.prose(self.atlas.libraries[crate].about)
+                about = self.pages.prose(crate, self.atlas.libraries[crate].about)
                 parts.append(f"<h2>{anchor(f'crates/{crate}.html', crate)}</h2>{about}")
                 last = crate
-            said = self.pages.renderer.inline(first_sentence(call.docstring))
+            said = self.pages.comment(crate, first_sentence(call.docstring))
             parts.append(f"<p>{named(call_url(crate, name), name)}: {said}</p>")
         return "".join(parts)
 
 
-def predicates(text: str, file) -> Iterator[Place]:
+def predicates(text: str, file: Path) -> Iterator[Place]:
     """The predicates, whose names begin with capitals, that a text applies to something."""
-    from robus_docs.source import meaning_of
-    for found in re.finditer(r"(?:^|[(\s])([A-Z]\w+) (?=[\w(])", re.sub(r"\([\w' ]+ : [^)]*\)", "", text)):
+    bare = re.sub(r"\([\w' ]+ : [^)]*\)", "", text)
+    for found in re.finditer(r"(?:^|[(\s])([A-Z]\w+) (?=[\w(])", bare):
         meant = meaning_of(module(file), found.group(1))
         if isinstance(meant, tuple):
             yield meant

@@ -13,7 +13,7 @@ TOP_CALL = ("rb_top", "run_robus")
 # Each definition is in the first part from which it is reached without one that begins another.
 PARTS = (
     ("The report of a run", "What the top call promises of `run`, clause by clause. The other forms "
-     "promise the same of their own texts.",
+     "that run a bus have promises of their own.",
      ["rb_top.Promise.KeepsTheHeadline", "rb_laws_promise.Promise.KeepsThePromise"]),
     ("What good nodes have in common", "Skew, deliveries, words, schedules and convictions.",
      ["rb_rules.Headline.Headline"]),
@@ -22,8 +22,6 @@ PARTS = (
     ("Shares", "Each good BIU owns the data slots that it asks for, up to an equal share.",
      ["rb_laws_promise.Shares.GetTheirShare"]),
     ("Records", "What the record of a slot says.", ["rb_laws_groups.Lines.IsRight"]),
-    ("Nodes that run", "What nodes hold that run event by event, each with a clock of its own.",
-     ["rb_laws_events.Promise.RunningNodesKeepThePromise"]),
     ("Moments of a run", "The promise speaks of moments: before and after a stage, a slot, a frame. "
      "A slot is complete if the run has not ended after its last stage.",
      ["rb_rules.Moments.IsComplete", "rb_rules.Moments.IsSettled", "rb_rules.Moments.IsReached",
@@ -33,10 +31,12 @@ PARTS = (
      ["rb_rules.Book.with_stage", "rb_rules.Judging.verdict_of"]),
     ("The rounds", "The run, window by window: what each node sends, hears and holds.",
      ["rb_rules.Rounds.records_of", "rb_rules.Rounds.moment"]),
-    ("Events", "The run, event by event.", ["rb_rules.WorldStep.world_after"]),
     ("Lawful scenarios", "What every accepted scenario keeps: a feasible plan, clocks and delays "
      "within bounds, and only faulty nodes that say what the rules do not.",
      ["rb_rules.Lawful.IsLawful"]),
+    ("Nodes that run", "What nodes hold that run event by event, each with a clock of its own.",
+     ["rb_laws_events.Promise.RunningNodesKeepThePromise"]),
+    ("Events", "The run, event by event.", ["rb_rules.WorldStep.world_after"]),
     ("The text of the report", "The bytes that the sink is given.", ["rb_top.Texts.told_by_run"]),
     ("The text of the scenario", "The bytes that are accepted, and the scenario that they say.",
      ["rb_top.Inputs.IsTextOf"]),
@@ -130,7 +130,8 @@ class Reading:
         share = round(100 * size / max(1, len(self.number) - 1))
         behind = f"{size:,} behind it, {share} %" if size else "ground"
         home = anchor(url_of(place), f"{crate_of(place[0])}, {place[0].stem}")
-        said = f"<p>{escape(it.comment)}</p>" if it.comment else ""
+        comment = self.pages.comment(crate_of(place[0]), it.comment)
+        said = f"<p>{comment}</p>" if comment else ""
         return (f'<section class="definition" id="{key}" data-key="{key}">'
                 f'<h3><a href="#{key}">{escape(it.name)}</a> <small>{home} · {behind}</small></h3>'
                 f"{said}{code(chr(10).join(it.lines), here, self.link, it.name)}</section>")

@@ -19,7 +19,7 @@ function entry([name, kind, url, comment]) {
   const link = item.appendChild(document.createElement("a"));
   link.href = ROOT + url;
   link.appendChild(document.createElement("code")).textContent = name;
-  link.appendChild(document.createElement("small")).textContent = ` ${kind}  ${comment}`;
+  link.appendChild(document.createElement("small")).textContent = ` ${kind}${comment && ": "}${comment}`;
   return item;
 }
 
@@ -28,7 +28,7 @@ function addSearch() {
   const box = place.appendChild(document.createElement("input"));
   const list = place.appendChild(document.createElement("ol"));
   box.type = "search";
-  box.placeholder = "Search names and comments  ( / )";
+  box.placeholder = "Search  ( / )";
   box.setAttribute("aria-label", "Search names and comments");
   const show = () => {
     const wanted = box.value.trim().toLowerCase();
