@@ -245,7 +245,7 @@ class Atlas:
         return None
 
     def module_url(self, name: str) -> Optional[str]:
-        """The address of a file of definitions, `rb_rules/specs/Rounds` or `Rounds` of the rules."""
+        """The address of a file of definitions: `rb_log/specs/Header`, or `Rounds` of the rules."""
         found = re.fullmatch(r"(?:crates/)?(\w+)/specs/(\w+)(?:\.antt)?", name)
         crate, stem = found.groups() if found else ("rb_rules", name)
         if re.fullmatch(r"[A-Z]\w*", stem) and (CRATES / crate / f"specs/{stem}.antt").exists():

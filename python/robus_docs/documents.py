@@ -1,9 +1,11 @@
-"""The pages of documents, of the Python package, of the C header, and of files that they link to."""
+"""The pages of documents, of the Python package, of the C header, and of files."""
 from __future__ import annotations
 
 import ast
+import itertools
 import os
 import re
+import textwrap
 from pathlib import Path
 from typing import Iterator, Optional
 
@@ -13,7 +15,6 @@ from robus_docs.markup import anchor, escape, named
 from robus_docs.source import CRATES, TOP, text_of
 
 PICTURES = (".svg", ".png")
-SHOWN = (".md", ".rt", ".antt", ".py", ".toml", ".c", ".h", ".edit", ".txt", ".sh", "")
 
 
 def documents() -> list[Path]:
@@ -116,8 +117,8 @@ class Documents:
         """A file of the repository as it is, or the names in a folder."""
         title = f"<h1>{escape(path.relative_to(TOP).as_posix())}</h1>"
         if path.is_dir():
-            names = "".join(f"<li><code>{escape(it.name)}</code></li>" for it in sorted(path.iterdir())
-                            if it.name != "out")
+            names = "".join(f"<li><code>{escape(it.name)}</code></li>"
+                            for it in sorted(path.iterdir()) if it.name != "out")
             return f"{title}<ul>{names}</ul>"
         lines = text_of(path).rstrip("\n").split("\n")
         body = "".join(f'<span id="L{at}">{escape(line)}\n</span>'
@@ -135,34 +136,42 @@ class Documents:
             if re.match(r"[A-Z][A-Z ]+\n", said):
                 title, _, said = said.partition("\n")
                 parts.append(f'<h2 id="{anchor_of(title)}">{escape(title.capitalize())}</h2>')
-            parts.append(f'<div class="said">{self.said(said)}</div>')
+            parts.append(self.said(said))
             end = found.end()
         return "".join(parts) + self.declaration(text[end:])
 
     def said(self, text: str) -> str:
-        """A comment of the header with the names in it as links."""
-        return re.sub(r"\b(?:rb_\w+|robus_c)::\w+(?:::\w+)?|\bdocs/\w+\.md",
-                      lambda found: self.name_or_path(found.group(0)), escape(text))
-
-    def name_or_path(self, said: str) -> str:
-        """A call or document as a link."""
-        return self.name(said) if "::" in said else named(self.path_url(said), said)
+        """A comment of the header: paragraphs, and lists as they are."""
+        parts = []
+        for block in re.split(r"\n\s*\n", text):
+            for is_list, lines in itertools.groupby(block.split("\n"), lambda it: it[:2] == "  "):
+                said = "\n".join(lines)
+                parts.append(f"<pre><code>{escape(textwrap.dedent(said))}</code></pre>" if is_list
+                             else f"<p>{self.renderer().inline(with_code(said))}</p>")
+        return "".join(parts)
 
     def declaration(self, text: str) -> str:
         """Declarations, each name at the start of a line with an anchor."""
         text = text.strip("\n")
         if not text.strip():
             return ""
-        marks = "".join(f'<span id="{name}"></span>'
-                        for name in dict.fromkeys(re.findall(r"(?m)^(?:\w[\w ]*[ *])?(robus_\w+)\(", text)
-                                                  + re.findall(r"(?m)^\} (robus_\w+);", text)))
+        marks = "".join(f'<span id="{name}"></span>' for name in names_declared(text))
         return f"{marks}<pre><code>{escape(text)}</code></pre>"
 
-    def header_names(self) -> Iterator[str]:
+    def header_names(self) -> list[str]:
         """The names of the header's calls and types."""
-        text = text_of(TOP / "include/robus.h")
-        yield from dict.fromkeys(re.findall(r"(?m)^(?:\w[\w ]*[ *])(robus_\w+)\(", text)
-                                 + re.findall(r"(?m)^\} (robus_\w+);", text))
+        return names_declared(text_of(TOP / "include/robus.h"))
+
+
+def with_code(text: str) -> str:
+    """A comment with the calls and documents that it names in code font."""
+    return re.sub(r"(?<![`\w])((?:rb_\w+|robus_c)::\w+(?:::\w+)?|docs/\w+\.md)(?!`)", r"`\1`", text)
+
+
+def names_declared(text: str) -> list[str]:
+    """The calls and types that C declares."""
+    calls = re.findall(r"(?m)^(?:\w[\w ]*[ *])(robus_\w+)\(", text)
+    return list(dict.fromkeys(calls + re.findall(r"(?m)^\} (robus_\w+);", text)))
 
 
 class Package:

@@ -13,8 +13,8 @@ PROMISE = """If [the drive is plain|crates/rb_world.html#owner.Drive], as the pr
 [the input was read to its end|rb_outside.Bytes.ReadsToEnd], it is
 [the text of an accepted scenario|rb_top.Inputs.IsTextOf], which is
 [lawful|rb_rules.Lawful.IsLawful], and what was added to the output is exactly
-[the report|rb_top.Texts.told_by_run] of [its rounds|rb_rules.Rounds.records_of]. The status is Breach
-[if and only if the rounds end with a breach|rb_top.Commands.EndsAs] of
+[the report|rb_top.Texts.told_by_run] of [its rounds|rb_rules.Rounds.records_of].
+The status is Breach [if and only if the rounds end with a breach|rb_top.Commands.EndsAs] of
 [the fault premise|rb_rules.Judging.verdict_of]. Up to that breach
 [good nodes begin each slot at most|rb_rules.Headline.BeginSlotsNear]
 [a stated skew|rb_rules.Headline.stated_skew] apart,
@@ -24,16 +24,18 @@ good nodes [hold one schedule|rb_rules.Headline.HoldOneSchedule] and
 [convict the same nodes|rb_rules.Headline.ConvictAlike],
 [never a good one|rb_rules.Headline.ConvictNoGoodNode].
 All good nodes together [stand for one machine|rb_rules.StandsFor.StandsFor],
-[each good BIU owns the slots that it asks for|rb_laws_promise.Shares.GetTheirShare] up to an equal
-share, and [nodes that run event by event|rb_laws_events.Promise.RunningNodesKeepThePromise], each by
-its own clock, hold what the rounds hold."""
-PREMISE = """The [fault premise|rb_rules.Judging.cause_of]: in each stage, the good nodes of each kind
-outnumber the faulty trusted ones that were heard in this frame, and faulty nodes of at most one kind
-say different things to different receivers."""
-ABOUT = """ROBUS is a fault-tolerant broadcast bus: protocol, simulator, library and node core, proved
-from the bytes of a scenario to the bytes of its report. Processors are attached to bus interface
-units (BIUs), which are linked only with redundancy management units (RMUs). While enough nodes are
-good, all good BIUs deliver the same words at nearly the same time, whatever faulty nodes say."""
+[each good BIU owns the slots that it asks for|rb_laws_promise.Shares.GetTheirShare] up to an
+equal share, and
+[nodes that run event by event|rb_laws_events.Promise.RunningNodesKeepThePromise], each by its own
+clock, hold what the rounds hold."""
+PREMISE = """The [fault premise|rb_rules.Judging.cause_of]: in each stage, the good nodes of each
+kind outnumber the faulty trusted ones that were heard in this frame, and faulty nodes of at most
+one kind say different things to different receivers."""
+ABOUT = """ROBUS is a fault-tolerant broadcast bus: protocol, simulator, library and node core,
+proved from the bytes of a scenario to the bytes of its report. Processors are attached to bus
+interface units (BIUs), which are linked only with redundancy management units (RMUs). While enough
+nodes are good, all good BIUs deliver the same words at nearly the same time, whatever faulty nodes
+say."""
 
 
 def front(reading: Reading, atlas: Atlas) -> str:

@@ -11,8 +11,8 @@ Resolve = Callable[[str], str]  # the HTML of a code span
 Follow = Callable[[str], str]  # the address behind a link or picture
 INLINE = re.compile(r"`(?P<code>[^`]+)`|!\[(?P<alt>[^\]]*)\]\((?P<picture>[^)]+)\)"
                     r"|\[(?P<text>(?:[^\[\]]|\[[^\]]*\])+)\]\((?P<link>[^)]+)\)"
-                    r"|\*\*(?P<bold>.+?)\*\*|\*(?P<italic>[^*\s][^*]*?)\*|(?P<bare>https?://[^\s)]+)",
-                    re.S)
+                    r"|\*\*(?P<bold>.+?)\*\*|\*(?P<italic>[^*\s][^*]*?)\*"
+                    r"|(?P<bare>https?://[^\s)]+)", re.S)
 ITEM = re.compile(r"(?P<indent> *)(?P<mark>[-*]|\d+\.) +(?P<text>.*)")
 
 
@@ -119,9 +119,10 @@ class Renderer:
             size = run_of(lines, lambda it: it.startswith("|"))
             return size, self.table(lines[:size])
         if ITEM.match(line):
-            size = run_of(lines, lambda it: bool(ITEM.match(it)) or it.startswith(" ")
-                          or not it.strip())
-            return size, self.items([it for it in lines[:size]])
+            mark = r"\d+\. " if line[0].isdigit() else r"[-*] "
+            size = run_of(lines, lambda it: not it.strip() or it.startswith(" ")
+                          or bool(re.match(mark, it)))
+            return size, self.items(lines[:size])
         size = run_of(lines, lambda it: bool(it.strip()) and not it.startswith(("#", "|", "```"))
                       and not re.match(r"[-*] ", it))
         return size, f"<p>{self.inline(chr(10).join(lines[:size]))}</p>"

@@ -8,8 +8,8 @@ from typing import Callable, Optional
 from robus_docs.source import Module, Place, meaning_of, rust_types
 
 Link = Callable[[Place], Optional[str]]  # the address of a definition; none if it has no page
-KEYWORDS = set("abbrev pub unfoldable record data where let in if then else use ghost fn struct enum "
-               "impl for trait ensures requires mut const type match extern".split())
+KEYWORDS = set("abbrev pub unfoldable record data where let in if then else use ghost fn struct "
+               "enum impl for trait ensures requires mut const type match extern".split())
 TOKEN = re.compile(r"(?P<comment>(?:--|//)[^\n]*)|(?P<word>[A-Za-z_]\w*'*)|(?P<other>.|\n)", re.S)
 MENU = (("index.html", "ROBUS"), ("promise.html", "The promise"), ("laws/index.html", "Laws"),
         ("definitions/index.html", "Definitions"), ("crates/index.html", "Crates"),

@@ -10,8 +10,8 @@ from robus_docs.atlas import (COMPUTED, Atlas, call_anchor, call_url, crate_of, 
                               key_of, mutants_of, url_of)
 from robus_docs.documents import Documents
 from robus_docs.library import Call
-from robus_docs.markup import Link, anchor, code, count, details, escape, named
-from robus_docs.source import (CRATES, Place, crates, definitions_of, meaning_of, module,
+from robus_docs.markup import anchor, code, count, details, escape, named
+from robus_docs.source import (CRATES, Function, Place, crates, definitions_of, meaning_of, module,
                                sources_of)
 
 
@@ -29,37 +29,46 @@ class Pages:
         """A comment of a crate in one line as HTML."""
         return self.documents.of_crate(crate).inline(text.replace("\n", " "))
 
-    def definition(self, place: Place, anchor_name: str, link: Link = url_of) -> str:
-        """A definition with its comment, its text and what hangs on it."""
+    def definition(self, place: Place, away: bool = False) -> str:
+        """A definition with its comment, its text and what hangs on it, and away from its own page
+        with a link to that."""
         it, here = definition_of(place), module(place[0])
         said = self.comment(crate_of(place[0]), it.comment)
-        where = f"{crate_of(place[0])}, {place[0].stem}"
-        home = anchor(url_of(place).partition("#")[0], escape(where))
+        home = anchor(url_of(place), f"{crate_of(place[0])}, {place[0].stem}") + " · "
         size = self.atlas.count_behind(place)
         behind = f"rests on {count(size, 'other')}" if size else "rests on nothing else here"
-        return (f'<section class="definition" id="{escape(anchor_name)}" data-key="{key_of(place)}">'
-                f'<h3><a href="#{escape(anchor_name)}">{escape(it.name)}</a> '
-                f"<small>{it.kind} · {home} · {behind}</small></h3>"
+        mark = escape(url_of(place).partition("#")[2])
+        return (f'<section class="definition" id="{mark}" data-key="{escape(key_of(place))}">'
+                f'<h3><a href="#{mark}">{escape(it.name)}</a> '
+                f"<small>{it.kind} · {home if away else ''}{behind}</small></h3>"
                 f"{f'<p>{said}</p>' if said else ''}"
-                f"{code(chr(10).join(it.lines), here, link, it.name)}{self.around(place)}</section>")
+                f"{code(chr(10).join(it.lines), here, url_of, it.name)}{self.around(place)}"
+                "</section>")
 
     def around(self, place: Place) -> str:
         """Who uses a definition, which cases compute it, and which sentences name it."""
-        users = [anchor(url_of(it), f"<code>{escape(it[1])}</code> <small>{crate_of(it[0])}</small>")
+        users = [f"{named(url_of(it), it[1])} <small>{crate_of(it[0])}</small>"
                  for it in self.atlas.users.get(place, [])]
-        callers = [anchor(call_url(crate, name), f"<code>{crate}::{escape(name)}</code>")
+        callers = [named(call_url(crate, name), f"{crate}::{name}")
                    for crate, name in dict.fromkeys(self.atlas.callers.get(place, []))]
-        cases = [anchor(f"crates/{crate_of(it.file)}.html#{call_anchor(it.name)}",
-                        f"<code>{escape(it.name)}</code>") + f": {escape(first_sentence(it.docstring))}"
+        cases = [f"{self.case(it)}: {self.comment(crate_of(it.file), first_sentence(it.docstring))}"
                  for it in self.atlas.cases.get(place, [])]
-        sentences = [anchor(url, escape(url.split("/")[-1].split(".")[0])) + ": "
-                     + self.renderer.inline(said)
-                     for url, said in self.atlas.sentences.get(url_of(place), [])]
+        sentences = self.sentences(url_of(place))
         return "".join([
             details(f"In {count(len(sentences), 'sentence')} of the documents", sentences),
             details(f"Used by {count(len(users), 'definition')}", users),
             details(f"In the contracts of {count(len(callers), 'call')}", callers),
             details(f"Computed by {count(len(cases), 'case')}", cases)])
+
+    def case(self, it: Function) -> str:
+        """A computed case, as a link."""
+        url = f"crates/{crate_of(it.file)}.html#{call_anchor(it.name)}"
+        return anchor(url, f"<code>{escape(it.name)}</code>")
+
+    def sentences(self, url: str) -> list[str]:
+        """The sentences of the documents that name what is at an address."""
+        return [f"{anchor(where, document_of(where))}: {self.renderer.inline(said)}"
+                for where, said in self.atlas.sentences.get(url, [])]
 
     def module_page(self, crate: str, file: Path) -> str:
         """The page of a module of definitions."""
@@ -70,7 +79,7 @@ class Pages:
         return (f"<h1>{escape(file.stem)}</h1>"
                 f"<p class=\"lead\">{about}</p><p>{anchor(f'crates/{crate}.html', crate)} · "
                 f"{count(len(places), 'definition')}</p><p>{listed}</p>"
-                + "".join(self.definition(it, it[1]) for it in places))
+                + "".join(self.definition(it) for it in places))
 
     def contract(self, call: Call) -> str:
         """A call's head with its contract, with links."""
@@ -78,11 +87,10 @@ class Pages:
 
     def call(self, crate: str, name: str, call: Call, anchor_name: str) -> str:
         """A call on the page of its crate, with the sentences that name it."""
-        sentences = [anchor(url, escape(url.split("/")[-1].split(".")[0])) + ": "
-                     + self.renderer.inline(said)
-                     for url, said in self.atlas.sentences.get(call_url(crate, name), [])]
+        sentences = self.sentences(call_url(crate, name))
         places = self.atlas.in_contract(call)
-        rests = [named(url_of(it), it[1]) + " " + escape(definition_of(it).comment) for it in places]
+        rests = [f"{named(url_of(it), it[1])} {self.comment(crate, definition_of(it).comment)}"
+                 for it in places]
         title = (anchor(call_url(crate, name), escape(name)) if crate.startswith("rb_laws_")
                  else f'<a href="#{anchor_name}">{escape(name)}</a>')
         return (f'<section class="call" id="{anchor_name}"><h3>{title}</h3>'
@@ -157,8 +165,7 @@ class Pages:
         places = [(file, name) for file in sources_of(crate) for name in module(file).blocks]
         if not places:
             return ""
-        return "<h2>Types</h2>" + "".join(self.definition(it, f"{it[0].stem}.{it[1]}")
-                                          for it in places)
+        return "<h2>Types</h2>" + "".join(self.definition(it) for it in places)
 
     def modules_of(self, crate: str) -> str:
         """The modules of definitions of a crate."""
@@ -181,8 +188,8 @@ class Pages:
             parts.append(f'<section class="mutant" id="mutant.{it.name}"><h3>'
                          f"{escape(it.name.replace('_', ' '))} <small>{escape(it.file)} · {where}"
                          f"</small></h3><pre><code>{escape(lines)}</code></pre></section>")
-        note = ("<p>Each change makes a body wrong, and the prover refuses it: so the contract says "
-                "what the change breaks.</p>")
+        note = ("<p>Each mutant is a body with one mistake. The prover refuses it, so the contract "
+                "says what the mistake breaks.</p>")
         return f"<h2>Mutants</h2>{note}{''.join(parts)}" if parts else ""
 
     def crates_index(self) -> str:
@@ -190,7 +197,7 @@ class Pages:
         rows = []
         for crate in sorted(crates()):
             lib = CRATES / crate / "src/lib.rt"
-            about = module(lib).about if lib.exists() else module(CRATES / crate / "src/main.rt").about
+            about = module(lib if lib.exists() else lib.with_name("main.rt")).about
             said = self.comment(crate, first_sentence(about))
             rows.append(f"<tr><td>{anchor(f'crates/{crate}.html', crate)}</td><td>{said}</td></tr>")
         return f"<h1>Crates</h1><table>{''.join(rows)}</table>"
@@ -222,10 +229,11 @@ class Laws:
     def page(self, crate: str, name: str, call: Call) -> str:
         """The page of a law: statement, premises, instances, and who cites it."""
         places = self.atlas.in_contract(call)
-        parts = [f"<h1>{escape(name)}</h1>", f'<div class="lead">{self.pages.prose(crate, call.docstring)}'
-                 f"</div><p>A law of {anchor(f'crates/{crate}.html', crate)}.</p>",
+        said = self.pages.prose(crate, call.docstring)
+        parts = [f'<h1>{escape(name)}</h1><div class="lead">{said}</div>',
+                 f"<p>A law of {anchor(f'crates/{crate}.html', crate)}.</p>",
                  self.pages.contract(call)]
-        parts += [self.pages.definition(it, it[1]) for it in places]
+        parts += [self.pages.definition(it, away=True) for it in places]
         premises = self.premises(call)
         if premises:
             items = "".join(f"<li>{self.premise(it)}</li>" for it in premises)
@@ -261,23 +269,21 @@ class Laws:
 
     def premise(self, place: Place) -> str:
         """A premise with the computed cases that meet it."""
-        cases = [anchor(f"crates/{crate_of(it.file)}.html#{call_anchor(it.name)}",
-                        f"<code>{escape(it.name)}</code>") for it in self.atlas.cases.get(place, [])]
-        met = f"met by {', '.join(cases[:8])}" if cases else "no computed case names it"
-        said = definition_of(place).comment
-        comment = self.pages.comment(crate_of(place[0]), said)
-        return f"{named(url_of(place), place[1])}: {comment} <small>({met})</small>"
+        cases = [self.pages.case(it) for it in self.atlas.cases.get(place, [])]
+        met = f"computed in {', '.join(cases[:8])}" if cases else "no computed case names it"
+        comment = self.pages.comment(crate_of(place[0]), definition_of(place).comment)
+        said = f": {comment}" if comment else ""
+        return f"{named(url_of(place), place[1])}{said} <small>({met})</small>"
 
     def sentences(self, crate: str, name: str) -> str:
         """The sentences of PROMISES that name a law."""
-        found = self.atlas.sentences.get(call_url(crate, name), [])
-        items = "".join(f"<li>{self.pages.renderer.inline(said)} {anchor(url, 'there')}</li>"
-                        for url, said in found)
+        items = "".join(f"<li>{it}</li>" for it in self.pages.sentences(call_url(crate, name)))
         return f"<h2>In the documents</h2><ul>{items}</ul>" if items else ""
 
     def index(self) -> str:
         """The list of all laws."""
-        parts, last = ["<h1>Laws</h1><p>A law is the contract of a function that does nothing.</p>"], ""
+        said = "A law is the contract of a function that does nothing."
+        parts, last = [f"<h1>Laws</h1><p>{said}</p>"], ""
         for crate, name, call in self.all():
             if crate != last:
                 about = self.pages.prose(crate, self.atlas.libraries[crate].about)
@@ -295,6 +301,11 @@ def predicates(text: str, file: Path) -> Iterator[Place]:
         meant = meaning_of(module(file), found.group(1))
         if isinstance(meant, tuple):
             yield meant
+
+
+def document_of(url: str) -> str:
+    """The name of the document at an address."""
+    return url.partition("#")[0].split("/")[-1].removesuffix(".html")
 
 
 def first_sentence(text: str) -> str:

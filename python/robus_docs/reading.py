@@ -4,7 +4,7 @@ from __future__ import annotations
 
 from robus_docs.atlas import Atlas, crate_of, definition_of, key_of, url_of
 from robus_docs.library import Call
-from robus_docs.markup import anchor, code, count, escape
+from robus_docs.markup import anchor, code, count, escape, named
 from robus_docs.pages import Pages
 from robus_docs.source import CRATES, Place, module, named_by, reach
 
@@ -12,18 +12,19 @@ TOP_CALL = ("rb_top", "run_robus")
 # The parts in the order of reading: the heading, a sentence, and the definitions that begin it.
 # Each definition is in the first part from which it is reached without one that begins another.
 PARTS = (
-    ("The report of a run", "What the top call promises of `run`, clause by clause. The other forms "
-     "that run a bus have promises of their own.",
+    ("The report of a run", "What the top call promises of `run`, clause by clause. The other "
+     "forms that run a bus have promises of their own.",
      ["rb_top.Promise.KeepsTheHeadline", "rb_laws_promise.Promise.KeepsThePromise"]),
     ("What good nodes have in common", "Skew, deliveries, words, schedules and convictions.",
      ["rb_rules.Headline.Headline"]),
-    ("One machine", "All good nodes together are one machine, without votes, clocks and accusations.",
+    ("One machine", "All good nodes together are one machine, without votes, clocks and "
+     "accusations.",
      ["rb_rules.StandsFor.StandsFor"]),
     ("Shares", "Each good BIU owns the data slots that it asks for, up to an equal share.",
      ["rb_laws_promise.Shares.GetTheirShare"]),
     ("Records", "What the record of a slot says.", ["rb_laws_groups.Lines.IsRight"]),
-    ("Moments of a run", "The promise speaks of moments: before and after a stage, a slot, a frame. "
-     "A slot is complete if the run has not ended after its last stage.",
+    ("Moments of a run", "The promise speaks of moments: before and after a stage, a slot, a "
+     "frame. A slot is complete if the run has not ended after its last stage.",
      ["rb_rules.Moments.IsComplete", "rb_rules.Moments.IsSettled", "rb_rules.Moments.IsReached",
       "rb_rules.Moments.IsGoodBefore", "rb_rules.Moments.IsGoodAfter"]),
     ("The fault premise", "The book judges each stage. The first verdict that gives a cause is the "
@@ -75,7 +76,7 @@ class Reading:
                 return
             self.seen.add(place)
             for other in reversed(named_by(place)[0]):
-                if other not in self.begins:
+                if other not in self.begins or other in roots:
                     visit(other)
             done.append(place)
 
@@ -97,10 +98,10 @@ class Reading:
         place = (CRATES / "rb_top/specs/Promise.antt", "KeepsItsPromise")
         form = "\n".join(definition_of(place).lines[:2])
         return (f"<p>The clause <code>promise</code> of "
-                f"{anchor('crates/rb_top.html#call.run_robus', '<code>run_robus</code>')} is</p>{said}"
+                f"{named('crates/rb_top.html#call.run_robus', 'run_robus')} is</p>{said}"
                 f"<p>and for the words <code>run</code> "
-                f"{anchor(url_of(place), '<code>KeepsItsPromise</code>')} is "
-                f"{anchor(self.link(self.roots[0][0]), '<code>KeepsTheHeadline</code>')}:</p>"
+                f"{named(url_of(place), 'KeepsItsPromise')} is "
+                f"{named(self.link(self.roots[0][0]), 'KeepsTheHeadline')}:</p>"
                 + code(form, module(place[0]), self.link, "KeepsItsPromise"))
 
     def page(self) -> str:
@@ -111,9 +112,9 @@ class Reading:
                            f"<small>{count(len(self.parts[at - 1]), 'definition')}</small></li>"
                            for at, (title, _, _) in enumerate(PARTS, 1))
         parts = [f"<h1>The promise, read downwards</h1>"
-                 f'<p class="lead">{count(len(places), "definition")} in {count(lines, "line")} say '
-                 "what is promised of a run. A definition is above those that it uses, unless an "
-                 "earlier part has them. A name of the kit has no link; its module shows when "
+                 f'<p class="lead">{count(len(places), "definition")} in {count(lines, "line")} '
+                 "say what is promised of a run. A definition is above those that it uses, unless "
+                 "an earlier part has them. A name of the kit has no link; its module shows when "
                  "pointed at.</p>"
                  f'<p id="progress"></p><ol>{contents}</ol>', self.clause()]
         among = sum(1 << at for at, place in enumerate(self.atlas.places) if place in self.number)

@@ -11,7 +11,8 @@ function rank([name, , , comment], wanted) {
   if (said === wanted || last === wanted) return 4;
   if (last.startsWith(wanted) || said.startsWith(wanted)) return 3;
   if (said.includes(wanted)) return 2;
-  return wanted.split(/\s+/).every((it) => (said + " " + comment.toLowerCase()).includes(it)) ? 1 : 0;
+  const text = `${said} ${comment.toLowerCase()}`;
+  return wanted.split(/\s+/).every((it) => text.includes(it)) ? 1 : 0;
 }
 
 function entry([name, kind, url, comment]) {
@@ -19,7 +20,8 @@ function entry([name, kind, url, comment]) {
   const link = item.appendChild(document.createElement("a"));
   link.href = ROOT + url;
   link.appendChild(document.createElement("code")).textContent = name;
-  link.appendChild(document.createElement("small")).textContent = ` ${kind}${comment && ": "}${comment}`;
+  const small = link.appendChild(document.createElement("small"));
+  small.textContent = ` ${kind}${comment && ": "}${comment}`;
   return item;
 }
 
@@ -43,10 +45,24 @@ function addSearch() {
     if (event.key === "Escape") { box.value = ""; show(); }
   });
   document.addEventListener("keydown", (event) => {
-    if (event.key === "/" && document.activeElement !== box) { event.preventDefault(); box.focus(); }
+    if (event.key !== "/" || document.activeElement === box) return;
+    event.preventDefault();
+    box.focus();
   });
   box.value = new URLSearchParams(location.search).get("find") || "";
   show();
+}
+
+// Ticks are kept in the browser, if it keeps anything.
+function kept(key) {
+  try { return localStorage.getItem(key) !== null; } catch { return false; }
+}
+
+function keep(key, isRead) {
+  try {
+    if (isRead) localStorage.setItem(key, "read");
+    else localStorage.removeItem(key);
+  } catch { /* the tick lasts until the page is left */ }
 }
 
 function addTicks() {
@@ -54,18 +70,18 @@ function addTicks() {
   const progress = document.getElementById("progress");
   const count = () => {
     const read = all.filter((it) => it.classList.contains("read")).length;
-    if (progress) progress.textContent = `${read} of ${all.length} ticked as read. Ticks stay in this browser.`;
+    if (!progress) return;
+    progress.textContent = `${read} of ${all.length} ticked as read. Ticks stay in this browser.`;
   };
   for (const section of all) {
     const box = document.createElement("input");
     box.type = "checkbox";
     box.title = "read";
     box.setAttribute("aria-label", `${section.dataset.key} is read`);
-    box.checked = localStorage.getItem(section.dataset.key) !== null;
+    box.checked = kept(section.dataset.key);
     section.classList.toggle("read", box.checked);
     box.addEventListener("change", () => {
-      if (box.checked) localStorage.setItem(section.dataset.key, "read");
-      else localStorage.removeItem(section.dataset.key);
+      keep(section.dataset.key, box.checked);
       section.classList.toggle("read", box.checked);
       count();
     });
