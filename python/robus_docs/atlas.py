@@ -218,7 +218,7 @@ class Atlas:
             owners = [it for it, library in self.libraries.items() if name in library.calls]
             return call_url(owners[0], name) if owners else self.exported(crate, call)
         place = self.named(name)
-        return url_of(place) if place else self.module_url(name)
+        return url_of(place) if place else self.law_url(name) or self.module_url(name)
 
     def url_within(self, crate: str, name: str) -> Optional[str]:
         """The address of what a comment of a crate names: something of the crate itself, or a call
@@ -243,6 +243,12 @@ class Atlas:
             if any(it.is_exported and it.name == call for it in module(file).functions):
                 return call_url(crate, call)
         return None
+
+    def law_url(self, name: str) -> Optional[str]:
+        """The address of a law that is named without its crate."""
+        found = [crate for crate, library in self.libraries.items()
+                 if crate.startswith("rb_laws_") and name in library.calls]
+        return call_url(found[0], name) if len(found) == 1 else None
 
     def module_url(self, name: str) -> Optional[str]:
         """The address of a file of definitions: `rb_log/specs/Header`, or `Rounds` of the rules."""

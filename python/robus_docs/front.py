@@ -65,7 +65,7 @@ def front(reading: Reading, atlas: Atlas) -> str:
         (anchor("header.html", "C"), "the calls and the node core for a host"),
     ]
     listed = "".join(f"<li>{link}: {said}</li>" for link, said in items)
-    clause = anchor("promise.html", "the clause <code>promise</code> of <code>run_robus</code>")
+    clause = anchor("promise.html#clause", "the clause <code>promise</code> of <code>run_robus</code>")
     return (f'<h1>ROBUS</h1><p class="lead">{ABOUT}</p>'
             f'<p><img src="~/files/docs/bus.svg" alt="A word on its way over the bus"></p>'
             f"<h2>What is proved of <code>run</code></h2><p>{promise}</p><p>{premise}</p>"

@@ -223,8 +223,9 @@ class Laws:
         self.pages, self.atlas, self.citing = pages, pages.atlas, citing
 
     def all(self) -> Iterator[tuple[str, str, Call]]:
-        """Each law with its crate and name."""
-        yield from (it for it in self.atlas.calls() if it[0].startswith("rb_laws_"))
+        """Each law with its crate and name, those of the promise first."""
+        laws = [it for it in self.atlas.calls() if it[0].startswith("rb_laws_")]
+        yield from sorted(laws, key=lambda it: it[0] != "rb_laws_promise")
 
     def page(self, crate: str, name: str, call: Call) -> str:
         """The page of a law: statement, premises, instances, and who cites it."""

@@ -4,7 +4,7 @@ from __future__ import annotations
 
 from robus_docs.atlas import Atlas, crate_of, definition_of, key_of, url_of
 from robus_docs.library import Call
-from robus_docs.markup import anchor, code, count, escape, named
+from robus_docs.markup import anchor, code, count, details, escape, named
 from robus_docs.pages import Pages
 from robus_docs.source import CRATES, Place, module, named_by, reach
 
@@ -61,6 +61,7 @@ class Reading:
         for roots in self.roots:
             self.parts.append(self.order(roots))
         self.number = {place: at for at, place in enumerate(self.places())}
+        self.parent = self.parents()
 
     def places(self) -> list[Place]:
         """All definitions, in order."""
@@ -84,6 +85,26 @@ class Reading:
             visit(root)
         return done[::-1]
 
+    def parents(self) -> dict[Place, Place]:
+        """For each definition the one that leads to it on the shortest way from the first."""
+        top = self.roots[0][0]
+        found, todo = {}, [top]
+        for place in todo:
+            for other in named_by(place)[0]:
+                if other in self.number and other not in found and other != top:
+                    found[other] = place
+                    todo.append(other)
+        return found
+
+    def way(self, place: Place) -> str:
+        """The way from the clause to a definition, as links."""
+        names = []
+        while place in self.parent:
+            place = self.parent[place]
+            names.append(anchor(self.link(place), escape(place[1])))
+        names.append('<a href="#clause">promise</a>')
+        return f'<p class="way">{" › ".join(reversed(names))} ›</p>'
+
     def link(self, place: Place) -> str:
         """The address of a definition: on this page if it is here."""
         return f"promise.html#{key_of(place)}" if place in self.number else url_of(place)
@@ -97,7 +118,7 @@ class Reading:
         said = code(clause.code, here, self.link)
         place = (CRATES / "rb_top/specs/Promise.antt", "KeepsItsPromise")
         form = "\n".join(definition_of(place).lines[:2])
-        return (f"<p>The clause <code>promise</code> of "
+        return (f'<p id="clause">The clause <code>promise</code> of '
                 f"{named('crates/rb_top.html#call.run_robus', 'run_robus')} is</p>{said}"
                 f"<p>and for the words <code>run</code> "
                 f"{named(url_of(place), 'KeepsItsPromise')} is "
@@ -133,6 +154,10 @@ class Reading:
         home = anchor(url_of(place), f"{crate_of(place[0])}, {place[0].stem}")
         comment = self.pages.comment(crate_of(place[0]), it.comment)
         said = f"<p>{comment}</p>" if comment else ""
+        users = [named(self.link(it), it[1]) for it in self.atlas.users.get(place, [])
+                 if it in self.number]
         return (f'<section class="definition" id="{key}" data-key="{key}">'
                 f'<h3><a href="#{key}">{escape(it.name)}</a> <small>{home} · {behind}</small></h3>'
-                f"{said}{code(chr(10).join(it.lines), here, self.link, it.name)}</section>")
+                f"{self.way(place)}{said}{code(chr(10).join(it.lines), here, self.link, it.name)}"
+                + details(f"Used by {count(len(users), 'definition')} of this page", users)
+                + "</section>")
