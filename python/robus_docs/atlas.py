@@ -13,7 +13,7 @@ from robus_docs.source import (CRATES, TOP, Definition, Function, Place, crates,
                                meanings, module, named_by, sources_of, text_of)
 
 COMPUTED = ("rb_test_rules", "rb_test_bridge_rules")
-CITED = ("PROMISES", "RULES")  # the documents whose sentences are shown beside a definition
+CITED = ("PROMISES", "RULES", "MUTANTS")  # the documents whose sentences are shown beside a definition
 
 
 @dataclass(frozen=True)
@@ -22,8 +22,7 @@ class Mutant:
     crate: str
     name: str
     file: str
-    old: str
-    new: str
+    changes: tuple[tuple[str, str], ...]  # what is in the body, and what is there instead
     is_in_gate: bool
 
 
@@ -62,29 +61,36 @@ def call_url(crate: str, name: str) -> str:
     return f"crates/{crate}.html#{call_anchor(name)}"
 
 
-def mutants_of(crate: str) -> Iterator[Mutant]:
+@functools.lru_cache(maxsize=None)
+def mutants_of(crate: str) -> tuple[Mutant, ...]:
     """The mutants of a crate: those of each gate, then the others."""
+    found = []
     folders = (CRATES / crate / "must-fail", TOP / "tests/wrong_bodies" / crate)
     for folder in folders:
         for path in sorted(folder.glob("*.edit")):
-            fields: dict[str, list[str]] = {"file": [], "old": [], "new": []}
-            field = "file"
-            for line in text_of(path).split("\n"):
-                if found := re.match(r"(file|old|new): ?(.*)", line):
-                    field, line = found.group(1), found.group(2)
-                fields[field].append(line)
-            file, old, new = ("\n".join(it).rstrip() for it in fields.values())
-            yield Mutant(crate, path.stem, file.strip(), old, new, folder == folders[0])
+            file, *changes = re.split(r"(?m)^(?:file|old|new): ?", text_of(path).rstrip())[1:]
+            pairs = zip(changes[::2], changes[1::2])
+            found.append(Mutant(crate, path.stem, file.strip(),
+                                tuple((old.rstrip("\n"), new.rstrip("\n")) for old, new in pairs),
+                                folder == folders[0]))
+    return tuple(found)
+
+
+def mutant_url(crate: str, name: str) -> str:
+    """The page and anchor of a mutant."""
+    return f"crates/{crate}.html#mutant.{name}"
 
 
 def sentences_of(document: str) -> Iterator[tuple[str, str]]:
-    """The sentences of a document that name code, each with the anchor of its heading."""
+    """The sentences and rows of a document that name code, each with the anchor of its heading."""
     anchor = ""
     for block in re.split(r"\n\s*\n", text_of(TOP / f"docs/{document}.md")):
         if found := re.match(r"#+ (.*)", block):
             anchor = anchor_of(found.group(1))
             continue
-        for item in re.split(r"\n(?=- |\| )", block):
+        for item in re.split(r"\n(?=- |\|)", block):
+            if item.startswith("|"):
+                item = " · ".join(it.strip() for it in item.strip("|").split("|"))
             said = re.sub(r"\s+", " ", item.removeprefix("- "))
             for sentence in re.split(r"(?<=[.:;]) (?=[A-Z`])", said):
                 if "`" in sentence:
@@ -206,6 +212,9 @@ class Atlas:
 
     def url_named(self, name: str) -> Optional[str]:
         """The address of what a document names in code font."""
+        if found := re.fullmatch(r"(\w+)/(\w+)", name):
+            if any(it.name == found.group(2) for it in mutants_of(found.group(1))):
+                return mutant_url(*found.groups())
         crate, _, call = name.partition("::")
         library = self.libraries.get(crate)
         if library and call in library.calls:

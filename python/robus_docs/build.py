@@ -7,8 +7,8 @@ import shutil
 from pathlib import Path
 from typing import Iterator
 
-from robus_docs.atlas import (Atlas, call_anchor, call_url, crate_of, definition_of, mutants_of,
-                              url_of)
+from robus_docs.atlas import (Atlas, call_anchor, call_url, crate_of, definition_of, mutant_url,
+                              mutants_of, url_of)
 from robus_docs.documents import Documents, Package
 from robus_docs.front import front
 from robus_docs.markup import page
@@ -63,8 +63,9 @@ class Site:
         for crate in crates():
             self.write(f"crates/{crate}.html", crate, self.pages.crate_page(crate))
             for file in definitions_of(crate):
-                self.write(f"definitions/{crate}/{file.stem}.html", f"{file.stem} ({crate})",
-                           self.pages.module_page(crate, file))
+                if module(file).blocks:
+                    self.write(f"definitions/{crate}/{file.stem}.html", f"{file.stem} ({crate})",
+                               self.pages.module_page(crate, file))
         for crate, name, call in self.laws.all():
             self.write(call_url(crate, name), name, self.laws.page(crate, name, call))
 
@@ -97,7 +98,7 @@ class Site:
             about = module(lib).about if lib.exists() else ""
             yield crate, "crate", f"crates/{crate}.html", short(first_sentence(about))
             for it in mutants_of(crate):
-                yield it.name, "mutant", f"crates/{crate}.html#mutant.{it.name}", crate
+                yield it.name, "mutant", mutant_url(crate, it.name), crate
         for path, url in self.documents.known.items():
             yield path.stem, "document", url, text_of(path).split("\n", 1)[0].lstrip("# ")
         yield from ((name, "Python", f"python.html#{name}", short(said))

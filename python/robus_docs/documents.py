@@ -12,7 +12,7 @@ from typing import Iterator, Optional
 from robus_docs.atlas import Atlas, anchor_of
 from robus_docs.markdown import Renderer
 from robus_docs.markup import anchor, escape, named
-from robus_docs.source import CRATES, TOP, text_of
+from robus_docs.source import CRATES, TOP, module, text_of
 
 PICTURES = (".svg", ".png")
 
@@ -91,7 +91,7 @@ class Documents:
             return self.known[path]
         if path == TOP / "include/robus.h":
             return "header.html"
-        if path.suffix == ".antt" and path.parent.name == "specs":
+        if path.suffix == ".antt" and path.parent.name == "specs" and module(path).blocks:
             return f"definitions/{path.parent.parent.name}/{path.stem}.html"
         if not path.exists():
             return None

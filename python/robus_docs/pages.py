@@ -7,7 +7,7 @@ from pathlib import Path
 from typing import Iterator
 
 from robus_docs.atlas import (COMPUTED, Atlas, call_anchor, call_url, crate_of, definition_of,
-                              key_of, mutants_of, url_of)
+                              key_of, mutant_url, mutants_of, url_of)
 from robus_docs.documents import Documents
 from robus_docs.library import Call
 from robus_docs.markup import anchor, code, count, details, escape, named
@@ -183,11 +183,13 @@ class Pages:
         """The mutants that the contracts of a crate refuse."""
         parts = []
         for it in mutants_of(crate):
-            lines = textwrap.indent(it.old, "-", bool) + "\n" + textwrap.indent(it.new, "+", bool)
+            lines = "\n".join(textwrap.indent(text, sign) for change in it.changes
+                              for text, sign in zip(change, "-+"))
             where = "each gate refuses it" if it.is_in_gate else "refused when asked for"
+            said = "".join(f"<p>{it}</p>" for it in self.sentences(mutant_url(crate, it.name)))
             parts.append(f'<section class="mutant" id="mutant.{it.name}"><h3>'
                          f"{escape(it.name.replace('_', ' '))} <small>{escape(it.file)} · {where}"
-                         f"</small></h3><pre><code>{escape(lines)}</code></pre></section>")
+                         f"</small></h3>{said}<pre><code>{escape(lines)}</code></pre></section>")
         note = ("<p>Each mutant is a body with one mistake. The prover refuses it, so the contract "
                 "says what the mistake breaks.</p>")
         return f"<h2>Mutants</h2>{note}{''.join(parts)}" if parts else ""
@@ -253,7 +255,7 @@ class Laws:
                     f"<code>{crate}/proofs/{'/'.join(rest)}</code>")
             items.append(f"<li>{said}</li>")
         if not items:
-            return "<p>No other proof cites this law.</p>"
+            return "<p>No other proof uses the lemma that proves this law.</p>"
         return f"<h2>Cited by {count(len(items), 'proof')}</h2><ul>{''.join(items)}</ul>"
 
     def premises(self, call: Call) -> list[Place]:

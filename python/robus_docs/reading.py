@@ -149,8 +149,8 @@ class Reading:
         """A definition with how much of the whole is behind it."""
         it, here, key = definition_of(place), module(place[0]), key_of(place)
         size = self.atlas.count_behind(place, among)
-        share = round(100 * size / max(1, len(self.number) - 1))
-        behind = f"{size:,} behind it, {share} %" if size else "ground"
+        share = round(100 * size / (len(self.number) - 1))
+        behind = f"{size:,} behind it" + (f", {share}%" if share else "") if size else "ground"
         home = anchor(url_of(place), f"{crate_of(place[0])}, {place[0].stem}")
         comment = self.pages.comment(crate_of(place[0]), it.comment)
         said = f"<p>{comment}</p>" if comment else ""
