@@ -263,6 +263,7 @@ class Atlas:
         """The address of a file of definitions: `rb_log/specs/Header`, or `Rounds` of the rules."""
         found = re.fullmatch(r"(?:crates/)?(\w+)/specs/(\w+)(?:\.antt)?", name)
         crate, stem = found.groups() if found else ("rb_rules", name)
-        if re.fullmatch(r"[A-Z]\w*", stem) and (CRATES / crate / f"specs/{stem}.antt").exists():
+        file = CRATES / crate / f"specs/{stem}.antt"
+        if re.fullmatch(r"[A-Z]\w*", stem) and file.exists() and module(file).blocks:
             return f"definitions/{crate}/{stem}.html"
         return None

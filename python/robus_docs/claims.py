@@ -9,8 +9,8 @@ from robus_docs.library import Library, libraries
 from robus_docs.source import CRATES, TOP, crates, text_of
 
 PAGES = ["PROMISES", "PROOF", "RULES", "ARCHITECTURE", "DECISIONS", "CONTRIBUTING", "SCENARIOS",
-         "FORMATS", "robus", "robus_bridge", "robus_picture"]
-CITING = ["README.md"] + [f"docs/{page}.md" for page in PAGES]
+         "COSIMULATION", "FORMATS", "robus", "robus_bridge", "robus_picture"]
+CITING = ["README.md", *(it for it in (f"docs/{page}.md" for page in PAGES) if (TOP / it).exists())]
 OTHER = ("docs/", "examples/", "python/", "tools/", "rattle-kit-")  # no name of code begins so
 CALL = re.compile(r"`(rb_\w+)::([\w:]+)`((?:,\s+(?:and\s+)?`\w+`)*)")
 Fault = tuple[int, str]  # the place in a document, and what is wrong there
@@ -87,9 +87,11 @@ def lemma_faults(text: str, known: dict[str, Library]) -> Iterator[Fault]:
 
 
 def words_of_code() -> set[str]:
-    """The words of the sources, definitions, proofs, mutants and lists of runs, and the names of
-    all files and folders beside them."""
+    """The words of the sources, definitions, proofs, mutants and lists of runs, the names of all
+    files and folders beside them, and the words of the Python package."""
     words = {"crates"} | set(re.findall(r"[\w-]+", text_of(TOP / "crates.txt")))
+    for path in (TOP / "python/robus").glob("*.py"):
+        words.update(re.findall(r"\w+", text_of(path)))
     for crate in CRATES.iterdir():
         words.add(crate.name)
         for runs in crate.glob("data/runs.txt"):

@@ -59,7 +59,7 @@ class Documents:
 
     def path_url(self, said: str) -> Optional[str]:
         """The address of a path of the repository or below crates/."""
-        for path in (TOP / said, CRATES / said):
+        for path in (TOP / said.strip("/"), CRATES / said.strip("/")):
             for suffix in ("", ".antt", ".rt"):
                 file = path.with_name(path.name + suffix) if suffix else path
                 if file.is_file() and TOP in file.resolve().parents:
