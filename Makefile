@@ -11,7 +11,7 @@
 # make bench                                       builds the programs and measures them
 # make examples                                    runs each example, and looks for the lines that its page names
 # make tutorial                                    runs the commands of docs/TUTORIAL.md, and compares what they print
-# make site                                        writes pages of all that is proved, each name a link, and checks them: open site/index.html
+# make site                                        writes pages of all that is proved to site/
 # make compare COUNT=1000 SEED=1                   gives so many cases to the program and to a second model of the bus
 # make install PREFIX=/usr/local                   puts the programs that were built, manual pages, documents, examples, the Python package
 #                                                  and, where it is up to date, the library there

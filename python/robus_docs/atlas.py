@@ -13,7 +13,7 @@ from robus_docs.source import (CRATES, TOP, Definition, Function, Place, crates,
                                meanings, module, named_by, sources_of, text_of)
 
 COMPUTED = ("rb_test_rules", "rb_test_bridge_rules")
-CITED = ("PROMISES", "RULES", "MUTANTS")  # the documents whose sentences are shown beside a definition
+CITED = ("PROMISES", "RULES", "MUTANTS")  # their sentences are shown beside what they name
 
 
 @dataclass(frozen=True)

@@ -9,8 +9,8 @@ from robus_docs.pages import Pages
 from robus_docs.source import CRATES, Place, module, named_by, reach
 
 TOP_CALL = ("rb_top", "run_robus")
-# The parts in the order of reading: the heading, a sentence, and the definitions that begin it.
-# Each definition is in the first part from which it is reached without one that begins another.
+# The parts in the order of reading: the heading, a sentence, and the first definitions of the part.
+# Each other definition is in the first part that reaches it without a first one of another part.
 PARTS = (
     ("The report of a run", "What the top call promises of `run`, clause by clause. The other "
      "forms that run a bus have promises of their own.",
@@ -55,7 +55,7 @@ class Reading:
         base, _ = reach(module(top[0]), [top[1]])
         self.roots = [[keys[it] for it in names if it in keys] for _, _, names in PARTS]
         self.roots[-1] = sorted(it for it in base if crate_of(it[0]) == PARTS[-1][2][0])
-        self.begins = {it for roots in self.roots for it in roots}
+        self.first = {it for roots in self.roots for it in roots}
         self.parts: list[list[Place]] = []
         self.seen: set[Place] = set()
         for roots in self.roots:
@@ -77,7 +77,7 @@ class Reading:
                 return
             self.seen.add(place)
             for other in reversed(named_by(place)[0]):
-                if other not in self.begins or other in roots:
+                if other not in self.first or other in roots:
                     visit(other)
             done.append(place)
 

@@ -250,8 +250,8 @@ class Module:
 
     @functools.cached_property
     def owners(self) -> list[tuple[int, int, str, bool]]:
-        """The impl blocks and traits of a source: where each begins and ends, its type, and whether
-        its functions are public by themselves."""
+        """The impl blocks and traits of a source: the first place and the last of each, its type,
+        and whether its functions are public by themselves."""
         found = []
         for block in re.finditer(r"(?m)^(impl|(?:pub )?trait)\b([^{;]*)\{", self.bare):
             head = re.sub(r"^\s*<[^>]*(?:<[^>]*>[^>]*)*>", "", block.group(2)).strip()
