@@ -7,6 +7,7 @@ import shutil
 from pathlib import Path
 from typing import Iterator
 
+from robus.errors import BadArgument
 from robus_docs.atlas import (Atlas, call_anchor, call_url, crate_of, definition_of, mutant_url,
                               mutants_of, url_of)
 from robus_docs.documents import Documents, Package
@@ -41,8 +42,12 @@ class Site:
         self.count += 1
 
     def build(self) -> None:
-        """Writes all pages. What was in the folder is gone."""
-        shutil.rmtree(self.folder, ignore_errors=True)
+        """Writes all pages. The pages that were in the folder are gone; another folder than one of
+        pages is refused."""
+        if self.folder.exists():
+            if any(self.folder.iterdir()) and not (self.folder / "names.js").exists():
+                raise BadArgument(f"{self.folder} has other files than the pages: name a new folder")
+            shutil.rmtree(self.folder)
         self.write("index.html", "ROBUS, a verified fault-tolerant broadcast bus",
                    front(self.reading, self.atlas))
         self.write("promise.html", "The promise, read downwards", self.reading.page())

@@ -80,6 +80,8 @@ class Documents:
 
     def file_url(self, path: Path) -> Optional[str]:
         """The address of a file or folder of the repository. None means that there is none."""
+        if TOP not in path.parents:
+            return None
         if path.is_dir():
             if path == CRATES:
                 return "crates/index.html"
@@ -120,7 +122,7 @@ class Documents:
             names = "".join(f"<li><code>{escape(it.name)}</code></li>"
                             for it in sorted(path.iterdir()) if it.name != "out")
             return f"{title}<ul>{names}</ul>"
-        lines = text_of(path).rstrip("\n").split("\n")
+        lines = path.read_text(encoding="utf-8", errors="replace").rstrip("\n").split("\n")
         body = "".join(f'<span id="L{at}">{escape(line)}\n</span>'
                        for at, line in enumerate(lines, 1))
         return f'{title}<pre class="file"><code>{body}</code></pre>'

@@ -7,7 +7,9 @@ import unittest
 from pathlib import Path
 
 from helpers import script
+from robus.errors import BadArgument
 from robus_docs.atlas import Atlas
+from robus_docs.build import Site
 from robus_docs.documents import Documents
 from robus_docs.links import clicks_to, link_faults, place_faults, read_pages
 from robus_docs.markdown import Renderer
@@ -66,6 +68,16 @@ class Checking(unittest.TestCase):
         self.assertIsNone(clicks_to(pages, "a.html", "d.html"))
         self.assertEqual(list(place_faults(pages, ["a.html#x", "a.html#y", "e.html"])),
                          ["there is no a.html#y", "there is no e.html"])
+
+
+class Folders(unittest.TestCase):
+    def test_a_folder_with_other_files_is_refused_and_kept(self):
+        with tempfile.TemporaryDirectory() as room:
+            kept = Path(room) / "kept.txt"
+            kept.write_text("mine", encoding="utf-8")
+            with self.assertRaisesRegex(BadArgument, "other files than the pages"):
+                Site(Path(room)).build()
+            self.assertEqual(kept.read_text(encoding="utf-8"), "mine")
 
 
 class Promise(unittest.TestCase):
