@@ -13,6 +13,7 @@ from robus_docs.source import (CRATES, TOP, Definition, Function, Place, crates,
                                meanings, module, named_by, sources_of, text_of)
 
 COMPUTED = ("rb_test_rules", "rb_test_bridge_rules")
+OF_RULES = ("rb_rules", "rb_base", "rb_rules_bridge")
 CITED = ("PROMISES", "RULES", "MUTANTS")  # their sentences are shown beside what they name
 
 
@@ -92,7 +93,7 @@ def sentences_of(document: str) -> Iterator[tuple[str, str]]:
             if item.startswith("|"):
                 item = " · ".join(it.strip() for it in item.strip("|").split("|"))
             said = re.sub(r"\s+", " ", item.removeprefix("- "))
-            for sentence in re.split(r"(?<=[.:;]) (?=[A-Z`])", said):
+            for sentence in re.split(r"(?<=\.) (?=[A-Z`])", said):
                 if "`" in sentence:
                     yield anchor, sentence.strip()
 
@@ -182,20 +183,19 @@ class Atlas:
 
     @functools.cached_property
     def by_name(self) -> dict[str, list[Place]]:
-        """The places of each name, those of the rules before others."""
+        """The places of each name but of short ones and tests, those of the rules before others."""
         found: dict[str, list[Place]] = {}
-        order = ("rb_rules", "rb_base", "rb_rules_bridge")
-        for place in sorted(self.places, key=lambda it: crate_of(it[0]) not in order):
-            found.setdefault(place[1], []).append(place)
+        for place in sorted(self.places, key=lambda it: crate_of(it[0]) not in OF_RULES):
+            if len(place[1]) > 2 and crate_of(place[0]) not in NO_LIBRARY:
+                found.setdefault(place[1], []).append(place)
         return found
 
     def named(self, name: str) -> Optional[Place]:
         """What a document means by this name: a definition of the rules, or the only one."""
         places = self.by_name.get(name, [])
-        if not places:
-            return None
-        is_of_rules = crate_of(places[0][0]) in ("rb_rules", "rb_base", "rb_rules_bridge")
-        return places[0] if is_of_rules or len(places) == 1 else None
+        if places and (len(places) == 1 or crate_of(places[0][0]) in OF_RULES):
+            return places[0]
+        return None
 
     @functools.cached_property
     def sentences(self) -> dict[str, list[tuple[str, str]]]:

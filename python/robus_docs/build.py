@@ -4,6 +4,7 @@ from __future__ import annotations
 import json
 import re
 import shutil
+import textwrap
 from pathlib import Path
 from typing import Iterator
 
@@ -46,7 +47,8 @@ class Site:
         pages is refused."""
         if self.folder.exists():
             if any(self.folder.iterdir()) and not (self.folder / "names.js").exists():
-                raise BadArgument(f"{self.folder} has other files than the pages: name a new folder")
+                raise BadArgument(f"{self.folder} has other files than the pages: "
+                                  "name a new folder")
             shutil.rmtree(self.folder)
         self.write("index.html", "ROBUS, a verified fault-tolerant broadcast bus",
                    front(self.reading, self.atlas))
@@ -132,7 +134,7 @@ class Site:
 
 def short(text: str) -> str:
     """A comment for the list of a search."""
-    return text if len(text) < 160 else text[:157] + ".."
+    return textwrap.shorten(text, 160, placeholder=" ..")
 
 
 def citing_proofs(atlas: Atlas) -> dict[str, list[Path]]:

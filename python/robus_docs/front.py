@@ -57,6 +57,7 @@ def front(reading: Reading, atlas: Atlas) -> str:
         (anchor("docs/RULES.html", "The rules of the bus"), "the definitions in words"),
         (anchor("docs/PROMISES.html", "Promises"), "every promise with the clause that carries it"),
         (anchor("docs/PROOF.html", "The proof"), "the argument, from report down to inequalities"),
+        (anchor("docs/GLOSSARY.html", "Glossary"), "the words of the project"),
         (anchor("crates/index.html", "Crates"), "calls with contracts, types, and mutants that are "
          "refused"),
         (anchor("docs/TUTORIAL.html", "Tutorial"), "an hour with the program"),
@@ -65,11 +66,13 @@ def front(reading: Reading, atlas: Atlas) -> str:
         (anchor("header.html", "C"), "the calls and the node core for a host"),
     ]
     listed = "".join(f"<li>{link}: {said}</li>" for link, said in items)
-    clause = anchor("promise.html#clause", "the clause <code>promise</code> of <code>run_robus</code>")
+    clause = anchor("promise.html#clause",
+                    "the clause <code>promise</code> of <code>run_robus</code>")
     return (f'<h1>ROBUS</h1><p class="lead">{ABOUT}</p>'
             f'<p><img src="~/files/docs/bus.svg" alt="A word on its way over the bus"></p>'
             f"<h2>What is proved of <code>run</code></h2><p>{promise}</p><p>{premise}</p>"
             f"<p>This is {clause}: each link leads to the definition that says the phrase. "
-            "On each page every name in a definition is a link to its own definition.</p>"
+            "On each page every name in a definition is a link to its own definition. "
+            f"{anchor('docs/README.html', 'README')} says what is tested, trusted, or neither.</p>"
             f"<h2>Read</h2><ul>{listed}</ul>")
 

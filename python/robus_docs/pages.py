@@ -273,7 +273,8 @@ class Laws:
     def premise(self, place: Place) -> str:
         """A premise with the computed cases that meet it."""
         cases = [self.pages.case(it) for it in self.atlas.cases.get(place, [])]
-        met = f"computed in {', '.join(cases[:8])}" if cases else "no computed case names it"
+        more = f", and {len(cases) - 8} more" if len(cases) > 8 else ""
+        met = f"computed in {', '.join(cases[:8])}{more}" if cases else "no computed case names it"
         comment = self.pages.comment(crate_of(place[0]), definition_of(place).comment)
         said = f": {comment}" if comment else ""
         return f"{named(url_of(place), place[1])}{said} <small>({met})</small>"
