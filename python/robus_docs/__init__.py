@@ -1,1 +1,11 @@
-"""Reads the sources of this repository as text, and makes pages and numbers from them."""
+"""Reads the sources of this repository as text, and makes pages and numbers from them.
+
+source     reads a file: imports, definitions, types, functions with their contracts
+library    the public types and calls of a crate (tools/promises)
+claims     what the documents name, and whether it is there (tools/promises)
+shape      the shape of the code in numbers (tools/shape)
+atlas      how definitions, calls, laws and mutants hang together, and where their pages are
+markup, markdown, pages, reading, front, documents, build: the pages (tools/site)
+links, browser: their check
+
+Nothing here is installed with the package `robus`."""

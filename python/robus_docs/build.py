@@ -96,10 +96,15 @@ class Site:
         for place in self.atlas.places:
             it = definition_of(place)
             yield it.name, f"{it.kind} of {crate_of(place[0])}", url_of(place), short(it.comment)
+            for field, said in it.fields.items():
+                yield field, f"field of {it.name}", url_of(place), short(said)
         for crate, name, call in self.calls():
             kind = "law" if crate.startswith("rb_laws_") else "call"
             said = short(first_sentence(call.docstring))
             yield f"{crate}::{name}", kind, call_url(crate, name), said
+            for clause in call.function.clauses:
+                if clause.name:
+                    yield clause.name, f"clause of {crate}::{name}", call_url(crate, name), ""
         for crate in crates():
             lib = CRATES / crate / "src/lib.rt"
             about = module(lib).about if lib.exists() else ""

@@ -6,8 +6,8 @@ import textwrap
 from pathlib import Path
 from typing import Iterable, Iterator, Optional
 
-from robus_docs.source import (CRATES, Function, Place, blanked, crates, docstring_before,
-                               meaning_of, module, sources_of, text_of)
+from robus_docs.source import (CRATES, Definition, Function, Place, blanked, crates,
+                               docstring_before, meaning_of, module, sources_of, text_of)
 
 NO_LIBRARY = {"rb_test_rules", "rb_test_bridge_rules", "rb_bench", "rb_test_parts"}
 TYPE = re.compile(r"(?m)^pub (?:struct|enum|trait) (\w+)")
@@ -59,18 +59,17 @@ class Call:
             if isinstance(meant, tuple) and meant[0].suffix == ".antt":
                 yield meant
 
-    def records(self) -> Iterator[str]:
-        """The text of each record that is a clause without a name."""
+    def records(self) -> Iterator[Definition]:
+        """Each record that is a clause without a name."""
         nameless = [re.match(r"\w*", it.text) for it in self.function.clauses if not it.name]
         for file, name in self.definitions(it.group(0) for it in nameless if it):
-            it = module(file).blocks[name]
-            if it.kind == "record":
-                yield "\n".join(it.lines).rstrip()
+            if module(file).blocks[name].kind == "record":
+                yield module(file).blocks[name]
 
     def contract(self) -> set[str]:
-        """The names of all clauses and conditions, and of the parts of its records."""
-        parts = {it for text in self.records() for it in re.findall(r"(?m)^  pub (\w+) :", text)}
-        return parts | {it.name for it in self.function.clauses if it.name}
+        """The names of all clauses and conditions, and of the fields of its records."""
+        fields = {name for record in self.records() for name in record.fields}
+        return fields | {it.name for it in self.function.clauses if it.name}
 
 
 class Library:
@@ -120,7 +119,8 @@ class Library:
 
     def records(self) -> list[str]:
         """The texts of all records that are a whole contract."""
-        return sorted({text for call in self.all_calls() for text in call.records()})
+        return sorted({"\n".join(it.lines).rstrip()
+                       for call in self.all_calls() for it in call.records()})
 
     def named(self) -> list[str]:
         """A line for each definition that the contracts name, with its comment."""

@@ -32,6 +32,12 @@ class Definition:
     lines: tuple[str, ...]
     comment: str  # in one line
 
+    @property
+    def fields(self) -> dict[str, str]:
+        """The fields of a record, each with the comment behind it."""
+        found = (re.match(r"  pub (\w+) :(?:.*?-- (.*))?", line) for line in self.lines)
+        return {it.group(1): it.group(2) or "" for it in found if it}
+
 
 @dataclass(frozen=True)
 class Clause:

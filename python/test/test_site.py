@@ -101,7 +101,8 @@ class Shape(unittest.TestCase):
         for number, status, said in ((3, 1, "and the limit is 2"), (2, 0, ""), (1, 0, "lower")):
             out = io.StringIO()
             with contextlib.redirect_stdout(out):
-                self.assertEqual(compare({"crates in a row": number}, {"crates in a row": 2}), status)
+                ended = compare({"crates in a row": number}, {"crates in a row": 2})
+            self.assertEqual(ended, status)
             self.assertIn(said, out.getvalue())
 
     def test_statements_that_differ_in_bound_names_are_one(self):
