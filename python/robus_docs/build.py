@@ -97,7 +97,8 @@ class Site:
             it = definition_of(place)
             yield it.name, f"{it.kind} of {crate_of(place[0])}", url_of(place), short(it.comment)
             for field, said in it.fields.items():
-                yield field, f"field of {it.name}", url_of(place), short(said)
+                kind = f"field of {it.name} of {crate_of(place[0])}"
+                yield field, kind, url_of(place), short(said)
         for crate, name, call in self.calls():
             kind = "law" if crate.startswith("rb_laws_") else "call"
             said = short(first_sentence(call.docstring))

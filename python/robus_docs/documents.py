@@ -18,9 +18,11 @@ PICTURES = (".svg", ".png")
 
 
 def documents() -> list[Path]:
-    """The documents, in order."""
-    return [TOP / "README.md", *sorted((TOP / "docs").glob("*.md")), TOP / "examples/README.md",
-            *(it for it in [TOP / "CHANGELOG.md"] if it.exists())]
+    """The documents: those that lead to the others first."""
+    names = ("README.md", "docs/README.md", "CHANGELOG.md")
+    first = [TOP / it for it in names if (TOP / it).exists()]
+    return [*first, *(it for it in sorted((TOP / "docs").glob("*.md")) if it not in first),
+            TOP / "examples/README.md"]
 
 
 def document_url(path: Path) -> str:
