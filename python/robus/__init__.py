@@ -14,7 +14,7 @@ from robus.errors import BadArgument, BusError, Failed, NoEngine, NoNode, Refuse
 from robus.floats import float_word, word_float
 from robus.handins import HandIn
 from robus.node import Act, Epoch, Node
-from robus.records import Frame, Record, Slot
+from robus.records import Frame, Slot
 from robus.results import (BridgeReport, Check, Groups, Letters, Log, Replay, Report, Result,
                            Stress)
 from robus.rows import Breach, Ended
@@ -26,7 +26,7 @@ from robus.sweep import SweepRow, sweep
 __version__ = "1.0"
 __all__ = ["Act", "Answer", "BadArgument", "Breach", "BridgeReport", "Bus", "BusError", "Check",
            "Controller", "Ended", "Engine", "Epoch", "Failed", "Frame", "Groups", "HandIn",
-           "Letters", "Log", "NoEngine", "NoNode", "Node", "Record", "Refused", "Replay", "Report",
+           "Letters", "Log", "NoEngine", "NoNode", "Node", "Refused", "Replay", "Report",
            "Result", "RobusError", "Scenario", "Simulation", "Slot", "Stress", "Summary",
            "SweepRow", "bridge", "check", "choose", "explain", "float_word", "gen", "group",
            "letters", "listen", "record", "replay", "run", "simulate", "spell", "stress", "sweep",
