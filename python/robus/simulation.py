@@ -16,8 +16,10 @@ from robus.handins import (HandIn, LetterSource, WordSource, Writer, words_of, w
 from robus.records import Frame, Slot, lines_of
 from robus.results import Report
 from robus.rows import Breach
+from robus.runner import say
 from robus.scenario import Scenario, Source
 from robus.tool import ENGINE_HELP, Parser, input_of
+from robus.words import meaning
 
 Heard = Dict[str, Optional[int]]
 # Gives the word for a frame, or None, from what its BIU delivered in the frame before, by sender
@@ -198,8 +200,10 @@ def main(words: List[str]) -> int:
     add_options(parser)
     parser.add_argument("--engine", help=ENGINE_HELP)
     asked = parser.parse_args(words)
-    scenario = Scenario(input_of(asked.scenario), asked.scenario)
+    file = None if asked.scenario == "-" else asked.scenario
+    scenario = Scenario(input_of(asked.scenario), file or "standard input")
     found = simulate(scenario, words=asked.words, letters=asked.letter, engine=asked.engine)
-    print(f"tools/simulate: run by {found.engine}", file=sys.stderr)
+    say("tools/simulate", f"run by {found.engine}")
     sys.stdout.buffer.write(found.output)
+    say("tools/simulate", f"status {found.status}: {meaning('run', found.status, file)}")
     return found.status

@@ -5,8 +5,8 @@ import heapq
 from typing import Any, Iterable, Self
 
 from .bus import (
-    BIU, FAULT, HandIn, Milestone, Node, RMU, Row, TAIL, Taken, Trusted, Window, Word, mask_of, name_of,
-    other)
+    BIU, FAULT, HandIn, Milestone, Node, RMU, Row, TAIL, Taken, Trusted, Window, Word, mask_of,
+    name_of, other)
 from .premise import Judge
 from .scenario import Scenario
 from .site import FrameStart, Recorder, Site
