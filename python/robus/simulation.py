@@ -67,6 +67,7 @@ class Simulation(Report):
 
 def controller_of(node: str, given: Any) -> Any:
     """What is given for a BIU, as an object with deliver or offer."""
+    arguments.node("controllers", node, "B")
     if hasattr(given, "offer") or hasattr(given, "deliver"):
         return given
     if not callable(given):
@@ -147,9 +148,9 @@ def simulate(scenario: Source, controllers: Optional[Mapping[str, Any]] = None, 
     list of these three. A letter has the frame in which its BIU begins to send it. A BIU has one
     of a controller, words and letters."""
     table, writers = words_of(words), writers_of(letters)
+    if not isinstance(controllers, (Mapping, type(None))):
+        raise BadArgument(f'controllers: {shown(controllers)} is no dict, as {{"B0": function}}')
     found = {node: controller_of(node, it) for node, it in (controllers or {}).items()}
-    for node in found:
-        arguments.node("controllers", node, "B")
     scripted = {it.node for rows in table.values() for it in rows}
     twice = sorted(scripted & {*found, *writers} | set(found) & set(writers))
     if twice:
