@@ -135,6 +135,11 @@ class Writer:
         """Whether all letters are sent."""
         return not self._letters
 
+    @property
+    def is_at_last_letter(self) -> bool:
+        """Whether the last letter has begun, as far as the BIU was asked."""
+        return len(self._letters) <= 1 and self._said is not None
+
     def deliver(self, slot: int, sender: str, word: Optional[int]) -> None:
         """The BIU delivers its own word, which has then been sent."""
         if sender != self.node or self._said is None:

@@ -85,6 +85,7 @@ class Loop:
                         if hasattr(it, "deliver")}
         self.offer = {node: it.offer for node, it in controllers.items() if hasattr(it, "offer")}
         self.nodes = set(controllers)
+        self.good: Tuple[str, ...] = ()  # the BIUs that were good as the last frame began
         self.handed: List[HandIn] = []
         self.lines: List[str] = []
 
@@ -103,6 +104,7 @@ class Loop:
     def begin(self, record: Frame) -> None:
         """Hands in the words of a frame: those of the table, and what controllers offer."""
         frame, good = record.frame, record.good
+        self.good = good
         if frame == 0:
             for node in sorted(self.nodes.difference(good)):
                 raise BadArgument(f"controllers: {node} is no BIU that is good as the run begins")
@@ -126,11 +128,13 @@ class Loop:
 
 
 def refuse_what_is_left(loop: Loop, writers: Dict[str, Writer]) -> None:
-    """Raises BadArgument if words or letters are left as the run comes to its end."""
+    """Raises BadArgument if words or letters are left as the run comes to its end. A letter may be
+    cut off if its BIU fails."""
     if loop.words:
         raise BadArgument(f"words: the run has no frame {min(loop.words)}")
     for node, writer in writers.items():
-        if not writer.is_done:
+        was_cut_off = node not in loop.good and writer.is_at_last_letter
+        if not writer.is_done and not was_cut_off:
             raise BadArgument(f"letters: the run ends before all letters of {node} are sent")
 
 
@@ -168,8 +172,7 @@ def hands_of(scenario: Source, words: WordSource = (),
              letters: Iterable[LetterSource] = ()) -> List[Tuple[int, int, int]]:
     """What is handed in at which frame to which BIU, as the second model takes it. It runs the
     scenario there, since a letter waits for the slots of its BIU."""
-    letters = list(letters)
-    if not letters and isinstance(words, tuple) and not words:
+    if words == () and letters in ((), []):
         return []
     found = simulate(scenario, words=words, letters=letters, engine="model").words
     return [(it.frame, int(it.node[1:]), it.word) for it in found]

@@ -245,6 +245,14 @@ class Letters(unittest.TestCase):
         self.assertEqual(words["B1"], [*letter_words(b"a"), 0, *letter_words(b"b"), 0, 0, 0])
         self.assertEqual(words["B2"], [30] * 8)
 
+    def test_a_letter_is_cut_off_as_its_biu_fails(self):
+        late = robus.Scenario.read(LATE).with_("requests", [1, 1, 1])
+        run = robus.simulate(late, letters=["0:B2:68656c6c6f"])
+        words = [it.word for it in run.deliveries if it.receiver == "B0" and it.sender == "B2"]
+        self.assertEqual(words, [letter_words(b"hello")[0], None])
+        with self.assertRaises(robus.BadArgument):
+            robus.simulate(late, letters=["2:B2:68656c6c6f"])
+
     def test_letters_that_cannot_be_sent(self):
         for letters, why in WRONG_LETTERS:
             with self.assertRaises(robus.BadArgument) as caught:
