@@ -2,6 +2,7 @@
 letters, and floats as words."""
 import contextlib
 import io
+import re
 import sys
 import tempfile
 import unittest
@@ -10,7 +11,7 @@ from statistics import median
 from unittest import mock
 
 import robus
-from helpers import EXAMPLES, TOP, ending_of
+from helpers import EXAMPLES, TOP, ending_of, output_of
 from robus.errors import NO_BUS
 from robus.handins import letter_words
 from test_bus import LATE, LIBRARY, LOOP, RUNNERS, needs_library
@@ -181,6 +182,36 @@ class Loops(unittest.TestCase):
             "without its vote: at most 0.0631 rad after the gust, -0.6434 rad at the end",
             "the pitch over the bus is that of a loop without a fault: True"])
         self.assertEqual(drawn, (TOP / "docs/flight_control.svg").read_text(encoding="utf-8"))
+
+
+class Page(unittest.TestCase):
+    """What docs/COSIMULATION.md shows of tools."""
+
+    page = (TOP / "docs/COSIMULATION.md").read_text(encoding="utf-8")
+
+    def test_plans(self):
+        words = re.search(r"\$ tools/plan (.*)", self.page)[1]
+        lines = re.findall(r"^    (a frame has .*|good nodes begin .*)$", self.page, re.M)
+        out = output_of("plan", words.split())[1].splitlines()
+        self.assertEqual((len(lines), lines), (2, out[-2:]))
+        for more in ("--slots 12", "--rate 4MHz", "--rate 10MHz"):
+            out = output_of("plan", [*words.split(), *more.split()])[1]
+            time = re.search(r"a frame has .* \((.* ms)\)", out)[1]
+            self.assertIn(time, self.page)
+
+    def test_words_without_a_program(self):
+        table = "".join(re.findall(r"^    ((?:frame,node,word|\d+,B\d,\d+)\n)", self.page, re.M))
+        self.assertEqual(table.splitlines()[0], HEADER.strip())
+        commands = re.findall(r"^    tools/(simulate|explain) examples/(.*)$", self.page, re.M)
+        with tempfile.TemporaryDirectory() as folder:
+            Path(folder, "words.csv").write_text(table)
+            for tool, words in commands:
+                if "letter" not in words or LIBRARY is RUNNERS[0]:
+                    path, *rest = words.replace("words.csv", str(Path(folder, "words.csv"))).split()
+                    status, out = output_of(tool, [EXAMPLES / path, *rest])
+                    self.assertEqual(status, 0, words)
+                    self.assertRegex(out, "d 2 3 B1 B0 6|d 3 4 B1 B0 16777218|B0 +6 ")
+        self.assertEqual(len(commands), 3)
 
 
 class Tables(unittest.TestCase):
