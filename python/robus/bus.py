@@ -25,8 +25,8 @@ NO_BUS = 10
 class Bus:
     """A bus that runs a scenario, before its first record.
 
-    The bus is an iterator over its records: of each frame that begins a `Frame` and then a `Slot`
-    for each slot, and at last `Ended` or `Breach`. `next_slot` and `next_frame` pass over records.
+    The bus is an iterator over its records: for each frame a `Frame` and then a `Slot` for each of
+    its slots, and at last `Ended` or `Breach`. `next_slot` and `next_frame` pass over records.
     After the record of a frame each good BIU with a table may be handed a word, which it offers in
     all its slots from this frame on until it is handed another one. So what is delivered in a frame
     can be answered in the next one.

@@ -126,7 +126,7 @@ class Writer:
         self._has_begun = False
 
     def add(self, frame: int, letter: bytes) -> None:
-        """A letter is to begin in this frame, or after those that begin before it."""
+        """Adds a letter, which starts in this frame, or later if another one is not sent by then."""
         self._letters.append((frame, letter_words(letter)))
         self._letters.sort(key=lambda it: it[0])
 

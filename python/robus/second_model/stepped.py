@@ -15,8 +15,8 @@ NO_FRAME, NOT_GOOD, NO_TABLE = 14, 15, 16
 
 @dataclass(frozen=True)
 class Record:
-    """What the host is given: a frame that begins, a slot that is delivered, the end of the run or
-    its breach (`frame`, `slot`, `end`, `breach`), with its lines of the report."""
+    """What the host is given: the start of a frame, a slot, the end of the run or its breach
+    (`frame`, `slot`, `end`, `breach`), with its lines of the report."""
 
     what: str
     frame: int
