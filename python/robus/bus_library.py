@@ -13,6 +13,9 @@ from robus.scenario import Scenario
 
 FRAME, SLOT, END = 1, 2, 3
 REFUSED = 3
+# The names of the rules that a scenario breaks, by their codes
+RULES = ("", "NotToml", "MissingKey", "UnknownKey", "WrongType", "OutOfRange", "PlanFails",
+         "ClockBounds", "DelayBounds", "StartApart", "SayOfGood", "TooMany")
 CAUSES = "", "FewGoodBiu", "FewGoodRmu", "TwoSided"
 BIUS = tuple([f"B{number}" for number in range(16)])
 NAMES = BIUS, tuple([f"R{number}" for number in range(16)])
@@ -82,7 +85,8 @@ class LibraryRun:
         text = scenario.text
         opening = self._calls.robus_bus_open(self._at, text, len(text))
         if opening.status == REFUSED:
-            raise Refused(refusal_of(opening), text, scenario.file)
+            refusal = Refusal(opening.code, RULES[opening.code], opening.number or None)
+            raise Refused(refusal, text, scenario.file)
         if opening.status:
             raise BusError(opening.status)
         self._frame = 0
@@ -109,13 +113,6 @@ class LibraryRun:
     def close(self) -> None:
         """Gives the bus's memory back."""
         self._calls.robus_bus_free(self._at)
-
-
-def refusal_of(opening: COpening) -> Refusal:
-    """The refusal that an opening is."""
-    from robus.model import model
-
-    return Refusal(opening.code, model.SCENARIO_RULES[opening.code], opening.number or None)
 
 
 def slot_of(it: CRecord) -> Slot:

@@ -6,7 +6,7 @@ import unittest
 
 import robus
 from helpers import EXAMPLES, script
-from robus import engines, records, rows
+from robus import bus_library, engines, records, rows
 from robus.engines import BUS
 from robus.errors import NO_BUS
 from robus.model import model
@@ -146,6 +146,10 @@ class Refusals(unittest.TestCase):
                     self.assertRaises(robus.BadArgument, bus.hand, node, word)
         for engine in ("/bin/true", "nothing"):
             self.assertRaises(robus.NoEngine, robus.Bus, LATE, engine=engine)
+
+    def test_the_names_of_rules(self):
+        for code, name in enumerate(bus_library.RULES[1:], 1):
+            self.assertEqual(name, model.SCENARIO_RULES[code])
 
     def test_wrong_scenarios(self):
         late = robus.Scenario.read(LATE)
