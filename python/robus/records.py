@@ -22,7 +22,7 @@ class Frame:
 
     @property
     def good(self) -> Tuple[str, ...]:
-        """The good BIUs, which may be handed a word now."""
+        """The good BIUs. Each may be handed a word now if its application is a table."""
         return tuple([it.node for it in self.ports])
 
     @property

@@ -12,6 +12,7 @@ from robus.errors import NO_BUS
 from robus.model import model
 
 LATE = EXAMPLES / "late_onset.toml"
+TWO_SIDED = EXAMPLES / "two_sided.toml"
 LOOP = EXAMPLES / "c/loop.toml"
 # Runs that take the second model long
 LONG = "loop", "largest_bus", "long_run"
@@ -113,7 +114,7 @@ class Records(unittest.TestCase):
 
     def test_a_breach_is_the_last_record(self):
         for engine in RUNNERS:
-            with robus.Bus(EXAMPLES / "two_sided.toml", engine=engine) as bus:
+            with robus.Bus(TWO_SIDED, engine=engine) as bus:
                 *_, last = bus
             self.assertEqual(last, robus.Breach(None, 0, 6, 2, "TwoSided"))
 
@@ -173,10 +174,10 @@ class AnyOrder(unittest.TestCase):
                 return place
         return len(due) - 1
 
-    def walk(self, engine: engines.Engine, due: list, draw: random.Random) -> None:
-        """Asserts that each of 400 random calls has the answer that the records give."""
+    def walk(self, bus: robus.Bus, due: list, draw: random.Random) -> None:
+        """Asserts that each of some random calls has the answer that the records give."""
         at = -1
-        with robus.Bus(LATE, engine=engine) as bus:
+        with bus:
             for _ in range(draw.randrange(400)):
                 step = draw.choice(["next", "next", "next_frame", "next_slot", "hand"])
                 if step != "hand":
@@ -186,16 +187,17 @@ class AnyOrder(unittest.TestCase):
                 # A word that the BIU says anyway, so that the records stay as they are
                 node = draw.choice(["B0", "B1", "B2", "B3"])
                 is_frame = at >= 0 and isinstance(due[at], robus.Frame)
-                status = 14 if not is_frame else 0 if node in due[at].good else 15
-                word = {"B0": 10, "B1": 20}.get(node, 30)
-                self.assertEqual(outcome(bus.hand, node, word),
+                words = {it.node: it.state for it in due[at].ports} if is_frame else {}
+                status = 14 if not is_frame else 0 if node in words else 15
+                self.assertEqual(outcome(bus.hand, node, words.get(node, 0)),
                                  f"{node}: {NO_BUS[status]}" if status else None)
 
     def test_calls_in_any_order(self):
         for engine in RUNNERS:
-            due = list(robus.Bus(LATE, engine=engine))
-            for seed in range(20):
-                self.walk(engine, due, random.Random(seed))
+            for path in (LATE, TWO_SIDED):
+                due = list(robus.Bus(path, engine=engine))
+                for seed in range(15):
+                    self.walk(robus.Bus(path, engine=engine), due, random.Random(seed))
 
 
 class Agreement(unittest.TestCase):
