@@ -23,6 +23,8 @@ MAKER = script("compare_models")
 LINES = ("e 1 B0 2 3", "e 1 B0 2", "breach left 1 2 3 TwoSided", "breach 1 2 3 FewGoodBiu",
          "d 0 1 B2 B3 none", "end 7", "C7 1 2", "refused 6 PlanFails 3", "refused 1 NotToml", "w 5",
          "spread 4", "m 0 1 B2 B3 6869")
+# Large scenarios are left out: these, which take long to make, and those that both_runs leaves
+SEEDS = [seed for seed in range(112) if seed not in (31, 43, 66, 72)]
 needs_library = unittest.skipUnless(HAS_BUS, "no librobus.so with a bus is there")
 
 
@@ -74,7 +76,7 @@ def kept_words(run: robus.Simulation, scenario: model.Scenario) -> tuple[int, in
 
 def both_runs(seed: int):
     """Whether library and second model agree on a random scenario with random software, and its
-    kept words. None if it takes the model long."""
+    kept words. None for a large scenario."""
     text = MAKER.toml_text(MAKER.random_scenario(random.Random(seed)))
     scenario = model.read_scenario(text)
     bus = scenario.bus
@@ -205,7 +207,7 @@ class Agreement(unittest.TestCase):
     def test_the_model_and_the_library_agree(self):
         """On 100 random scenarios with random software."""
         with multiprocessing.Pool() as pool:
-            found = [it for it in pool.imap(both_runs, range(112)) if it]
+            found = [it for it in pool.imap(both_runs, SEEDS) if it]
         self.assertEqual((len(found), all(agree for agree, _, _ in found)), (100, True))
         due, right = (sum(it[place] for it in found) for place in (1, 2))
         self.assertEqual(due, right)
