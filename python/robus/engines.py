@@ -31,7 +31,7 @@ PACKAGE = Path(__file__).resolve().parent
 TOP = PACKAGE.parents[1]
 PREFIX = PACKAGE.parents[3] if PACKAGE.parent.name == "dist-packages" else None
 FIRST_LENGTH = 1 << 20
-# What has a bus in a host's hands, besides the programs
+# The bus of robus.Bus, where the names of programs stand
 BUS = "bus"
 TOO_SMALL = 9
 # What takes the output of a program, a piece at a time
@@ -322,14 +322,15 @@ def choose(words: Sequence[str], engine: Which = None, program: str = "robus") -
     if wanted is not None and not isinstance(wanted, (str, os.PathLike, Engine)):
         raise BadArgument("engine: %s is no name (%s), no path and no Engine"
                           % (shown(wanted), ", ".join(ENGINES)))
-    what = " ".join([program, *words[:1]])
+    deed = "give a bus to your own software" if program == BUS else (
+        "do '%s'" % " ".join([program, *words[:1]]))
     if wanted is not None:
         found = wanted if isinstance(wanted, Engine) else named(os.fspath(wanted))
         if found.has(words, program):
             return found
-        raise NoEngine(f"the engine that is asked for, {found}, cannot do '{what}'")
+        raise NoEngine(f"the engine that is asked for, {found}, cannot {deed}")
     for find in ENGINES.values():
         it = find()
         if it is not None and it.has(words, program):
             return it
-    raise NoEngine(f"no engine that is there can do '{what}': make build builds the programs")
+    raise NoEngine(f"no engine that is there can {deed}: make build builds the programs")
