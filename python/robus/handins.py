@@ -108,9 +108,12 @@ def letter_of(source: LetterSource) -> Tuple[int, str, bytes]:
     except (TypeError, ValueError):
         raise BadArgument(f"letter: {shown(source)} is not {form}") from None
     frame = number_of(frame) if isinstance(frame, str) else frame
-    arguments.node("letter", node, "B")
-    return (arguments.integer("letter", frame, 0, MOST_FRAME), node,
-            arguments.some_bytes("letter", letter, 1, 255))
+    try:
+        arguments.node("node", node, "B")
+        return (arguments.integer("frame", frame, 0, MOST_FRAME), node,
+                arguments.some_bytes("bytes", letter, 1, 255))
+    except BadArgument as fault:
+        raise BadArgument(f"letter: {shown(source)}: {fault}") from None
 
 
 class Writer:
@@ -120,20 +123,20 @@ class Writer:
 
     def __init__(self, node: str):
         self.node = node
-        self._letters: List[Tuple[int, List[int]]] = []
+        self._letters: List[Tuple[int, List[int], bytes]] = []  # frame, words to say, and bytes
         self._said: Optional[int] = None  # the word that is offered in this frame
         self._slots = 0  # how many own slots this frame had so far
         self._has_begun = False
 
     def add(self, frame: int, letter: bytes) -> None:
-        """Adds a letter, which starts in this frame, or later if another one is not sent by then."""
-        self._letters.append((frame, letter_words(letter)))
+        """Adds a letter, which starts in this frame, or once the letters before it are sent."""
+        self._letters.append((frame, letter_words(letter), letter))
         self._letters.sort(key=lambda it: it[0])
 
     @property
-    def is_done(self) -> bool:
-        """Whether all letters are sent."""
-        return not self._letters
+    def unsent(self) -> List[str]:
+        """The letters that are not sent, in the form of `letter_of`."""
+        return [f"{frame}:{self.node}:{letter.hex()}" for frame, _, letter in self._letters]
 
     @property
     def is_at_last_letter(self) -> bool:

@@ -134,8 +134,8 @@ def refuse_what_is_left(loop: Loop, writers: Dict[str, Writer]) -> None:
         raise BadArgument(f"words: the run has no frame {min(loop.words)}")
     for node, writer in writers.items():
         was_cut_off = node not in loop.good and writer.is_at_last_letter
-        if not writer.is_done and not was_cut_off:
-            raise BadArgument(f"letters: the run ends before all letters of {node} are sent")
+        if writer.unsent and not was_cut_off:
+            raise BadArgument(f"letters: the run ends before {writer.unsent[-1]} is sent")
 
 
 def simulate(scenario: Source, controllers: Optional[Mapping[str, Any]] = None, *,

@@ -33,10 +33,10 @@ WRONG_WORDS = (
     ([5], "words: 5 is no frame, node and word"),
     (b"x", "words: b'x' is no path of a CSV and no list of hand-ins"))
 WRONG_LETTERS = (
-    (["1:B0:68"], "letters: the run ends before all letters of B0 are sent"),
+    (["1:B0:68"], "letters: the run ends before 1:B0:68 is sent"),
     (["0:B0"], "letter: '0:B0' is not FRAME:NODE:HEX, as 3:B0:6869"),
-    (["0:B0:"], "letter: it has 0 bytes, and may have 1 to 255"),
-    (["x:B0:68"], "letter: 'x' is no integer from 0 to 4096"),
+    (["0:B0:"], "letter: '0:B0:': bytes: it has 0 bytes, and may have 1 to 255"),
+    (["x:B0:68"], "letter: 'x:B0:68': frame: 'x' is no integer from 0 to 4096"),
     ("0:B0:68", "letters: '0:B0:68' is no list of letters, as [\"3:B0:6869\"]"),
     ([5], "letter: 5 is not FRAME:NODE:HEX, as 3:B0:6869"))
 
