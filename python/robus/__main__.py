@@ -7,6 +7,7 @@
     explain   says who broke a run, why a node was convicted, and what was said in a slot
     trace     writes what was on the links of a run for Wireshark and GTKWave
     view      writes a run as a page for a browser
+    simulate  runs a scenario whose BIUs say given words
     sweep     runs a scenario with other values at its keys, a row of CSV for each
     campaign  runs many scenarios, a row of each
     table     a report as CSV or as JSON lines
@@ -33,6 +34,7 @@ NAMES = ("lint", "plan", "layout", "faults", "trace", "view", "sweep", "campaign
          "model", "quick")
 TOOLS: Dict[str, Tuple[str, str, str]] = {name: (name, "main", "tools/" + name) for name in NAMES}
 TOOLS.update(explain=("explanation", "main", "tools/explain"),
+             simulate=("simulation", "main", "tools/simulate"),
              campaign_rows=("campaign_rows", "main", "tools/campaign_row"),
              robus=("runner", "robus", "tools/robus"), draw=("runner", "draw", "tools/picture"))
 TOOLS.update((word, ("runner", "main", "robus " + word)) for word in FORMS)

@@ -8,7 +8,7 @@ Engine; without it the first of these four that is there runs the call."""
 from __future__ import annotations
 
 import os
-from typing import Iterable, List, Optional, Sequence, Type, TypeVar, Union
+from typing import Any, Iterable, List, Optional, Sequence, Type, TypeVar, Union
 
 from robus import arguments
 from robus.arguments import shown
@@ -159,12 +159,14 @@ def spell(letter: bytes, *, engine: Which = None) -> List[int]:
     return [row_of(line).word for line in found.output.decode("ascii").splitlines()]
 
 
-def explain(scenario: Source, frame: Optional[int] = None, slot: Optional[int] = None) -> str:
+def explain(scenario: Source, frame: Optional[int] = None, slot: Optional[int] = None, *,
+            words: Any = (), letters: Iterable[Any] = ()) -> str:
     """What tools/explain says: who broke the run and why nodes were convicted, or with a frame and
-    a slot what each good node said, heard, took and voted there. It runs the second model, and
-    wants Python 3.11."""
+    a slot what each good node said, heard, took and voted there. `words` and `letters` are handed
+    in, as by `simulate`. It runs the second model, and wants Python 3.11."""
     from robus.explanation import explanation_of
     from robus.model import TooLong, model, read
+    from robus.simulation import hands_of
 
     given = scenario_of(scenario)
     for name, value in (("frame", frame), ("slot", slot)):
@@ -176,7 +178,8 @@ def explain(scenario: Source, frame: Optional[int] = None, slot: Optional[int] =
         raise Refused(refusal_in(str(refusal)), given.text, given.file) from None
     except TooLong:
         raise Failed(("explain",), 4) from None
+    hands = hands_of(given, words, letters)
     try:
-        return explanation_of(found, frame, slot)
+        return explanation_of(found, frame, slot, hands=hands)
     except ValueError as fault:
         raise BadArgument(f"frame, slot: {fault}") from None

@@ -31,6 +31,8 @@ PACKAGE = Path(__file__).resolve().parent
 TOP = PACKAGE.parents[1]
 PREFIX = PACKAGE.parents[3] if PACKAGE.parent.name == "dist-packages" else None
 FIRST_LENGTH = 1 << 20
+# The bus of robus.Bus, where the names of programs stand
+BUS = "bus"
 TOO_SMALL = 9
 # What takes the output of a program, a piece at a time
 Sink = Callable[[bytes], object]
@@ -105,7 +107,9 @@ class Library(Engine):
     name = "library"
 
     def has(self, words: Sequence[str], program: str = "robus") -> bool:
-        """Whether the library has the call of this program."""
+        """Whether the library has the call of this program, or a bus."""
+        if program == BUS:
+            return getattr(ctypes.CDLL(self.path), "robus_bus_open", None) is not None
         return function_of(self.path, program) is not None
 
     def raw(self, words: Sequence[str], data: bytes = b"", program: str = "robus") -> Answer:
@@ -140,8 +144,8 @@ class Program(Engine):
         return found if os.access(found, os.X_OK) else None
 
     def has(self, words: Sequence[str], program: str = "robus") -> bool:
-        """Whether the program is there; robus itself is taken to be."""
-        return program == "robus" or self.path_of(program) is not None
+        """Whether the program is there; robus itself is taken to be. No program has a bus."""
+        return program != BUS and (program == "robus" or self.path_of(program) is not None)
 
     def command(self, words: Sequence[str], program: str) -> List[str]:
         """The command line of these words."""
@@ -201,7 +205,7 @@ class Tried(Engine):
 
     def has(self, words: Sequence[str], program: str = "robus") -> bool:
         """Any words of any program."""
-        return True
+        return program != BUS
 
     def raw(self, words: Sequence[str], data: bytes = b"", program: str = "robus") -> Answer:
         """Builds the program and runs it once."""
@@ -220,8 +224,9 @@ class Model(Engine):
     name = "model"
 
     def has(self, words: Sequence[str], program: str = "robus") -> bool:
-        """Whether these words are among those of the second model, which are words of robus."""
-        return program == "robus" and not LACKING & set(words[:1])
+        """Whether these words are among those of the second model, which are words of robus. It
+        has a bus, too."""
+        return program == BUS or program == "robus" and not LACKING & set(words[:1])
 
     def raw(self, words: Sequence[str], data: bytes = b"", program: str = "robus") -> Answer:
         """Runs the words in this process."""
@@ -317,14 +322,15 @@ def choose(words: Sequence[str], engine: Which = None, program: str = "robus") -
     if wanted is not None and not isinstance(wanted, (str, os.PathLike, Engine)):
         raise BadArgument("engine: %s is no name (%s), no path and no Engine"
                           % (shown(wanted), ", ".join(ENGINES)))
-    what = " ".join([program, *words[:1]])
+    deed = "give a bus to your own software" if program == BUS else (
+        "do '%s'" % " ".join([program, *words[:1]]))
     if wanted is not None:
         found = wanted if isinstance(wanted, Engine) else named(os.fspath(wanted))
         if found.has(words, program):
             return found
-        raise NoEngine(f"the engine that is asked for, {found}, cannot do '{what}'")
+        raise NoEngine(f"the engine that is asked for, {found}, cannot {deed}")
     for find in ENGINES.values():
         it = find()
         if it is not None and it.has(words, program):
             return it
-    raise NoEngine(f"no engine that is there can do '{what}': make build builds the programs")
+    raise NoEngine(f"no engine that is there can {deed}: make build builds the programs")

@@ -40,6 +40,20 @@ class Failed(RobusError):
         super().__init__("robus %s: status %d, %s" % (" ".join(words), status, meaning))
 
 
+NO_BUS = {7: "no memory was left", 10: "the bus is closed",
+          14: "a word is handed in after the record of a frame, and the last record is another",
+          15: "the bus has no such BIU, or the BIU is not good as the frame begins",
+          16: "the application of the BIU is not a table"}
+
+
+class BusError(RobusError, ValueError):
+    """A call of a bus was not done, and nothing changed. `status` is that of robus.h."""
+
+    def __init__(self, status: int, node: str = ""):
+        self.status = status
+        super().__init__((node and f"{node}: ") + NO_BUS.get(status, f"status {status}"))
+
+
 NO_NODE = {7: "no memory was left", 11: "the numbers of BIUs, RMUs or data slots are out of range",
            12: "the bus has no such node", 13: "a number of the plan or the version is out of range"}
 

@@ -2,13 +2,14 @@
 heard, taken and voted in a slot."""
 from __future__ import annotations
 
-from typing import Iterator
+from typing import Iterable, Iterator
 
 from robus.errors import BadArgument
 from robus.layout import begins, purpose, scenario_or_status
 from robus.model import BIU, RMU, TAIL, model, name_of
 from robus.texts import grouped, heard_text, message_text, names, place_text, value_text
-from robus.tool import Parser
+from robus.simulation import add_options, hands_of
+from robus.tool import Parser, input_of
 from robus.units import Unit, behind
 from robus.verdicts import of_nodes, since
 from robus.watch import Closed, Premise, Watched, watch
@@ -18,9 +19,9 @@ show it; how near the fault premise came to a breach, and where; for each convic
 that name the node and the evidence behind them; for each other node that is faulty or accused why
 it is not convicted; and whom faulty nodes name in their vectors. With FRAME and SLOT it prints what
 each good node said, heard, took and voted in each stage of that slot, and how the premise stood
-after it. With --unit U, the time of a reference unit, as 1ps, it prints times beside ticks. It runs
-the scenario on tools/model, a second model of the bus, and not on the proved program. It is not
-proved."""
+after it. With --unit U, the time of a reference unit, as 1ps, it prints times beside ticks.
+--words and --letter hand words to BIUs, as tools/simulate does. It runs the scenario on
+tools/model, a second model of the bus, and not on the proved program. It is not proved."""
 
 FEW_GOOD = "the good {}s do not outnumber the other trusted ones that were heard in this frame"
 CAUSES = {"FewGoodBiu": FEW_GOOD.format("BIU"), "FewGoodRmu": FEW_GOOD.format("RMU"),
@@ -153,14 +154,14 @@ def told(run: Watched, unit: Unit | None) -> list[str]:
 
 
 def explanation_of(scenario: model.Scenario, frame: int | None = None, slot: int | None = None,
-                   unit: Unit | None = None) -> str:
-    """What is told of a scenario's run, or of a slot of it; BadArgument if the run has no such
-    slot."""
+                   unit: Unit | None = None, hands: Iterable[model.HandIn] = ()) -> str:
+    """What is told of a scenario's run with these words handed in, or of a slot of it; BadArgument
+    if the run has no such slot."""
     if (frame is None) != (slot is None):
         raise BadArgument("FRAME and SLOT are wanted together")
     if frame is None:
-        return "\n".join(told(watch(scenario), unit))
-    run = watch(scenario, (frame, slot))
+        return "\n".join(told(watch(scenario, hands=hands), unit))
+    run = watch(scenario, (frame, slot), hands)
     if (frame, slot) not in run.reached:
         raise BadArgument(f"FRAME, SLOT: the run has no slot {slot} in frame {frame}")
     return "\n".join(slot_table(run, frame, slot, unit))
@@ -173,11 +174,14 @@ def main(words: list[str]) -> int:
     parser.add_argument("frame", type=int, nargs="?")
     parser.add_argument("slot", type=int, nargs="?")
     parser.add_argument("--unit", type=Unit.of, help="the time of a reference unit, as 1ps")
+    add_options(parser)
     asked = parser.parse_args(words)
-    scenario = scenario_or_status(asked.scenario, "tools/explain")
+    data = input_of(asked.scenario)
+    scenario = scenario_or_status(asked.scenario, "tools/explain", data)
     if isinstance(scenario, int):
         return scenario
-    text = explanation_of(scenario, asked.frame, asked.slot, asked.unit)
+    hands = hands_of(data, asked.words, asked.letter)
+    text = explanation_of(scenario, asked.frame, asked.slot, asked.unit, hands)
     print("(by tools/model, a second model of the bus, not by the proved program)\n")
     print(text)
     return 0

@@ -167,11 +167,11 @@ def main(words: list[str]) -> int:
     return 0
 
 
-def scenario_or_status(path: str, tool: str) -> model.Scenario | int:
-    """The scenario of a file; if it is refused or too long, a status, with one line on standard
-    error."""
+def scenario_or_status(path: str, tool: str, data: bytes | None = None) -> model.Scenario | int:
+    """The scenario of a file, which `data` holds if it is read already; if it is refused or too
+    long, a status, with one line on standard error."""
     try:
-        return read(input_of(path))
+        return read(input_of(path) if data is None else data)
     except model.Refused as refusal:
         print(f"{tool}: {path}: {refusal}; tools/lint says where and why", file=sys.stderr)
         return 3

@@ -114,7 +114,7 @@ class Number:
 
 
 @dataclass(frozen=True)
-class End:
+class Ended:
     """The run came to its end, after `frames` frames."""
 
     frames: int
@@ -141,7 +141,7 @@ class Refusal:
 
 
 Row = Union[Epoch, Conviction, Port, Delivery, Letter, GroupValue, Crossing, Word, Inequality,
-            Number, End, Breach, Refusal]
+            Number, Ended, Breach, Refusal]
 
 # Each kind's dataclass and the form of its lines. <NAME> is a field, one in brackets may be missing
 LINES: Dict[str, Tuple[type, str]] = {
@@ -155,7 +155,7 @@ LINES: Dict[str, Tuple[type, str]] = {
     "words": (Word, "w <number>"),
     "inequalities": (Inequality, "C<inequality> <left> <right>"),
     "numbers": (Number, "<total> <number>"),
-    "end": (End, "end <frames>"),
+    "end": (Ended, "end <frames>"),
     "breach": (Breach, "breach[ <bus>] <frame> <slot> <stage> <cause>"),
     "refused": (Refusal, "refused <code> <name>[ <number>]"),
 }
@@ -211,6 +211,28 @@ def rows_of(lines: Iterable[str]) -> Iterator[Row]:
             yield row_of(line.rstrip("\n"))
         except NoRow as fault:
             raise NoRow(f"line {number} is {fault}") from None
+
+
+def pieces_of(row: type, form: str) -> List[Tuple[str, str, str, bool]]:
+    """The fields of a row in the order of its form: the text before each, which is there in any
+    case, the text that goes with its value, its name, and whether it may be missing."""
+    found = re.findall(r"([^<\[\]]*)(\[?)([^<\[\]]*)<\w+>\]?", form)
+    return [(before if bracket else before + text, text if bracket else "", it.name, bool(bracket))
+            for (before, bracket, text), it in zip(found, fields(row))]
+
+
+PIECES = {row: pieces_of(row, form) for row, form in LINES.values()}
+
+
+def line_of(row: Row) -> str:
+    """A row as its line, without a line feed."""
+    line = ""
+    for before, text, name, is_optional in PIECES[type(row)]:
+        value = getattr(row, name)
+        line += before
+        if value is not None or not is_optional:
+            line += text + ("none" if value is None else str(value))
+    return line
 
 
 def columns(kind: str) -> List[str]:

@@ -8,7 +8,7 @@ import sys
 import traceback
 from typing import Any, Callable, NoReturn, Optional, TextIO, Tuple
 
-from robus.errors import BadArgument, Failed, NoEngine, Refused
+from robus.errors import BadArgument, BusError, Failed, NoEngine, Refused
 
 ENGINE_HELP = "library, program, quick, model, or a path (docs/LIBRARY.md)"
 # The statuses of a tool that failed. No program of the repository ends with 70 or 130
@@ -85,7 +85,7 @@ def failure_of(fault: BaseException) -> Tuple[str, int]:
     """Why a tool failed, in one line, and its status."""
     if isinstance(fault, KeyboardInterrupt):
         return "interrupted", INTERRUPTED
-    if isinstance(fault, BadArgument):
+    if isinstance(fault, (BadArgument, BusError)):
         return str(fault), MISUSED
     if isinstance(fault, Refused):
         return str(fault), REFUSED

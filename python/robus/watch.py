@@ -3,6 +3,7 @@ slot that is asked for, and of the others what is evidence against a node."""
 from __future__ import annotations
 
 from dataclasses import dataclass, field
+from typing import Iterable
 
 from robus.model import BIU, RMU, TAIL, Slot, Stage, model
 
@@ -52,7 +53,8 @@ class Watched(model.World):
 
     place: Stage  # that of the breach, if there is one
 
-    def __init__(self, scenario: model.Scenario, wanted: Slot | None = None) -> None:
+    def __init__(self, scenario: model.Scenario, wanted: Slot | None = None,
+                 hands: Iterable[model.HandIn] = ()) -> None:
         self.wanted = wanted  # the slot of which all is kept
         self.stages: dict[Stage, dict[model.Node, Closed]] = {}
         self.busy: set[Slot] = set()  # (frame, slot) in which some good node had a sender
@@ -67,7 +69,7 @@ class Watched(model.World):
         self.premises: dict[int, Premise] = {}  # by stage of the slot that is asked for
         self.tightest: dict[int, Premise] = {}  # by kind where its good nodes led by least
         self.two_faced: Premise | None = None  # where most kinds were heard differently
-        super().__init__(scenario)
+        super().__init__(scenario, hands=hands)
 
     def at(self, node: model.Node, frame: int, slot: int, stage: int) -> Closed:
         """What is kept of a node in a stage; empty at first."""
@@ -184,9 +186,11 @@ class Watched(model.World):
         return found
 
 
-def watch(scenario: model.Scenario, wanted: Slot | None = None) -> Watched:
-    """The run of a scenario, kept; all of the slot (frame, slot) that is asked for."""
-    return Watched(scenario, wanted).run()
+def watch(scenario: model.Scenario, wanted: Slot | None = None,
+          hands: Iterable[model.HandIn] = ()) -> Watched:
+    """The run of a scenario with these words handed in, kept; all of the slot (frame, slot) that is
+    asked for."""
+    return Watched(scenario, wanted, hands).run()
 
 
 __all__ = ["BIU", "RMU", "TAIL", "Closed", "Watched", "watch"]

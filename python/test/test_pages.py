@@ -25,6 +25,9 @@ class Pages(unittest.TestCase):
     def test_library(self):
         self.blocks("LIBRARY.md")
 
+    def test_cosimulation(self):
+        self.blocks("COSIMULATION.md")
+
     def test_notebook_and_its_pictures(self):
         page = (TOP / "docs/NOTEBOOK.md").read_text(encoding="utf-8")
         pictures = re.findall(r"!\[[^]]+\]\(pictures/(\w+)\.svg\)", page)

@@ -52,8 +52,22 @@ class Package(unittest.TestCase):
                 self.assertRegex(said, r"\A(%s)\b.*: |engine|program|library" % names, repr(value))
                 self.assertNotIn("[Errno", said)
 
+    def test_software(self):
+        self.refuses({"controllers": (5, ["B0"], {"B0": 5}, {5: max}, {"R0": max}, {"B9": max})},
+                     lambda it: robus.simulate(self.scenario, it, engine="model"))
+        self.refuses({"words": (5, None, b"x", [5], [(0, "B0")], "", "a\0b")},
+                     lambda it: robus.simulate(self.scenario, words=it, engine="model"))
+        self.refuses({"letters?": ("0:B0:68", None, 5, [5], ["x"], [(0, "B0", "x")], ["0:B0:"])},
+                     lambda it: robus.simulate(self.scenario, letters=it, engine="model"))
+        self.refuses({"number": ("1", None, 1e39, [])}, robus.float_word)
+        self.refuses({"word": (*NUMBERS, 1 << 32)}, robus.word_float)
+        with robus.Bus(self.scenario, engine="model") as bus:
+            self.refuses({"node": (*TEXTS, "R0")}, lambda it: bus.hand(it, 1))
+            self.refuses({"word": (*NUMBERS, 1 << 32)}, lambda it: bus.hand("B0", it))
+
     def test_scenarios(self):
-        for call in (robus.run, robus.check, robus.letters, robus.explain, robus.bridge):
+        for call in (robus.run, robus.check, robus.letters, robus.explain, robus.bridge, robus.Bus,
+                     robus.simulate):
             self.refuses(SCENARIO, call)
         self.refuses(SCENARIO, lambda it: robus.record(it, "B0"))
         self.refuses(SCENARIO, lambda it: robus.group(it, "mid", ["B0"]))
@@ -180,6 +194,23 @@ explain FILE x 0
 explain FILE 0 99
 explain FILE 99 0
 explain FILE 0 0 0
+simulate
+simulate nosuch.toml
+simulate /
+simulate FILE more
+simulate FILE --words
+simulate FILE --words nosuch.csv
+simulate FILE --words FILE
+simulate FILE --letter 0
+simulate FILE --letter 0:B0
+simulate FILE --letter 0:R0:68
+simulate FILE --letter 0:B0:6
+simulate FILE --letter -1:B0:68
+simulate FILE --letter 9:B2:68
+simulate FILE --engine nosuch
+simulate FILE --engine /bin/true
+explain FILE --words nosuch.csv
+explain FILE --letter 0
 sweep FILE
 sweep FILE frames
 sweep FILE =1

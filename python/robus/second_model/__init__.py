@@ -10,8 +10,8 @@ them, and `premise` is the fault premise. The package takes all names from here.
 from .bus import (
     BIU, RMU, LETTERS, MAX_TICKS, SCENARIO_LIMIT, LOG_LIMIT, MOST_SAYS, MOST_LINKS, MOST_PAIRS,
     WORD_TAG, FAULT_TAG, SYNC_TAG, FAULT, Node, Pattern, Pair, Word, Message, Segments, Trusted,
-    Taken, Ask, Sight, Row, Milestone, Event, Answer, other, name_of, mask_of, Plan, PLAN_RANGES,
-    Window, TAIL, Bus, sides_of, first_failing)
+    Taken, Ask, Sight, Row, Milestone, Event, HandIn, Answer, other, name_of, mask_of, Plan,
+    PLAN_RANGES, Window, TAIL, Bus, sides_of, first_failing)
 from .clock import Timeline
 from .messages import spell, xor_of, read_message
 from .votes import majority_of, middle_of, owners_of, convicted_by
@@ -32,6 +32,7 @@ from .port import Port
 from .premise import Judge
 from .site import Recorder, Site, FrameStart
 from .world import AFTER_MESSAGES, World
+from .stepped import NO_FRAME, NOT_GOOD, NO_TABLE, Record, Stepped, why_not_handed
 from .logs import log_header, LogReader, bad_field, replay
 from .generator import drawn, generated
 from .program import do_run, do_check, do_record, do_stress, number_in, call_of, answer, main

@@ -31,6 +31,7 @@ Row = dict[int, Sight]  # by source what a receiver took in a stage
 # "frame" and its number, or "stage", frame, slot and stage
 Milestone = tuple[str, int] | tuple[str, int, int, int]
 Event = tuple[str, int, int | bytes]  # ("ticks", how many, word) or ("came", source, bytes)
+HandIn = tuple[int, int, int]  # a frame, a BIU, and the word that it is handed as the frame begins
 Answer = tuple[int, bytes]  # the status, and what is written
 
 

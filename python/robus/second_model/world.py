@@ -2,11 +2,11 @@
 from __future__ import annotations
 
 import heapq
-from typing import Any, Self
+from typing import Any, Iterable, Self
 
 from .bus import (
-    BIU, FAULT, Milestone, Node, RMU, Row, TAIL, Taken, Trusted, Window, Word, mask_of, name_of,
-    other)
+    BIU, FAULT, HandIn, Milestone, Node, RMU, Row, TAIL, Taken, Trusted, Window, Word, mask_of,
+    name_of, other)
 from .premise import Judge
 from .scenario import Scenario
 from .site import FrameStart, Recorder, Site
@@ -30,8 +30,12 @@ class World:
     heap: list[tuple[int, Node, int, int, int | bytes]]
     convicted: list[int]  # how many nodes of each kind good nodes hold convicted
 
-    def __init__(self, scenario: Scenario, recorded: Node | None = None) -> None:
+    def __init__(self, scenario: Scenario, recorded: Node | None = None,
+                 hands: Iterable[HandIn] = ()) -> None:
         self.scenario, self.bus = scenario, scenario.bus
+        self.hands: dict[int, list[HandIn]] = {}  # by frame
+        for hand in hands:
+            self.hands.setdefault(hand[0], []).append(hand)
         self.windows = self.bus.windows()
         # Time of what was taken, by receiver and source, in the open window
         self.arrivals: dict[tuple[Node, int], int] = {}
@@ -76,17 +80,21 @@ class World:
     def run(self) -> Self:
         """Goes on to the end of the run or its breach, and gives the run itself."""
         while not self.ended:
-            time, node, source, _, item = heapq.heappop(self.heap)
-            site = self.sites[node]
-            if not site.is_running():
-                continue
-            if source == AFTER_MESSAGES:
-                self.proceed(site, time, item)
-                self.settle()
-            else:
-                site.arrive(time, source, item)
-                self.arrivals.setdefault((node, source), time)
+            self.step()
         return self
+
+    def step(self) -> None:
+        """Has what is pending next, unless its node has stopped."""
+        time, node, source, _, item = heapq.heappop(self.heap)
+        site = self.sites[node]
+        if not site.is_running():
+            return
+        if source == AFTER_MESSAGES:
+            self.proceed(site, time, item)
+            self.settle()
+        else:
+            site.arrive(time, source, item)
+            self.arrivals.setdefault((node, source), time)
 
     def proceed(self, site: Site, time: int, tick: int) -> None:
         """Has a tick of a node, and does with what it shows what follows from it."""
@@ -153,8 +161,14 @@ class World:
             else:
                 self.settle_stage(*self.milestone[1:], good, told)
 
+    def hand(self, biu: int, word: int) -> None:
+        """Hands a word to the table of a BIU that is good as the frame begins. The BIU offers it
+        from this frame on until it is handed another one."""
+        self.sites[BIU, biu].port.state = word
+
     def settle_frame(self, frame: int, starts: dict[Node, FrameStart]) -> None:
-        """Reports the start of a frame by what its good nodes tell, or the end of the run."""
+        """Reports the start of a frame by what its good nodes tell, or the end of the run, and
+        hands in the frame's words."""
         self.told.pop(self.milestone, None)
         for node, start in starts.items():
             self.lines.append(f"e {frame} {name_of(node)} {start.tick} {start.time}")
@@ -172,6 +186,8 @@ class World:
         if frame == self.scenario.frames:
             self.ended = True
             self.lines.append(f"end {frame}")
+        for _, biu, word in self.hands.get(frame, ()):
+            self.hand(biu, word)
         self.milestone = "stage", frame, 0, 1
 
     def settle_stage(self, frame: int, slot: int, stage: int, good: list[Node],
