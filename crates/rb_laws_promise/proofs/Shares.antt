@@ -4,14 +4,14 @@ use Rattle.std.proofs.lemmas.Bool.{cases_lt, cases_order, ltb-true}
 use Rattle.std.proofs.lemmas.Bool.Decides.{nat_tests}
 use Rattle.std.proofs.lemmas.List.{length-append}
 use Rattle.std.proofs.Math.ListN.{get_or-append}
-use Rattle.std.proofs.Math.Nat.{mul-le-mul_right, suc-mul}
+use Rattle.std.proofs.Math.Nat.{mul-le-mul_right}
 use Rattle.std.proofs.Math.Seq.{get_or-append_seam}
 use Rattle.rb_base.specs.Nodes.{has}
 use Rattle.rb_base.specs.Nodes.Side.{Biu}
 use Rattle.rb_base.specs.Sizes.{sync_slot_of}
 use Rattle.rb_base.specs.declared.values.Heard.{Heard}
 use Rattle.rb_base.specs.declared.values.Heard.TheVariants.{Word, Fault}
-use Rattle.rb_base.proofs.Plain.{eq_self}
+use Rattle.rb_base.proofs.Plain.{eq_self, times-more}
 use Rattle.rb_rules.specs.declared.role.Role.TheVariants.{Schedule}
 use Rattle.rb_rules.specs.AbstractBus.{AbstractBus, FrameStep, IsRun, IsStep, MayHave, SlotStep}
 use Rattle.rb_rules.specs.Goodness.{Scenario, is_good}
@@ -37,9 +37,6 @@ record IsAt (sc : Scenario) (n : ℕ) (b : AbstractBus) : Type 0 where
   within : b.slot ≤ sync_slot_of sc.sizes
   values : length b.values ≡ b.slot
 
-next-frame : (f k : ℕ) → (f + 1) * k ≡ f * k + k
-next-frame f k = ap (λ n. n * k) (let e : f + 1 ≡ suc f = omega arith in e) ∙ suc-mul f k
-
 at-next : (sc : Scenario) (offered : ℕ → ℕ → ℕ → ℕ) (n : ℕ) (b c : AbstractBus) → IsAt sc n b → IsStep sc offered b c → IsAt sc (suc n) c
 at-next sc offered n b c here step = by (nat_lt b.slot (sync_slot_of sc.sizes)) refl step
   where
@@ -60,7 +57,7 @@ at-next sc offered n b c here step = by (nat_lt b.slot (sync_slot_of sc.sizes)) 
         let place : n ≡ b.frame * size + b.slot = here.place in
         let least : b.slot ≤ sync_slot_of sc.sizes = here.within in
         let more : sync_slot_of sc.sizes ≤ b.slot = grind (arith, nat_tests) in
-        let up : (b.frame + 1) * size ≡ b.frame * size + size = next-frame b.frame size in
+        let up : (b.frame + 1) * size ≡ b.frame * size + size = times-more b.frame size in
         subst (IsAt sc (suc n)) (sym s.after_is) (record {
           place = let p : suc n ≡ (b.frame + 1) * size + 0 = omega (arith, place, least, more, up) in p;
           within = omega arith;
@@ -79,7 +76,7 @@ at-each sc offered steps bus run (suc n) le =
 apart : (size f g x y : ℕ) → f < g → x < size → f * size + x ≡ g * size + y → ⊥
 apart size f g x y less small e =
     let le : (f + 1) * size ≤ g * size = mul-le-mul_right size (omega (arith, less)) in
-    let up : (f + 1) * size ≡ f * size + size = next-frame f size in
+    let up : (f + 1) * size ≡ f * size + size = times-more f size in
     absurd (omega (arith, e, le, up, small))
 
 same-frame : (size f g x y : ℕ) → x < size → y < size → f * size + x ≡ g * size + y → f ≡ g

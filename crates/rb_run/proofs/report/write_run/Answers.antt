@@ -17,24 +17,24 @@ loop-passed-init g c = record {
 pub returns-in_err-write_turn-clause-part : goal.returns-in_err-write_turn-clause-part
 returns-in_err-write_turn-clause-part g c =
     let is = c.loop-passed.invariant.written in
-    on_err _ (part-written _ _ _ _ _ _ _ _ _ _ _ _ c.next-turn.result is (goes c.args.world.now.bus (g.D.Drive.is_plain c.args.drive.now) (g.D.Drive.is_plain c.loop-passed.drive) (g.D.Drive.told c.args.drive.now) (g.D.Drive.told c.loop-passed.drive)
-    (g.D.Drive.told c.next-turn.new.self) c.loop-passed.world c.next-turn.new.world is.turns c.next-turn.result is.given c.loop-passed.invariant.stays
+    on_err _ (part-written _ _ _ _ _ _ _ _ _ _ _ _ c.next-turn.result is (goes c.args.world.now.bus (g.D.Drive.is_plain c.args.drive.now) _ (g.D.Drive.told c.args.drive.now) _
+    _ c.loop-passed.world c.next-turn.new.world is.turns c.next-turn.result is.given c.loop-passed.invariant.stays
     c.next-turn.ensures.plain c.next-turn.ensures.alike c.next-turn.ensures.bus c.next-turn.ensures.told) c.in_err-write_turn.ensures.part)
 
 pub returns-in-Some-clause-all : goal.returns-in-Some-clause-all
 returns-in-Some-clause-all g c =
     let is = c.loop-passed.invariant.written in
     let ends : end_at (record_of c.next-turn.result) ≡ Some c.in-Some.ending = sym c.ending_at.ensures ∙ c.in-Some.is in
-    all-written _ _ _ _ _ _ _ _ _ _ _ _ c.next-turn.result c.in-Some.ending is (goes c.args.world.now.bus (g.D.Drive.is_plain c.args.drive.now) (g.D.Drive.is_plain c.loop-passed.drive) (g.D.Drive.told c.args.drive.now) (g.D.Drive.told c.loop-passed.drive)
-    (g.D.Drive.told c.next-turn.new.self) c.loop-passed.world c.next-turn.new.world is.turns c.next-turn.result is.given c.loop-passed.invariant.stays
+    all-written _ _ _ _ _ _ _ _ _ _ _ _ c.next-turn.result c.in-Some.ending is (goes c.args.world.now.bus (g.D.Drive.is_plain c.args.drive.now) _ (g.D.Drive.told c.args.drive.now) _
+    _ c.loop-passed.world c.next-turn.new.world is.turns c.next-turn.result is.given c.loop-passed.invariant.stays
     c.next-turn.ensures.plain c.next-turn.ensures.alike c.next-turn.ensures.bus c.next-turn.ensures.told) c.in_ok-write_turn.ensures.all ends
 
 pub returns-in-Some-clause-ending : goal.returns-in-Some-clause-ending
 returns-in-Some-clause-ending g c =
     let is = c.loop-passed.invariant.written in
     let ends : end_at (record_of c.next-turn.result) ≡ Some c.in-Some.ending = sym c.ending_at.ensures ∙ c.in-Some.is in
-    ends-so _ _ _ _ _ is.turns c.next-turn.result c.in-Some.ending (goes c.args.world.now.bus (g.D.Drive.is_plain c.args.drive.now) (g.D.Drive.is_plain c.loop-passed.drive) (g.D.Drive.told c.args.drive.now) (g.D.Drive.told c.loop-passed.drive)
-    (g.D.Drive.told c.next-turn.new.self) c.loop-passed.world c.next-turn.new.world is.turns c.next-turn.result is.given c.loop-passed.invariant.stays
+    ends-so _ _ _ _ _ is.turns c.next-turn.result c.in-Some.ending (goes c.args.world.now.bus (g.D.Drive.is_plain c.args.drive.now) _ (g.D.Drive.told c.args.drive.now) _
+    _ c.loop-passed.world c.next-turn.new.world is.turns c.next-turn.result is.given c.loop-passed.invariant.stays
     c.next-turn.ensures.plain c.next-turn.ensures.alike c.next-turn.ensures.bus c.next-turn.ensures.told) ends
 
 pub loop-passed-preserved : goal.loop-passed-preserved
@@ -42,8 +42,8 @@ loop-passed-preserved g c =
     let is = c.loop-passed.invariant.written in
     let going : end_at (record_of c.next-turn.result) ≡ None = sym c.ending_at.ensures ∙ c.in_default.is in
     record {
-      written = one-written _ _ _ _ _ _ _ _ _ _ _ _ _ c.next-turn.result is (goes c.args.world.now.bus (g.D.Drive.is_plain c.args.drive.now) (g.D.Drive.is_plain c.loop-passed.drive) (g.D.Drive.told c.args.drive.now) (g.D.Drive.told c.loop-passed.drive)
-          (g.D.Drive.told c.next-turn.new.self) c.loop-passed.world c.next-turn.new.world is.turns c.next-turn.result is.given c.loop-passed.invariant.stays
+      written = one-written _ _ _ _ _ _ _ _ _ _ _ _ _ c.next-turn.result is (goes c.args.world.now.bus (g.D.Drive.is_plain c.args.drive.now) _ (g.D.Drive.told c.args.drive.now) _
+          _ c.loop-passed.world c.next-turn.new.world is.turns c.next-turn.result is.given c.loop-passed.invariant.stays
           c.next-turn.ensures.plain c.next-turn.ensures.alike c.next-turn.ensures.bus c.next-turn.ensures.told) c.in_ok-write_turn.ensures.all c.newest_block-newest.ensures going;
       later = search rules;
       bus = c.next-turn.ensures.bus ∙ c.loop-passed.invariant.bus;
