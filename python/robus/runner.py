@@ -32,9 +32,10 @@ for -, that is standard input. What ran it, and what the status means, is told o
     replay LOG, listen SKIP LOG, gen SEED FRAMES, stress SEED FRAMES, spell HEX
     bridge FILE, picture REPORT, picture FIRST LAST REPORT
 
-tools/run FILE and tools/bridge FILE are `run` and `bridge`, and docs/robus.md has all words. A
-proved program is run if one is up to date, else an unproved build, which is made with the Rattle
-kit if it is not kept yet, and without the kit tools/model, the second model.
+These are the words of python3 -m robus, and docs/robus.md explains them. tools/run FILE is the
+word `run` alone, and tools/bridge FILE the word `bridge`. A proved program is run if one is up to
+date, else an unproved build, which is made with the Rattle kit if it is not kept yet, and without
+the kit tools/model, the second model.
 
 status: that of the program, 2 wrong words or no such file, 70 there was no answer"""
 DRAW_HELP = """Draws the run of a scenario, or the frames FIRST to LAST of it, as an SVG on standard
