@@ -1,4 +1,5 @@
--- The kinds of node, and sets of nodes of one kind. A set is the number whose bit i says whether node i is in it.
+-- The kinds of node, and sets of nodes of one kind. A set is the number whose bit i says whether
+-- node i is in it.
 use Rattle.std.specs.Prelude.{ℕ, zero, suc, ◌≡◌, ◌+◌, ◌^◌, ◌<◌, Bool, true, false, ◌==◌, ◌&&◌, not, cond, if◌then◌else◌}
 use Rattle.std.specs.Int.{bit_at}
 use Rattle.rb_base.specs.Counting.{count_if, numbers}

@@ -27,7 +27,7 @@ pub struct Delivery {
 }
 
 /// What a receiver saw of one source in a window: nothing, a value, or the time of a call to
-/// resynchronise. That time is in the receiver's own ticks where one node speaks of itself, and in
+/// resynchronize. That time is in the receiver's own ticks where one node speaks of itself, and in
 /// reference units where nodes are compared.
 #[derive(Clone, Copy, Debug, PartialEq, Eq, Default)]
 pub enum See {

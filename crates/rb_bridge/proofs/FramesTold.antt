@@ -72,7 +72,8 @@ none-last frame i (Slot f slot lines) last = absurd (cc)
 none-last frame i Ended last = refl
 none-last frame i (Breach place cause) last = refl
 
--- of a frame that is over with record r: the records before it tell all that ports deliver in the frame. A breach of the frame is r itself
+-- of a frame that is over with record r: the records before it tell all that ports deliver in the
+-- frame. A breach of the frame is r itself
 pub record TellsFrame (sc : Scenario) (handed : List HandIn) (frame : ℕ) (bank : Bank) (records : List Record) (r : Record) : Type 0 where
   pub deliveries : (receiver : ℕ) → port_deliveries frame receiver records ≡ port_deliveries frame receiver (records_of sc handed)
   pub breach : break_in bank frame (records_of sc handed) ≡ break_told bank frame r

@@ -55,7 +55,7 @@ opened-before b bank both is_plain told s is = record {
 
 -- After the last frame.
 
--- so many turns more were given
+-- after `turns` as many more turns as `passed` were given
 pub record IsFinishing (sc : Scenario) (handed : List HandIn) (is_plain : Bool) (told since : Option (List Turn)) (s : Side) (turns : List Turn) (passed : ℕ) : Type 0 where
   pub more : List Turn
   pub given : IsUnderWay sc handed is_plain told since s.world (turns ++ more) (is_last (record_of s.turn))
@@ -89,7 +89,7 @@ all-finished sc handed is_plain told since s turns passed is last = record {
       (subst (λ over. IsUnderWay sc handed is_plain told since s.world (turns ++ is.more) over) last is.given);
 }
 
--- so many turns are few
+-- fewer than 2^31 turns have passed
 pub few-finished : (sc : Scenario) (handed : List HandIn) (is_plain : Bool) (told since : Option (List Turn)) (s : Side) (turns : List Turn) (passed : ℕ)
     → IsFinishing sc handed is_plain told since s turns passed → passed < 2 ^ 31
 few-finished sc handed is_plain told since s turns passed is =

@@ -70,7 +70,8 @@ kept-more terms frame turns t before ports values within hold advance note =
 
 -- The run.
 
--- so many turns more were given, none of them of a later frame, and what is kept is what they tell
+-- `passed` more turns were given after `before`, none of them of a later frame, and what is kept is
+-- what they tell
 pub record IsPassing (sc : Scenario) (handed : List HandIn) (is_plain : Bool) (told since : Option (List Turn)) (k : KeptWorld) (before : List Turn) (terms : Terms) (frame : ℕ) (p : Passage) (passed : ℕ) : Type 0 where
   pub more : List Turn
   pub given : IsUnderWay sc handed is_plain told since k (before ++ more) false
@@ -106,7 +107,7 @@ pub all-passed : (sc : Scenario) (handed : List HandIn) (is_plain : Bool) (told 
     → PassesFrame sc handed is_plain told since after before terms frame p t
 all-passed sc handed is_plain told mid since k after before terms frame p passed t is given over = record { more = is.more; given = given; going = is.given.goes_on refl; holds = is.holds; over = over }
 
--- so many turns are few
+-- fewer than 2^31 turns have passed
 pub few-passed : (sc : Scenario) (handed : List HandIn) (is_plain : Bool) (told since : Option (List Turn)) (k : KeptWorld) (before : List Turn) (terms : Terms) (frame : ℕ) (p : Passage) (passed : ℕ)
     → IsPassing sc handed is_plain told since k before terms frame p passed → passed < 2 ^ 31
 few-passed sc handed is_plain told since k before terms frame p passed is =

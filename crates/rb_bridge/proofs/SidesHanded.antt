@@ -43,7 +43,8 @@ none-handed : (sc : Scenario) (bank : Bank) (told : ℕ → Option Heard) (pairs
 none-handed sc bank told [] w none = refl
 none-handed sc bank told (p ∷ ps) w none = ap (with_words sc bank told ps) (hand-none sc w (biu_on bank p) _ none) ∙ none-handed sc bank told ps w none
 
--- what the words of some pairs are, of which one is handed over where the last turn was the record of a frame, and none where it was not
+-- what the words of some pairs are, of which one is handed over where the last turn was the record
+-- of a frame, and none where it was not
 pub record AreHanded (sc : Scenario) (bank : Bank) (told : ℕ → Option Heard) (pairs : List Pair) (w : World) : Type 0 where
   pub more : List HandIn
   pub is : IsHanded w (with_words sc bank told pairs w) more
@@ -155,7 +156,7 @@ begins-next b bank frame handed told since k turns t r bridge below is-r given g
         is-later bank sc.frames frame r (ap (is_over sc.frames frame) (sym is-r) ∙ over) (ap (break_by bank frame) (sym is-r) ∙ none) late within in
         subst (λ n. frame < n) (sym (one-frame sc.frames r)) is
 
--- So it is handed what the bridge carries.
+-- A bus is handed what the bridge carries.
 
 hands-next : (b : Bridge) (bank : Bank) (frame : ℕ)
     → hands_on bank (hands_up_to b (frame + 1)) ≡ hands_on bank (hands_up_to b frame) ++ carried_to b (hands_up_to b frame) bank frame

@@ -29,7 +29,7 @@ use Rattle.rb_world.proofs.Numbered.{alike-in-rounds, alike-last, next-in-rounds
 use Rattle.rb_bridge.specs.Running.{AreNotLast, IsUnderWay, latest}
 use Rattle.rb_bridge.proofs.Handed.{IsHanded}
 
--- The begin.
+-- The start.
 
 pub begins : (k : KeptWorld) (is_plain : Bool) (told : Option (List Turn)) → HasGivenNothing k → IsUnderWay k.bus [] is_plain told told k [] false
 begins k is_plain told begun = record {
@@ -143,7 +143,7 @@ many-given : (sc : Scenario) (handed : List HandIn) (is_plain : Bool) (told sinc
 many-given sc handed is_plain told since k turns over is =
     sym (length-map turns bare) ∙ ap length is.alike ∙ length-map is.world.book.given (λ r. bare (turn_of r))
 
--- so many turns are few
+-- fewer than 2^31 turns were given
 pub few-turns : (sc : Scenario) (handed : List HandIn) (is_plain : Bool) (told since : Option (List Turn)) (k : KeptWorld) (turns : List Turn) (over : Bool) → IsUnderWay sc handed is_plain told since k turns over
     → length turns < 2 ^ 31
 few-turns sc handed is_plain told since k turns over is =

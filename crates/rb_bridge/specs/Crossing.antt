@@ -90,7 +90,8 @@ pub record AreThrough (x : BridgeRun) (frame : ℕ) (l r : Side) : Type 0 where
   pub right : AfterFrame x.b Right frame x.both x.right r
   pub unbroken : AreUnbroken frame l r
 
--- they are those of a bridge with these pairs, and have gone through a frame. With two plain drives, it has no breach
+-- they are those of a bridge with these pairs, and have gone through a frame. With two plain
+-- drives, it has no breach
 pub record HaveCrossed (x : BridgeRun) (pairs : List Pair) (frame : ℕ) (l r : Side) : Type 0 where
   pub bridge : IsBridge x.b
   pub pairs_are : x.b.pairs ≡ pairs
@@ -122,7 +123,8 @@ pub record MayGoOn (d : Drives) (l r : Side) : Type 0 where
   pub left : is_last (record_of l.turn) ≡ false → IsOnItsWay d.left.is_plain d.left.since l.world l.terms l.passage
   pub right : is_last (record_of r.turn) ≡ false → IsOnItsWay d.right.is_plain d.right.since r.world r.terms r.passage
 
--- a run of a bridge as a call begins: its sides go into this frame, and its drives had told this at first
+-- a run of a bridge as a call begins: its sides go into this frame, and its drives had told this at
+-- first
 pub record AtFrame (frame : ℕ) (d : Drives) (l r : Side) : Type 0 where
   pub b : Bridge
   pub both : Bool
@@ -180,7 +182,7 @@ pub record HaveOpened (b : Bridge) (l r : Side) : Type 0 where
   pub left : HasOpened (bus_on b Left) (members_on b Left) (slot_on b Left) l
   pub right : HasOpened (bus_on b Right) (members_on b Right) (slot_on b Right) r
 
--- those of a bridge with these pairs and so many frames
+-- the two sides belong to a bridge with these pairs and this number of frames
 pub record MayBegin (pairs : List Pair) (frames : ℕ) (l r : Side) : Type 0 where
   pub b : Bridge
   pub bridge : IsBridge b
@@ -188,14 +190,16 @@ pub record MayBegin (pairs : List Pair) (frames : ℕ) (l r : Side) : Type 0 whe
   pub frames_are : b.left.frames ≡ frames
   pub opened : HaveOpened b l r
 
--- The bridge ends so. All that crosses was handed in by then, or all up to the begin of the frame with the breach
+-- The bridge ends so. All that crosses was handed in by then, or all up to the start of the frame
+-- with the breach
 abbrev pub EndsAs : BridgeRun → Ending → Type 0
 EndsAs x ending.Ended =
     (x.both ≡ true → break_of x.b ≡ None) × GiveAll x x.b.left.frames
 EndsAs x ending.Breach =
     (k : Break) × ((x.both ≡ true → break_of x.b ≡ Some k) × ((frame : ℕ) × GivesAllOn x frame k.bank))
 
--- all was written that is said of the bridge, where both drives are plain. The drives gave turns of its runs
+-- all was written that is said of the bridge, where both drives are plain. The drives gave turns of
+-- its runs
 pub record WritesAll (x : BridgeRun) (held after : Option (List ℕ)) (e : Ending) : Type 0 where
   pub some : GiveSome x
   pub text : x.both ≡ true → Appends held after (bridge_text x.b)

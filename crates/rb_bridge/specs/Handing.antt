@@ -8,7 +8,8 @@ use Rattle.rb_rules_bridge.specs.declared.bank.Pair.{Pair}
 use Rattle.rb_rules_bridge.specs.Bridges.{across, biu_on}
 use Rattle.rb_rules_bridge.specs.Crossings.{word_of}
 
--- the world of the bus on a bank after each pair has handed over the word of its BIU across the bridge, by what was told of that one
+-- the world of the bus on a bank after each pair has handed over the word of its BIU across the
+-- bridge, by what was told of that one
 abbrev pub with_words : Scenario → Bank → (ℕ → Option Heard) → List Pair → World → World
 with_words sc bank told [] w = w
 with_words sc bank told (pair ∷ pairs) w =

@@ -35,8 +35,8 @@ pub record IsOnItsWay (is_plain : Bool) (since : Option (List Turn)) (k : KeptWo
   pub given : IsUnderWay k.bus handed is_plain told since k turns false
   pub holds : HoldsPassage terms p.ports.frame (records_in turns) p
 
--- Further turns were given, the last of them being this one, with which the frame is over. What is kept of the frame is what those
--- before it tell
+-- Further turns were given, the last of them being this one, with which the frame is over. What is
+-- kept of the frame is what those before it tell
 pub record PassesFrame (sc : Scenario) (handed : List HandIn) (is_plain : Bool) (told since : Option (List Turn)) (k : KeptWorld) (before : List Turn) (terms : Terms) (frame : ℕ)
     (p : Passage) (last : Turn) : Type 0 where
   pub more : List Turn

@@ -21,8 +21,9 @@ abbrev pub AreNotLast : List Turn → Type 0
 AreNotLast [] = ⊤
 AreNotLast (t ∷ ts) = (is_last (record_of t) ≡ false) × AreNotLast ts
 
--- A drive, plain or not, has given these turns, one for each record so far, in order: that record, but for ticks, times, masks, states,
--- losses and values. This was handed in, and the run has ended or not
+-- A drive, plain or not, has given these turns, one for each record so far, in order: that record,
+-- but for ticks, times, masks, states, losses and values. This was handed in, and the run has ended
+-- or not
 pub record IsUnderWay (sc : Scenario) (handed : List HandIn) (is_plain : Bool) (told since : Option (List Turn)) (k : KeptWorld) (turns : List Turn) (over : Bool) : Type 0 where
   pub world : World
   pub stands : Stands k world

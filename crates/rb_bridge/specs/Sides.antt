@@ -27,7 +27,8 @@ use Rattle.rb_bridge.specs.declared.side.Side.{Side}
 
 -- What a side is.
 
--- what is asked of a bus: the word that its receivers find for these BIUs, a data slot that is carried over, and all frames
+-- what is asked of a bus: the word that its receivers find for these BIUs, a data slot that is
+-- carried over, and all frames
 abbrev pub terms_of : Scenario → ℕ → ℕ → Terms
 terms_of sc members slot = record {
   asked = record { which = Most; members = members };
@@ -75,7 +76,8 @@ drive_of is_plain told since = record { is_plain = is_plain; told = told; since 
 
 -- Between two frames, with any drive.
 
--- these turns were given, and the last one, which is beyond the frame of which all is kept that they tell
+-- these turns were given, and the last one, which is beyond the frame of which all is kept that
+-- they tell
 pub record HasPassed (sc : Scenario) (handed : List HandIn) (is_plain : Bool) (told since : Option (List Turn)) (s : Side) (before : List Turn) : Type 0 where
   pub given : IsUnderWay sc handed is_plain told since s.world (before ++ s.turn ∷ []) (is_last (record_of s.turn))
   pub going : AreNotLast before
@@ -87,7 +89,8 @@ pub record HasStopped (sc : Scenario) (handed : List HandIn) (is_plain : Bool) (
   pub before : List Turn
   pub passed : HasPassed sc handed is_plain told since s before
 
--- these turns were given, and all is kept that they tell of the frame that has begun, unless the run has ended
+-- these turns were given, and all is kept that they tell of the frame that has begun, unless the
+-- run has ended
 pub record IsReady (sc : Scenario) (handed : List HandIn) (is_plain : Bool) (told since : Option (List Turn)) (s : Side) (turns : List Turn) : Type 0 where
   pub given : IsUnderWay sc handed is_plain told since s.world turns (is_last (record_of s.turn))
   pub holds : is_last (record_of s.turn) ≡ false → HoldsPassage s.terms s.passage.ports.frame (records_in turns) s.passage
@@ -100,15 +103,17 @@ pub record IsUp (is_plain : Bool) (since : Option (List Turn)) (s : Side) : Type
   pub turns : List Turn
   pub given : IsUnderWay s.world.bus handed is_plain told since s.world turns (is_last (record_of s.turn))
 
--- Of a bridge whose drives are both plain.
+-- A bridge whose drives are both plain.
 
--- The bus on a bank was handed what the bridge carries. It has begun this frame, or has ended with a breach of it
+-- The bus on a bank was handed what the bridge carries. It has begun this frame, or has ended with
+-- a breach of it
 pub record IsInStep (b : Bridge) (bank : Bank) (frame : ℕ) (handed : List HandIn) (s : Side) : Type 0 where
   pub handed_is : handed ≡ hands_on bank (hands_up_to b frame)
   pub begins : is_last (record_of s.turn) ≡ false → s.passage.ports.frame ≡ frame
   pub breaks : is_last (record_of s.turn) ≡ true → frame < b.left.frames → ¬ (break_by bank frame (record_of s.turn) ≡ None)
 
--- It was handed what the bridge carries. A breach of this frame is the last turn, and else all of the frame is told
+-- It was handed what the bridge carries. A breach of this frame is the last turn, and else all of
+-- the frame is told
 pub record HasTold (b : Bridge) (bank : Bank) (frame : ℕ) (handed : List HandIn) (s : Side) : Type 0 where
   pub handed_is : handed ≡ hands_on bank (hands_up_to b frame)
   pub breach : break_in bank frame (records_on b (hands_of b) bank) ≡ break_by bank frame (record_of s.turn)
@@ -143,8 +148,9 @@ pub record TurnsOver (terms : Terms) (t : Turn) (before after : Passage) : Type 
 
 -- What was given in all.
 
--- A drive, plain or not, has given these turns, one for each of these first records of a run to which this was handed in, in order: that
--- record, but for ticks, times, masks, states, losses and values
+-- A drive, plain or not, has given these turns, one for each of these first records of a run to
+-- which this was handed in, in order: that record, but for ticks, times, masks, states, losses and
+-- values
 pub record AreGivenOf (sc : Scenario) (handed : List HandIn) (is_plain : Bool) (told since : Option (List Turn)) (turns : List Turn) (records : List Record) : Type 0 where
   pub first : IsPrefix records (records_of sc handed)
   pub alike : map bare turns ≡ map (λ r. bare (turn_of r)) records
@@ -156,8 +162,9 @@ pub record RunsOut (sc : Scenario) (handed : List HandIn) (is_plain : Bool) (tol
   pub turns : List Turn
   pub given : AreGivenOf sc handed is_plain told since turns (records_of sc handed)
 
--- The first turns of the run of the bus on a bank were given. Where both drives are plain, it was handed what the bridge carries, up to the
--- begin of a frame, and they are the first of the run with all that the bridge carries
+-- The first turns of the run of the bus on a bank were given. Where both drives are plain, it was
+-- handed what the bridge carries, up to the start of a frame, and they are the first of the run
+-- with all that the bridge carries
 pub record GivesSome (b : Bridge) (bank : Bank) (both : Bool) (d : Driven) : Type 0 where
   pub frame : ℕ
   pub handed : List HandIn
@@ -167,8 +174,8 @@ pub record GivesSome (b : Bridge) (bank : Bank) (both : Bool) (d : Driven) : Typ
   pub plain : both ≡ true → handed ≡ hands_on bank (hands_up_to b frame)
   pub crosses : both ≡ true → IsPrefix records (records_on b (hands_of b) bank)
 
--- All of them were, with what it was handed up to the begin of this frame. Where both drives are plain, that is the run with all that the
--- bridge carries
+-- All of them were, with what it was handed up to the start of this frame. Where both drives are
+-- plain, that is the run with all that the bridge carries
 pub record GivesAll (b : Bridge) (bank : Bank) (frame : ℕ) (both : Bool) (d : Driven) : Type 0 where
   pub handed : List HandIn
   pub turns : List Turn

@@ -71,7 +71,7 @@ fn cross_frame<K: Sink, D: Drive>(
     Ok(true)
 }
 
-/// Takes both buses of a bridge from their begin to their end, frame by frame, the left one first,
+/// Takes both buses of a bridge from their start to their end, frame by frame, the left one first,
 /// and writes what is said of the bridge. After each frame each bus is handed what the other one
 /// carries over. From the second frame on there is a line for each BIU of the left bus, and then of
 /// the right, that is good in the frame's last data slot: the word that it finds. The last line is

@@ -37,7 +37,7 @@ fn hand_word(world: &mut World, bank: Bank, pair: &Pair, values: &Values)
 
 /// Hands to the BIU of each pair on a bank the word that its BIU across the bridge carries, by the
 /// values of that bus's carried slot. The last turn of this bus must be the record of a frame; a
-/// BIU that is not good at its begin is handed nothing.
+/// BIU that is not good at its start is handed nothing.
 pub(crate) fn hand_over(world: &mut World, bank: Bank, pairs: &[Pair], values: &Values)
     requires { All (λ pair. biu_on (across bank) pair < 16) pairs.now }
     ensures world { (told : ℕ → Option Heard) (w : RunWorld) → HoldValues told values.now

@@ -35,7 +35,7 @@ pub record IsBridgeBroken (bytes : List ℕ) (why : BridgeRefusal) : Type 0 wher
   pub text : IsDocument bytes document
   pub broken : IsFirstBroken document why
 
--- why the bytes are refused. Want of memory may come at any time
+-- why the bytes are refused. Out of memory may be the answer at any time
 abbrev pub IsBridgeRefused : List ℕ → BridgeRefusal → Type 0
 IsBridgeRefused bytes BridgeToml = (t : Members) → ¬ IsDocument bytes t
 IsBridgeRefused bytes OutOfMemory = ⊤

@@ -4,7 +4,7 @@ use Rattle.rb_scenario_entries.specs.Codes.{code_of as scenario_code_of}
 use Rattle.rb_bridge_document.specs.declared.refusal.BridgeRefusal.{BridgeRefusal}
 use Rattle.rb_bridge_document.specs.declared.refusal.BridgeRefusal.TheVariants.{BridgeToml, BridgeForm, LeftRefused, RightRefused, BridgeRange, OutOfMemory}
 
--- the code of a refusal; want of memory has none
+-- the code of a refusal; out of memory has none
 abbrev pub code_of : BridgeRefusal → Option ℕ
 code_of BridgeToml = Some 21
 code_of BridgeForm = Some 22

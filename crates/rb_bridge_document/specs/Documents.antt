@@ -1,4 +1,5 @@
--- What the document of a bridge says: the texts of two scenarios, pairs of BIUs, and which data slot of each bus is carried over.
+-- What the document of a bridge says: the texts of two scenarios, pairs of BIUs, and which data
+-- slot of each bus is carried over.
 use Rattle.std.specs.Prelude.{ℕ, pos, ◌==◌, nat_le, nat_lt, Bool, true, false, not, ◌&&◌, List, [], ◌∷◌, Option, Some, None, codes, get_or, if◌then◌else◌}
 use Rattle.std.specs.List.{list_any}
 use Rattle.toml.specs.Data.{Data, string, integer, array, Items, no_items, item, Members, at, get_member}

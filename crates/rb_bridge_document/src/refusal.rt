@@ -32,7 +32,7 @@ impl BridgeRefusal {
     ghost use Rattle.std.specs.Prelude.{◌≡◌};
     ghost use Rattle.rb_bridge_document.specs.Codes.{code_of, detail_of};
 
-    /// The code by which the refusal is printed, 21 to 25. None exactly for want of memory.
+    /// The code by which the refusal is printed, 21 to 25. `None` if and only if memory ran out.
     pub fn code(&self) -> Option<u8>
         ensures { result ≡ code_of self.now }
     {

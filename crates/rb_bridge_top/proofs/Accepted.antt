@@ -38,7 +38,7 @@ one-bridge input a b is_a is_b =
 
 -- Refusals.
 
--- an accepted scenario has no refusal but want of memory
+-- an accepted scenario has no refusal but out of memory
 not-refused : (input : List ℕ) (scenario : Accepted) (why : Refusal) → IsAccepted input scenario → why ≢ rule.OutOfMemory → ¬ IsRefused input why
 not-refused input scenario rule.NotToml accepted other refused = accepted_is_toml input scenario accepted refused
 not-refused input scenario rule.MissingKey accepted other refused = accepted_is_unbroken input scenario rule.MissingKey accepted refused

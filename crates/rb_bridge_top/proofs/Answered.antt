@@ -67,7 +67,7 @@ report-answers both status left left' reads reads' held held' writes writes' lp 
   });
 }
 
--- want of memory alone writes nothing of a bridge that was read, and asks no drive
+-- only the answer out of memory writes nothing of a bridge that was read, and asks no drive
 pub only-memory : (status : Status) → IsOfRun status → WritesNothing status → status ≡ OutOfMemory
 only-memory Done run none = absurd none
 only-memory Breach run none = absurd none

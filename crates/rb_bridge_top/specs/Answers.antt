@@ -30,7 +30,8 @@ pub record Untouched {S K D : Type 0} (words : List (String Global)) (status : S
   pub left_idle : (¬ AskFor words Run) ⊎ RunsNothing status → left' ≡ left
   pub right_idle : (¬ AskFor words Run) ⊎ RunsNothing status → right' ≡ right
 
--- the drives gave turns of the bridge's runs, and with two plain ones its text was written: all of it, and this is the answer
+-- the drives gave turns of the bridge's runs, and with two plain ones its text was written: all of
+-- it, and this is the answer
 pub record IsCrossed (x : BridgeRun) (status : Status) (held held' : Option (List ℕ)) : Type 0 where
   pub ending : Ending
   pub answer_is : status ≡ status_of ending
@@ -63,7 +64,8 @@ pub record EndsPart (both : Bool) (left left' held held' : Option (List ℕ)) (f
   pub written : WritesPart (run_of bridge both (drive_of lp ltold lsince) (drive_of rp rtold rsince)) held held'
   pub rose : Rose faults faults'
 
--- a write failed: the count of the sink's faults rose, and of the line of a refusal or of a bridge's text the first bytes are written
+-- a write failed: the count of the sink's faults rose, and of the line of a refusal or of a
+-- bridge's text the first bytes are written
 abbrev pub FailsToWrite : Bool → Option (List ℕ) → Option (List ℕ) → Option (List ℕ) → Option (List ℕ) → ℕ → ℕ → Bool → Option (List Turn) → Option (List Turn) → Bool → Option (List Turn) → Option (List Turn) → Type 0
 FailsToWrite both left left' held held' faults faults' lp ltold lsince rp rtold rsince =
     FailsToRefuse left left' held held' faults faults' ⊎ EndsPart both left left' held held' faults faults' lp ltold lsince rp rtold rsince
@@ -85,8 +87,9 @@ pub record NothingFails (input : List ℕ) (reads reads' writes writes' : ℕ) :
   pub no_read : ¬ Rose reads reads'
   pub no_write : ¬ Rose writes writes'
 
--- The answers that must come, where the source tells its input: of a bridge, with two plain drives, the one with which its text ends, and of a refused
--- input Refused, unless something fails. Want of memory alone may come in their place where nothing else fails
+-- The answers that must be given if the source tells its input: for a bridge with two plain drives
+-- the one with which its text ends, and for a refused input Refused, unless something fails. If
+-- nothing else fails, only out of memory may be the answer in their place
 pub record Completes (both : Bool) (status : Status) (left : Option (List ℕ)) (reads reads' writes writes' : ℕ) : Type 0 where
   pub ended : (input : List ℕ) (b : Bridge) → left ≡ Some input → IsBridgeAccepted input b → both ≡ true → (status ≡ end_of b) ⊎ HasFailed status
   pub ended_at_once : (input : List ℕ) (b : Bridge) → left ≡ Some input → IsBridgeAccepted input b → NothingFails input reads reads' writes writes'

@@ -19,7 +19,7 @@ input_limit = 4194304
 
 -- Refusals.
 
--- the rule has a code, and a number exactly where its line has one. Want of memory has none
+-- the rule has a code, and a number if and only if its line has one. Out of memory has none
 abbrev pub HasLine : BridgeRefusal → Type 0
 HasLine rule = IsSome (code_of rule) × IsBridgeRefusal (unwrap_or (code_of rule) 0) (detail_of rule)
 
@@ -36,7 +36,8 @@ pub record IsRefusedWith (input line : List ℕ) : Type 0 where
 
 -- Reading.
 
--- TooLong comes exactly where the source gave more bytes than the limit, and ReadFault only where the count of its faults rose
+-- TooLong comes exactly where the source gave more bytes than the limit, and ReadFault only where
+-- the count of its faults rose
 pub record IsUnread (status : Status) (left left' : Option (List ℕ)) (faults faults' : ℕ) : Type 0 where
   pub too_long : status ≡ answer.TooLong → Gave left left' (λ n. input_limit < n)
   pub short_enough : ¬ (status ≡ answer.TooLong) → Gave left left' (λ n. n ≤ input_limit)

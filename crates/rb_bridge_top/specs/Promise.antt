@@ -22,5 +22,6 @@ pub record KeepsTheBridge (status : Status) (left left' held held' : Option (Lis
   pub written : Appends held held' (bridge_text bridge)  -- what was added to the sink is the text of that bridge
   pub ends : status ≡ end_of bridge  -- the answer is Breach if and only if the bridge ends with a breach
   pub promise : WordsCrossOn bridge  -- words cross the bridge up to a breach
-  -- each bus keeps the promise of the bus up to its breach, with the words that cross as its hand-ins
+  -- each bus keeps the promise of the bus up to its breach, with the words that cross as its
+  -- hand-ins
   pub buses : (bank : Bank) → KeepsThePromise (bus_on bridge bank) (hands_on bank (hands_of bridge))

@@ -49,7 +49,8 @@ fn serve<S: Source, K: Sink, D: Drive>(
 ///
 /// | words | what it does |
 /// |---|---|
-/// | `run` | reads a bridge of two buses, runs both and writes what their receivers find, a line at a time |
+/// | `run` | reads a bridge of two buses, runs both and writes what their receivers find, a line at
+/// a time |
 /// | `--help`, `-h` | writes a page with these words and the statuses, at once; reads nothing |
 /// | `--version` | writes the name of the program and its version; reads nothing |
 ///

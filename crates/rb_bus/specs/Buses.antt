@@ -126,10 +126,10 @@ Hands biu word before after (Err refusal.NoTable) =
 
 -- The promise.
 
--- What the records given are worth, whatever was handed in. They are the first records of the rounds
--- (`first`), and all of them once the run has ended (`whole`); each record of a slot has the right
--- lines (`slots`). The run keeps the promise of the bus up to its first breach (`keeps`), and all good
--- BIUs deliver the word that the table of a good BIU was handed last (`words`)
+-- What the records given are worth, whatever was handed in. They are the first records of the
+-- rounds (`first`), and all of them once the run has ended (`whole`); each record of a slot has the
+-- right lines (`slots`). The run keeps the promise of the bus up to its first breach (`keeps`), and
+-- all good BIUs deliver the word that the table of a good BIU was handed last (`words`)
 pub record Promised (run : Run) : Type 0 where
   pub first : IsPrefix run.given (records_in run)
   pub whole : run.over ≡ true → run.given ≡ records_in run

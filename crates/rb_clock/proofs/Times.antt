@@ -122,7 +122,7 @@ at_length clock now from ticks left is at =
     let here : tick_length clock from ≡ ticks = at.lengths from (omega arith) ∙ stands ticks from from left (omega arith) at.rising in
     rw here at bounds
 
--- so many ticks of such a length
+-- the time that n ticks of such a length take
 pub product_bound : (n ticks : ℕ) → n ≤ 8589934592 → ticks ≤ 2000000 → n * ticks ≤ 17179869184000000
 product_bound n ticks few short = omega (arith, mul-le-mul_left n short)
 
@@ -223,7 +223,8 @@ no_more : (n m ticks : ℕ) → n * ticks < m * ticks + ticks → n ≤ m
 no_more n m ticks lt =
     elim (cases_lt m n) [ inl more ↦ absurd (omega (arith, mul-le-mul_left ticks more)) | inr le ↦ le ]
 
--- from a tick before the time, as many ticks on as the rest of the time takes, where the length stays until the time has come
+-- from a tick before the time, as many ticks on as the rest of the time takes, where the length
+-- stays until the time has come
 pub stamp_after : (clock : Timeline) (now from ticks until time n : ℕ) (left : List (ℕ × ℕ)) → IsAt clock now from ticks left → Stays ticks until left
     → from ≤ until → time ≤ time_of clock until → now < time → time ≤ now + n * ticks → now + n * ticks < time + ticks
     → IsStamp clock time (from + n)

@@ -90,8 +90,8 @@ fn are_within(shortest: u32, longest: u32, segments: &[(u64, u32)]) -> bool
 }
 
 impl Clock {
-    /// A clock whose tick 0 begins at `start`. A segment is a first tick and the length of the ticks
-    /// from there on, `unit` give or take `drift`. Times and lengths are in reference units.
+    /// A clock whose tick 0 begins at `start`. A segment is a first tick and the length of the
+    /// ticks from there on, `unit` give or take `drift`. Times and lengths are in reference units.
     ///
     /// `NotRising` comes exactly where there is no segment, the first does not begin at tick 0, or
     /// one does not begin after the one before it; else `TickOutOfBounds` exactly where a length is
@@ -169,7 +169,7 @@ impl Clock {
         self.walked_to(tick)
     }
 
-    // The same, from segment to segment.
+    // The time of a tick as `late_at` gives it, found by walking from segment to segment.
     #[inline(never)]
     fn walked_to(&self, tick: u64) -> u64
         requires { tick ≤ 2 ^ 33 }

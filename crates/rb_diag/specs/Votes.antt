@@ -6,7 +6,8 @@ use Rattle.rb_base.specs.declared.values.Heard.{Heard}
 use Rattle.rb_base.specs.declared.values.Heard.TheVariants.{Fault}
 use Rattle.rb_rules.specs.Conviction.{is_valid, names}
 
--- how many nodes of the other kind there are, and the voted vector of each of the 16 senders that there may be
+-- how many nodes of the other kind there are, and the voted vector of each of the 16 senders that
+-- there may be
 pub record Votes : Type 0 where
   pub others : ℕ
   pub vectors : List Heard

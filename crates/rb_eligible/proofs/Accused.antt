@@ -24,7 +24,8 @@ passing_next p s t k so_far is =
     ] in
     go (p k) refl is
 
--- those of the trusted nodes that are in one of two sets, the expected ones that are no one and the others of which something came
+-- those of the trusted nodes that are in one of two sets, the expected ones that are no one and the
+-- others of which something came
 pub wrong_is : (t e o c missed unasked wrong evidence : ℕ) → missed ≡ set_of (λ j. has e j && not (has o j)) → unasked ≡ set_of (λ j. has c j && not (has e j))
     → wrong ≡ set_of (λ j. has missed j || has unasked j) → evidence ≡ set_of (λ j. has t j && has wrong j)
     → evidence ≡ set_of (λ j. has t j && (if has e j then not (has o j) else has c j))
@@ -41,7 +42,8 @@ wrong_is t e o c missed unasked wrong evidence missed_are unasked_are either evi
     one_way true false c = refl
     one_way false o c = elim c as (λ c. (false || (c && true)) ≡ c) [ true ↦ refl | false ↦ refl ]
 
--- evidence against the nodes of a set, and mismatch accusations of them, by the test that makes the set
+-- evidence against the nodes of a set, and mismatch accusations of them, by the test that makes the
+-- set
 pub evidence_of : (t : ℕ) (p : ℕ → Bool) (s : Standing) → t ≡ set_of p → with_evidence (has t) s ≡ with_evidence p s
 evidence_of t p s is =
     let joined : (a : ℕ) → set_of (λ j. has a j || has t j) ≡ set_of (λ j. has a j || p j) =

@@ -1,4 +1,4 @@
--- Those sources of which something may be taken, among those that are expected and eligible.
+-- The sources from which something may be accepted, among those that are expected and eligible.
 use Rattle.std.proofs.Common.{◌≡◌, ℕ, ◌<◌, true, ◌&&◌, if◌then◌else◌, Option, None, List, length, sym, ◌∙◌, ap}
 use Rattle.std.proofs.lemmas.List.FromFn.{fill_by_all}
 use Rattle.rb_base.specs.Nodes.{has}
@@ -12,7 +12,8 @@ use Rattle.rb_eligible.specs.Inboxes.{KeptArrivals, is_sole, sense_in}
 use Rattle.rb_eligible.specs.Takings.{AreOnesOf, AreTakenOf, AreValuesOf}
 use Rattle.rb_eligible.proofs.Sensed.{none_but_soles, value_but_soles}
 
--- of the sources that are expected and eligible and of which there is no sole arrival nothing can be taken
+-- of the sources that are expected and eligible and of which there is no sole arrival nothing can
+-- be taken
 pub due_ones : (kept : KeptArrivals) (s : Standing) (e : Expect) (expected due ones : ℕ)
     → ((j : ℕ) → j < 16 → has due j ≡ ((has expected j && is_eligible s j) && is_sole kept j)) → AreOnesOf kept e (has due) ones
     → AreOnesOf kept e (λ j. has expected j && is_eligible s j) ones

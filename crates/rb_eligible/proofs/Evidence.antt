@@ -54,7 +54,8 @@ taken_all f taken k last all so_far = fill_by_all f taken 16 None all (λ j h. s
 pub present_all : {X : Type 0} (taken : List (Option X)) (values : List X) (k : ℕ) → k ≡ 16 → length taken ≡ 16 → values ≡ present (take k taken) → values ≡ present taken
 present_all taken values k last all held = held ∙ ap present (take_all k taken (omega arith))
 
--- of each node that is trusted and expected it is known whether it is one, also if it is accused directly already
+-- of each node that is trusted and expected it is known whether it is one, also if it is accused
+-- directly already
 pub either_one : (s : Standing) (expected barred ones others all j : ℕ) (passes : ℕ → Bool) → j < 16 → has s.trusted j ≡ true → has expected j ≡ true
     → barred ≡ set_of (λ j. has expected j && has s.direct j) → all ≡ set_of (λ j. has ones j || has others j) → has ones j ≡ ((has expected j && is_eligible s j) && passes j)
     → others ≡ set_of (λ j. has barred j && passes j) → has all j ≡ passes j

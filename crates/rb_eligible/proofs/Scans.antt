@@ -1,4 +1,5 @@
--- A walk over the nodes of a set: what is left of it, which of the others passed, and what was written down of them.
+-- A walk over the nodes of a set: what is left of it, which of the others passed, and what was
+-- written down of them.
 use Rattle.std.proofs.Common.{◌≡◌, ℕ, ◌<◌, Bool, true, false, not, ◌&&◌, ◌==◌, set, refl, sym, ◌∙◌, ap}
 use Rattle.rb_base.specs.Nodes.{has, set_of}
 use Rattle.rb_base.proofs.Sets.{has-is}

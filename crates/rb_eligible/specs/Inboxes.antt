@@ -21,7 +21,8 @@ arrivals_of source received = map (λ r. r.arrival) (filter (λ r. r.source == s
 abbrev pub sense_in : Expect → List Received → ℕ → Sense
 sense_in e received source = sense_of e (arrivals_of source received)
 
--- what is kept: the sources of which something came, those of which it can be no message, and the sole arrivals of the others
+-- what is kept: the sources of which something came, those of which it can be no message, and the
+-- sole arrivals of the others
 pub record KeptArrivals : Type 0 where
   pub came : ℕ
   pub spoilt : ℕ

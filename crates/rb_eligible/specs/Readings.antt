@@ -11,7 +11,8 @@ use Rattle.rb_eligible.specs.declared.reading.Sole.{Sole}
 abbrev pub bytes_of : Sole → List ℕ
 bytes_of s = spelled s.low (high_of s.tail) (len_of s.tail)
 
--- whether bytes are one message that is meant for the window, and its value; the stamp plays no part
+-- whether bytes are one message that is meant for the window, and its value; the stamp plays no
+-- part
 pub record Says (e : Expect) (bytes : List ℕ) (one : Bool) (value : Option Heard) : Type 0 where
   pub one_is : one ≡ is_one (sense_of_one e 0 (message_in e.version bytes))
   pub value_is : value ≡ value_in (sense_of_one e 0 (message_in e.version bytes))

@@ -1,4 +1,5 @@
--- What is taken of sources in a window, and whom that accuses, whatever list of arrivals the inbox stands for.
+-- What is taken of sources in a window, and whom that accuses, whatever list of arrivals the inbox
+-- stands for.
 use Rattle.std.specs.Prelude.{ℕ, ◌≡◌, ◌<◌, ◌^◌, ◌&&◌, not, Bool, true, false, if◌then◌else◌, Option, Some, None, List}
 use Rattle.rb_base.specs.Nodes.{has, set_of}
 use Rattle.rb_base.specs.declared.values.Heard.{Heard}
@@ -27,14 +28,16 @@ AreTakenOf kept s e expected taken = (received : List Received) → HoldsArrival
 abbrev pub AccusesBy : KeptArrivals → Standing → Expect → ℕ → Standing → Type 0
 AccusesBy kept s e expected after = (received : List Received) → HoldsArrivals kept received → after ≡ with_evidence (has_evidence s (has expected) (sense_in e received)) s
 
--- of these sources none is left any longer but those of the second set: of the others each has the same bytes, and the value was taken; nothing changed for those that weren't left before
+-- of these sources none is left any longer but those of the second set: of the others each has the
+-- same bytes, and the value was taken; nothing changed for those that weren't left before
 pub record IsRun (kept : KeptArrivals) (left rest : ℕ) (sole : Sole) (value : Option Heard) (before taken : List (Option Heard)) : Type 0 where
   pub within : (j : ℕ) → j < 16 → has rest j ≡ true → has left j ≡ true
   pub same : (j : ℕ) → j < 16 → has left j ≡ true → has rest j ≡ false
       → (at_source taken j ≡ value) × ((sole_at kept.soles j).low ≡ sole.low) × ((sole_at kept.soles j).tail ≡ sole.tail)
   pub others : (j : ℕ) → j < 16 → has left j ≡ false → at_source taken j ≡ at_source before j
 
--- what was taken of the sources of a set but of those that are left, which of them are ones, and of each of the leading ones the same value was taken
+-- what was taken of the sources of a set but of those that are left, which of them are ones, and of
+-- each of the leading ones the same value was taken
 pub record IsPartial (kept : KeptArrivals) (e : Expect) (due left ones lead : ℕ) (value : Option Heard) (taken : List (Option Heard)) : Type 0 where
   pub fits : ones < 2 ^ 16
   pub within : (j : ℕ) → j < 16 → has left j ≡ true → has due j ≡ true

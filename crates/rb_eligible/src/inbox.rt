@@ -17,8 +17,8 @@ use std::marker::Model;
 pub struct Inbox<K> {
     // The sources of which something came.
     came: NodeSet<K>,
-    // Those of which it can be no message: more than one arrival, or one that is longer than any
-    // message.
+    // The sources whose arrivals can be no message: more than one arrived, or one that is longer
+    // than any message.
     spoilt: NodeSet<K>,
     // The arrivals of the others.
     soles: [Sole; 16],
@@ -69,7 +69,7 @@ impl<K: Copy> Inbox<K> {
         }
     }
 
-    /// The same with the bytes as numbers: nothing is looked at byte by byte.
+    /// Does what `take` does, with the bytes as numbers: nothing is looked at byte by byte.
     #[inline(always)]
     pub fn take_spelled(&mut self, from: NodeId<K>, at: u64, bytes: &Spelling)
         ensures shows { (received : List Received) → HoldsArrivals self.old received

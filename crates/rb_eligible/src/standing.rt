@@ -66,7 +66,7 @@ impl<K: Copy> Standing<K> {
         self.eligible_of(NodeSet::only(id)).has(id.index())
     }
 
-    /// Those nodes of the set that are eligible.
+    /// The nodes of the set that are eligible.
     pub fn eligible_of(&self, set: NodeSet<K>) -> NodeSet<K>
         ensures { result ≡ set_of (λ j. has set j && is_eligible (standing_of self.now) j) }
     {
@@ -196,11 +196,11 @@ impl<K: Copy> Standing<K> {
         calms
     }
 
-    /// The end of a frame. Where `probation`, a number of frames up to 4096, is at least 1, the
-    /// direct accusation of a node lapses after so many whole frames in a row without direct
-    /// evidence against it: one whose newest evidence is of frame e lapses as frame e + probation +
-    /// 1 begins. With 0 none lapses. Mismatch accusations stay, and so do convictions. The next
-    /// frame begins without evidence.
+    /// Ends a frame. If `probation`, a number of frames up to 4096, is at least 1, the direct
+    /// accusation of a node lapses after `probation` whole frames in a row without direct evidence
+    /// against it: an accusation whose newest evidence is of frame e lapses as frame e + probation
+    /// + 1 begins. With 0 no accusation lapses. Mismatch accusations stay, and so do convictions.
+    /// The next frame begins without evidence.
     pub fn lapse(&mut self, probation: u16)
         ensures ends { standing_of self.new ≡ standing_at_end probation (standing_of self.old) }
         ensures by_frames { (frame : ℕ) (newest : ℕ → ℕ) → probation ≤ 4096

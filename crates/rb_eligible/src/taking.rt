@@ -252,7 +252,8 @@ fn ones_among<K: Copy>(inbox: &Inbox<K>, set: NodeSet<K>, expect: &Expect) -> No
     take_due(inbox, due, expect, &mut taken).ones
 }
 
-// The same of the sources that are expected and accused already.
+// The sources in `barred` from which exactly one message arrived that is meant for the window. They
+// are expected, and accused already.
 fn ones_barred<K: Copy>(inbox: &Inbox<K>, barred: NodeSet<K>, expect: &Expect) -> NodeSet<K>
     ensures { AreOnesOf inbox.now expect.now (has barred) result }
 {
@@ -298,7 +299,7 @@ fn due_of<K: Copy>(inbox: &Inbox<K>, standing: &Standing<K>, expected: NodeSet<K
 
 /// Takes what came in a window of each source that is expected and eligible, if exactly one message
 /// came and it is meant for the window: `taken` then has by source the value of that message, which
-/// a call to resynchronise has not. Then each trusted source is accused that was expected and of
+/// a call to resynchronize has not. Then each trusted source is accused that was expected and of
 /// which not exactly that came, or that wasn't expected and of which something came. What was taken
 /// in an earlier window is written over.
 #[inline(always)]

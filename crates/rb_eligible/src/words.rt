@@ -66,7 +66,7 @@ pub(crate) fn value_in(low: u64, high: u32) -> u32
     ((low >> 48) as u32 + (high % 0x1_0000) * 0x1_0000).swap_bytes()
 }
 
-/// The message that so many bytes spell, if there is one.
+/// The message that the first `len` bytes spell, if there is one.
 #[inline(always)]
 pub(crate) fn message_in(version: Version, low: u64, high: u32, len: u64) -> Option<Message>
     requires { len ≤ 12 }

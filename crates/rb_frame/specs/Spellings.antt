@@ -9,11 +9,12 @@ high_of tail = tail % 4294967296
 abbrev pub len_of : ℕ → ℕ
 len_of tail = tail / 4294967296
 
--- so many bytes, kept as two numbers
+-- the first `len` of the bytes that are kept as the two numbers `low` and `high`
 unfoldable pub spelled : ℕ → ℕ → ℕ → List ℕ
 spelled low high len = take len (to_le_bytes w64 low ++ to_le_bytes w32 high)
 
--- so many bytes, kept as two numbers and the others
+-- the bytes that are kept as the two numbers `low` and `tail` and, from the thirteenth on, as
+-- `rest`
 unfoldable pub bytes_in : ℕ → ℕ → List ℕ → List ℕ
 bytes_in low tail rest = take (len_of tail) (to_le_bytes w64 low ++ to_le_bytes w32 (high_of tail) ++ rest)
 

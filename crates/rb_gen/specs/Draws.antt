@@ -10,11 +10,11 @@ next_state state = (state * 6364136223846793005 + 1442695040888963407) % 2 ^ 64
 unfoldable pub number_of : ℕ → ℕ
 number_of state = state / 2 ^ 32
 
--- the state after so many draws. At first it is the seed
+-- the state after a number of draws. At first it is the seed
 unfoldable pub state_after : ℕ → ℕ → ℕ
 state_after zero seed = seed
 state_after (suc draws) seed = next_state (state_after draws seed)
 
--- the numbers that so many draws give, in order
+-- the numbers that the first `draws` draws give, in order
 abbrev pub numbers_drawn : ℕ → ℕ → List ℕ
 numbers_drawn draws seed = map (λ n. number_of (state_after (suc n) seed)) (numbers draws)

@@ -1,5 +1,6 @@
--- The generated scenario: 8 BIUs and 5 RMUs with 16 data slots, of which RMU 4 falls silent and BIU 7 says unlike words.
--- Starts and tick lengths of clocks, delays of links, and the frame in which RMU 4 falls silent are drawn.
+-- The generated scenario: 8 BIUs and 5 RMUs with 16 data slots, of which RMU 4 falls silent and BIU
+-- 7 says unlike words. Starts and tick lengths of clocks, delays of links, and the frame in which
+-- RMU 4 falls silent are drawn.
 use Rattle.std.specs.Prelude.{ℕ, ◌≡◌, suc, ◌+◌, ◌-◌, ◌/◌, ◌%◌, ◌≤◌, ◌==◌, nat_lt, if◌then◌else◌, List, [], ◌∷◌, ◌++◌, map, replicate, get_or, Some, None}
 use Rattle.rb_base.specs.Counting.{numbers}
 use Rattle.rb_base.specs.Sizes.{Sizes}
@@ -37,15 +38,16 @@ plan = record {
   probation = 0;
 }
 
--- The numbers drawn, in order: number 0 for the silence of RMU 4, 1 to 11 for starts, 12 to 24 for lengths of ticks, and 25 to
--- 104 for delays.
+-- The numbers drawn, in order: number 0 for the silence of RMU 4, 1 to 11 for starts, 12 to 24 for
+-- lengths of ticks, and 25 to 104 for delays.
 
 abbrev pub drawn_from : ℕ → List ℕ
 drawn_from seed = numbers_drawn 105 seed
 
 -- Clocks. Their nodes are numbered, the BIUs 0 to 7, then the RMUs 8 to 12.
 
--- BIU 0 starts last of all and RMU 0 first. The others' starts are drawn: numbers 1 to 7 for BIUs, 8 to 11 for RMUs
+-- BIU 0 starts last of all and RMU 0 first. The others' starts are drawn: numbers 1 to 7 for BIUs,
+-- 8 to 11 for RMUs
 abbrev pub start_of : List ℕ → ℕ → ℕ
 start_of drawn node =
     if node == 0 then 60200
@@ -59,8 +61,8 @@ tick_of drawn node = 9999 + get_or drawn (12 + node) 0 % 3
 abbrev pub clock_of : List ℕ → ℕ → Timeline
 clock_of drawn node = record { start = start_of drawn node; segments = (0, tick_of drawn node) ∷ [] }
 
--- Links. They are numbered, 0 to 39 from BIU 0 to each RMU, then from BIU 1, and so on, and 40 to 79 from RMU 0 to each BIU,
--- then from RMU 1, and so on.
+-- Links. They are numbered, 0 to 39 from BIU 0 to each RMU, then from BIU 1, and so on, and 40 to
+-- 79 from RMU 0 to each BIU, then from RMU 1, and so on.
 
 abbrev pub sender_of : ℕ → NodeName
 sender_of link = if nat_lt link 40 then Biu (link / 5) else Rmu ((link - 40) / 8)

@@ -117,7 +117,8 @@ node_at node = if nat_lt node 8 then Biu node else Rmu (node - 8)
 abbrev pub clock_entry : List Timeline → ℕ → List (List ℕ)
 clock_entry clocks node = clock_lines (node_at node) (get_or clocks node (record { start = 0; segments = [] }))
 
--- an entry for each clock, for each rule on delays, for the faults of BIU 7 and RMU 4, and for all that is said
+-- an entry for each clock, for each rule on delays, for the faults of BIU 7 and RMU 4, and for all
+-- that is said
 unfoldable pub lines_of : Scenario → List (List ℕ)
 lines_of sc =
     root_lines sc.frames

@@ -91,7 +91,7 @@ fn tick_of(drawn: &[u32; DRAWS], node: usize) -> u32
     9999 + drawn[12 + node] % 3
 }
 
-// The clock of a node. It is refused for want of memory alone.
+// The clock of a node. It is refused only if memory runs out.
 fn clock_of(alloc: Global, drawn: &[u32; DRAWS], node: usize) -> Result<Clock, OutOfMemory>
     requires { node < NODES }
     ensures { IfOk result (λ c. c ≡ clock_of drawn.now node) }

@@ -1,4 +1,5 @@
--- Replicas: several BIUs that offer the same, and the one value that a vote finds for them in a frame.
+-- Replicas: several BIUs that offer the same, and the one value that a vote finds for them in a
+-- frame.
 use Rattle.std.specs.Prelude.{ℕ, ◌==◌, Option, Some, None, List, [], ◌∷◌, map, filter_map, if◌then◌else◌}
 use Rattle.rb_base.specs.Counting.{numbers}
 use Rattle.rb_base.specs.Nodes.{has}
@@ -37,7 +38,8 @@ abbrev pub heard_of : Option ℕ → Heard
 heard_of None = Fault
 heard_of (Some word) = Word word
 
--- of n words in ascending order the one at place (n - 1) / 2, counted from 0, rounded down; Fault where there is no word
+-- of n words in ascending order the one at place (n - 1) / 2, counted from 0, rounded down; Fault
+-- where there is no word
 abbrev pub middle_word_of : List Heard → Heard
 middle_word_of values = heard_of (middle_of (words_in values))
 

@@ -4,7 +4,8 @@ use Rattle.rb_base.specs.declared.values.Delivery.{Delivery}
 use Rattle.rb_base.specs.declared.values.Heard.{Heard}
 use Rattle.rb_group.specs.Groups.{value_of}
 
--- what is kept of a group: its members, and the first value of each of the 16 BIUs that there may be
+-- what is kept of a group: its members, and the first value of each of the 16 BIUs that there may
+-- be
 pub record KeptGroup : Type 0 where
   pub members : ℕ
   pub kept : List (Option Heard)

@@ -6,7 +6,7 @@ use Rattle.rb_base.specs.Sizes.{Sizes}
 use Rattle.rb_base.proofs.Sets.{has-is, has-set_of, has_above, has_none, same_set, set_of-lt}
 use Rattle.rb_group_run.specs.Members.{AreMembers}
 
--- those of the mask that are not among the first so many
+-- node i is in the mask, and its number is `bius` or more
 abbrev beyond : ℕ → ℕ → ℕ → Bool
 beyond mask bius i = has mask i && not (has bius i)
 

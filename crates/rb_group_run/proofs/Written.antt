@@ -27,7 +27,8 @@ use Rattle.rb_group_run.specs.Runs.{WritesAll, WritesPart, text_of}
 text_more : (sc : Scenario) (asked : Asked) (turns : List Turn) (t : Turn) → text_of sc asked (turns ++ t ∷ []) ≡ text_of sc asked turns ++ turn_text sc asked (records_in turns) (record_of t)
 text_more sc asked turns t = ap (text_after sc asked []) (records-more turns t) ∙ text_with sc asked [] (records_in turns) (record_of t)
 
--- so many turns were given and what they say was written, the ports being kept, and the run goes on
+-- `passed` turns were given and what they say was written, the ports being kept, and the run goes
+-- on
 pub record IsWritten (sc : Scenario) (asked : Asked) (is_plain : Bool) (told since : Option (List Turn)) (k : KeptWorld) (held after : Option (List ℕ)) (ports : Ports) (passed : ℕ) : Type 0 where
   pub turns : List Turn
   pub given : IsUnderWay sc is_plain told since k turns false

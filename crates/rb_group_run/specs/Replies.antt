@@ -45,14 +45,15 @@ port_text sc frame value i = if is_good sc Biu i frame (last_data_slot sc.sizes)
 abbrev pub frame_text : Scenario → ℕ → (ℕ → Heard) → List ℕ
 frame_text sc frame value = flat_map (port_text sc frame value) (numbers sc.sizes.bius)
 
--- the last line of a run of so many frames
+-- the last line of a run of `frames` frames
 abbrev pub ending_text : ℕ → Record → List ℕ
 ending_text frames (Frame frame nodes ports) = []
 ending_text frames (Slot frame slot lines) = []
 ending_text frames Ended = end_text frames
 ending_text frames (Breach place cause) = breach_text place cause
 
--- what a record says after others: the values of the frame that they tell of, if it is of a later one, and the end
+-- what a record says after others: the values of the frame that they tell of, if it is of a later
+-- one, and the end
 abbrev pub record_text : Scenario → Asked → List Record → Record → List ℕ
 record_text sc asked before r =
     (if nat_lt (reached sc.frames before) (frame_of sc.frames r)

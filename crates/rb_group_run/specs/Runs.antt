@@ -29,8 +29,8 @@ pub record WritesPart (sc : Scenario) (asked : Asked) (is_plain : Bool) (told si
   pub given : AreGiven sc is_plain told since turns
   pub text : AppendsPart held after (text_of sc asked turns)
 
--- the run went to its end, and what its turns say of the group was written, or a first part of it where a write failed. The bus stays,
--- and how the drive drives
+-- the run went to its end, and what its turns say of the group was written, or a first part of it
+-- where a write failed. The bus stays, and how the drive drives
 pub record WritesGroups {D K E : Type 0} (asked : Asked) (k after : KeptWorld) (is_plain : D → Bool) (told : D → Option (List Turn)) (drive drive' : D)
     (held : K → Option (List ℕ)) (faults : K → ℕ) (output output' : K) (result : Result Ending E) : Type 0 where
   pub all : OnOk result (WritesAll k.bus asked (is_plain drive) (told drive) (told drive') (held output) (held output'))

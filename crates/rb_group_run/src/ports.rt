@@ -29,7 +29,7 @@ fn fresh_groups(members: NodeSet<Biu>) -> [Group; 16]
     [Group::new(members); 16]
 }
 
-/// The ports at the begin of a run.
+/// The ports at the start of a run.
 pub fn first_ports(asked: &Asked) -> Ports
     ensures { (frames : ℕ) → HoldsFrame frames asked.now [] result }
 {
@@ -121,8 +121,8 @@ fn move_to(ports: &mut Ports, asked: &Asked, frame: u32)
     }
 }
 
-/// The ports after a turn of a run of so many frames: the frame begins anew with the first turn of
-/// a later one, and what a slot of this frame brought is delivered.
+/// Advances the ports by a turn of a run of `frames` frames: the first turn of a later frame starts
+/// the frame anew, and what a slot of this frame brought is delivered.
 pub fn advance(ports: &mut Ports, asked: &Asked, frames: u32, turn: &Turn)
     ensures { (records : List Record) → HoldsFrame frames asked.now records ports.old
         → HoldsFrame frames asked.now (records ++ option_to_list (record_of turn.now)) ports.new }

@@ -10,7 +10,7 @@ use rb_port::Apps;
 use rb_run::Ending;
 use rb_world::{Drive, World};
 
-/// Takes a run from its begin to its end, and writes what its good BIUs find for a group of
+/// Takes a run from its start to its end, and writes what its good BIUs find for a group of
 /// replicas. Once a frame is complete, that is with the first turn of a later one, there is a line
 /// for each BIU that is good in the frame's last data slot: the value that the voter finds among
 /// the first values that this BIU delivered in the frame of each member. The last line is `end` or

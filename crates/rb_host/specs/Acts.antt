@@ -16,7 +16,7 @@ use Rattle.rb_host.specs.declared.act.HostDelivery.{HostDelivery}
 use Rattle.rb_host.specs.declared.act.HostEpoch.{HostEpoch}
 use Rattle.rb_host.specs.declared.act.HostWant.{HostWant}
 
--- the begin of a frame
+-- the start of a frame
 abbrev pub epoch_shown : Option Epoch → HostEpoch
 epoch_shown None = record { begins = false; frame = 0; tick = 0; biu = 0; rmu = 0 }
 epoch_shown (Some e) = record { begins = true; frame = e.frame; tick = e.tick; biu = e.biu; rmu = e.rmu }

@@ -22,7 +22,8 @@ number_of (Err no.Node) = 12
 number_of (Err no.Plan) = 13
 number_of (Err (no.Inequality n)) = 20 + n
 
--- the handle has the first node of this seat, or none, and the number says which, and why there is none
+-- the handle has the first node of this seat, or none, and the number says which, and why there is
+-- none
 pub record IsAnswered (seat : Seat) (after : Option AnyNode) (number : ℕ) : Type 0 where
   pub made : Result (Unit {0}) NoNode
   pub is : number ≡ number_of made

@@ -66,7 +66,7 @@ pub record Steps (before : AnyNode) (word : ℕ) (after : AnyNode) (act : Act) :
 abbrev pub IsNextTick : AnyNode → ℕ → Type 0
 IsNextTick n tick = (c : Core) → StandsFor n c → tick ≡ unwrap_or (next_of (side_in n) (running_in n) c) (2 ^ 31)
 
--- at most so many ticks pass, all of them quiet, and no fewer than there are
+-- at most `ticks` ticks pass, all of them quiet, and no fewer than there are
 pub record Passes (before : AnyNode) (ticks passed : ℕ) (after : AnyNode) : Type 0 where
   pub many : passed ≡ min ticks (passing_end (side_in before) (running_in before) - (running_in before).had)
   pub core : (c : Core) → StandsFor before c → StandsFor after (ticks_of (side_in before) (running_in before) passed c)

@@ -8,7 +8,7 @@ ghost use Rattle.rb_host.specs.Acts.{IsHostAct, delivery_shown, epoch_shown, wan
 use rb_base::{Delivery, Heard};
 use rb_node::{Act, Epoch, Want};
 
-/// The begin of a frame, if `begins`: the frame's number, its first tick by the node's own clock,
+/// The start of a frame, if `begins`: the frame's number, its first tick by the node's own clock,
 /// and whom the node holds convicted, BIUs and RMUs as masks. Else all numbers are 0.
 #[repr(C)]
 #[derive(Clone, Copy, Debug, PartialEq, Eq)]
@@ -34,7 +34,7 @@ pub struct HostDelivery {
 }
 
 /// What a node gives at a tick: the message that it sends, in the first `length` bytes, 0 for none;
-/// whether it closed a window; the frame that begins; and what it delivers.
+/// whether it closed a window; the frame that starts; and what it delivers.
 #[repr(C)]
 #[derive(Clone, Copy, Debug, PartialEq, Eq)]
 pub struct HostAct {
@@ -54,7 +54,7 @@ pub struct HostWant {
     pub slot: u16,
 }
 
-// The begin of a frame in plain numbers.
+// The start of a frame in plain numbers.
 fn epoch_shown(epoch: Option<Epoch>) -> HostEpoch
     ensures { result ≡ epoch_shown epoch }
 {

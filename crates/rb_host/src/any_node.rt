@@ -70,7 +70,7 @@ impl AnyNode {
         }
     }
 
-    /// Quiet ticks pass, at most so many; gives how many did.
+    /// Lets at most `ticks` quiet ticks pass; gives how many did.
     pub fn pass(&mut self, ticks: u64) -> u64
         ensures { Passes self.old ticks result self.new }
     {

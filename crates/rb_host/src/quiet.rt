@@ -7,8 +7,8 @@ ghost use Rattle.rb_node.specs.Cores.{IsCore, passing_end, ticks_of};
 use rb_base::{Kind, MOST_TICKS};
 use rb_node::Node;
 
-/// As many quiet ticks pass as there are before the next that isn't quiet, and at most so many;
-/// gives how many did.
+/// Lets as many quiet ticks pass as there are before the next that is not quiet, and at most
+/// `ticks`; gives how many did.
 pub(crate) fn pass_some<K: Kind>(node: &mut Node<K>, ticks: u64) -> u64
     ensures many { result ≡ min ticks (passing_end (side_of K.CODE) node.old - node.old.had) }
     ensures rest { node.new ≡ record node.old { had = node.old.had + result } }

@@ -1,4 +1,5 @@
--- What a caller of a judge knows of it: that it knows the stages that it shows, and when a sight may be noted.
+-- What a caller of a judge knows of it: that it knows the stages that it shows, and when a sight
+-- may be noted.
 use Rattle.std.proofs.Common.{◌≡◌, ℕ, ◌<◌, false, List, [], ◌∷◌, refl, ap}
 use Rattle.rb_base.specs.Nodes.{Side, other, has}
 use Rattle.rb_base.specs.Nodes.Side.{Biu, Rmu}
@@ -32,13 +33,14 @@ pub sources_are : (judge : KeptJudge) (kind : Side) (i : ℕ) → sources_of jud
 sources_are judge Biu i = refl
 sources_are judge Rmu i = refl
 
--- Condition `once`: of a source of which the newest stage shows nothing at the receiver, nothing was noted.
+-- Condition `once`: of a source of which the newest stage shows nothing at the receiver, nothing
+-- was noted.
 pub noted_shown : (judge : KeptJudge) (stages : List JudgedStage) (kind : Side) (i j : ℕ) → i < 16 → j < 16 → HoldsStages judge stages
     → has_noted judge (name_of kind i) j ≡ is_something (sight_now (other kind) j stages i)
 noted_shown judge stages Biu i j hi hj is = (is.rmus.sights j hj).by i hi
 noted_shown judge stages Rmu i j hi hj is = (is.bius.sights j hj).by i hi
 
--- at the begin of a stage that is so of all
+-- at the start of a stage that is so of all
 pub none_noted : (judge : KeptJudge) (good trusted : Side → ℕ) (eps : ℕ) (stages : List JudgedStage) (kind : Side) (i j : ℕ) → i < 16 → j < 16
     → HoldsStages judge (stage_begun good trusted eps ∷ stages) → has_noted judge (name_of kind i) j ≡ false
 none_noted judge good trusted eps stages kind i j hi hj is = noted_shown judge (stage_begun good trusted eps ∷ stages) kind i j hi hj is

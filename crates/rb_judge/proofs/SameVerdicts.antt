@@ -1,4 +1,5 @@
--- Stages that agree on the suspects have one verdict: so what is seen of a source that is good to the frame's end need not be told.
+-- Stages that agree on the suspects have one verdict: so what is seen of a source that is good to
+-- the frame's end need not be told.
 use Rattle.std.proofs.Common.{◌≡◌, ℕ, ◌<◌, Bool, true, false, not, ◌&&◌, List, refl, ◌∙◌, ap}
 use Rattle.std.specs.List.{list_any}
 use Rattle.rb_base.specs.Nodes.{Side, has}
@@ -7,7 +8,8 @@ use Rattle.rb_base.proofs.Plain.{and-same}
 use Rattle.rb_base.proofs.Sets.{same_set_of}
 use Rattle.rb_rules.specs.Judging.{JudgedStage, cause_of, classes_of, good_now, is_asymmetric, is_benign, is_suspect, trusted_now, verdict_of, was_taken, was_unlike}
 
--- the stages have the same newest sets of this kind, and show the same of those that are trusted and not good in the newest
+-- the stages have the same newest sets of this kind, and show the same of those that are trusted
+-- and not good in the newest
 pub record AgreeOnSuspects (kind : Side) (xs ys : List JudgedStage) : Type 0 where
   pub good : good_now kind xs ≡ good_now kind ys
   pub trusted : trusted_now kind xs ≡ trusted_now kind ys

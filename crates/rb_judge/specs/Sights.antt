@@ -56,14 +56,14 @@ is_unlike Unlike = true
 is_unlike (Value v) = false
 is_unlike (Times least greatest) = false
 
--- this is kept of what the receivers saw: whether they saw unlike, and if not, what tells of each further sight whether it is
--- unlike one of theirs
+-- this is kept of what the receivers saw: whether they saw unlike, and if not, what tells of each
+-- further sight whether it is unlike one of theirs
 pub record IsKept (eps nodes : ℕ) (sight : ℕ → See) (kept : KeptSight) : Type 0 where
   pub unlike : is_unlike kept ≡ some_unlike eps nodes sight
   pub further : is_unlike kept ≡ false → (x : See) → is_something x ≡ true → clashes eps kept x ≡ some_differs eps nodes sight x
 
--- what the good receivers saw of a source, and what is kept of it: who saw something, whether anybody did, whether two good
--- receivers saw it unlike, and the value or the times that were seen
+-- what the good receivers saw of a source, and what is kept of it: who saw something, whether
+-- anybody did, whether two good receivers saw it unlike, and the value or the times that were seen
 pub record ShowsSource (eps good : ℕ) (sight : ℕ → See) (seen : SourceSights) : Type 0 where
   pub by : (i : ℕ) → i < 16 → has seen.by i ≡ is_something (sight i)
   pub within : (i : ℕ) → i < 16 → has seen.by i ≡ true → has good i ≡ true

@@ -8,8 +8,8 @@ use Rattle.rb_base.specs.declared.node.NodeName.TheVariants as node
 use Rattle.rb_rules.specs.Judging.{JudgedStage}
 use Rattle.rb_judge.specs.Kinds.{KeptKind, KnowsKind, ShowsKind, eps_now}
 
--- what a judge keeps: the size of its bus, how far apart the times of one message may be in the newest stage, and what it keeps
--- of the nodes of both kinds
+-- what a judge keeps: the size of its bus, how far apart the times of one message may be in the
+-- newest stage, and what it keeps of the nodes of both kinds
 pub record KeptJudge : Type 0 where
   pub sizes : Sizes
   pub eps : ℕ
@@ -22,8 +22,8 @@ pub record HoldsStages (judge : KeptJudge) (stages : List JudgedStage) : Type 0 
   pub bius : ShowsKind Biu stages judge.bius
   pub rmus : ShowsKind Rmu stages judge.rmus
 
--- it knows of them what the classes depend on. A judge that stands for stages does; one that knows them need not have been told
--- who saw what in the newest one
+-- it knows of them what the classes depend on. A judge that stands for stages does; one that knows
+-- them need not have been told who saw what in the newest one
 pub record Knows (judge : KeptJudge) (stages : List JudgedStage) : Type 0 where
   pub bius : KnowsKind Biu stages judge.bius
   pub rmus : KnowsKind Rmu stages judge.rmus

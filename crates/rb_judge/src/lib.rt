@@ -46,7 +46,7 @@ impl Model for Judge {
 }
 
 impl Judge {
-    /// A judge of a bus of this shape, at the begin of a frame.
+    /// A judge of a bus of this shape, at the start of a frame.
     pub fn new(shape: &Shape) -> Judge
         ensures begun { HoldsStages result [] }
         ensures shape { result.sizes ≡ shape.now }

@@ -16,11 +16,12 @@ pub struct Sources<K> {
     /// The good nodes and the trusted ones in the newest stage.
     pub good: NodeSet<K>,
     pub trusted: NodeSet<K>,
-    /// Those that were seen unlike in an earlier stage of the frame, and those of which something
-    /// was taken.
+    /// The nodes that were seen unlike in an earlier stage of the frame, and those from which
+    /// something was accepted.
     pub unlike: NodeSet<K>,
     pub taken: NodeSet<K>,
-    /// The same of the newest stage.
+    /// The nodes that were seen unlike in the newest stage, and those from which something was
+    /// accepted in it.
     pub unlike_now: NodeSet<K>,
     pub heard_now: NodeSet<K>,
     /// By source, which receivers saw something of it in the newest stage, as a mask, and what is

@@ -1,4 +1,5 @@
--- The rounds make a run of the abstract bus: in each slot that is settled all good nodes hold what it holds.
+-- The rounds make a run of the abstract bus: in each slot that is settled all good nodes hold what
+-- it holds.
 use Rattle.std.proofs.Common.{◌≡◌, ℕ, zero, suc, ◌+◌, ◌-◌, ◌*◌, ◌<◌, ◌≤◌, ◌||◌, nat_lt, Bool, true, false, List, [], ◌∷◌, Some, slice_get, if◌then◌else◌, lit<, refl, sym, ◌∙◌, ap, subst, arith}
 use Rattle.std.specs.List.{list_any}
 use Rattle.std.proofs.lemmas.Bool.{le-ltb, lt-ltb}

@@ -25,7 +25,7 @@ use Rattle.rb_laws_agreement.proofs.BusLaws.{bus-before, bus-slot-step, bus-fram
 
 -- One step.
 
--- a step is a slot below the sync slot, or the begin of a frame
+-- a step is a slot below the sync slot, or the start of a frame
 step-by : (sc : Scenario) (offered : ℕ → ℕ → ℕ → ℕ) (before after : AbstractBus) (b : Bool) → nat_lt before.slot (sync_slot_of sc.sizes) ≡ b
     → elim b as (λ _. Type 0) [ true ↦ (value : Heard) × SlotStep sc (offered before.frame before.slot) value before after | false ↦ FrameStep sc before after ]
     → IsStep sc offered before after

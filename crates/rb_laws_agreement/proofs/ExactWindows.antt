@@ -1,4 +1,5 @@
--- A window below the sync slot at one good node: what it takes of a good source is what that one says, and what its close makes.
+-- A window below the sync slot at one good node: what it takes of a good source is what that one
+-- says, and what its close makes.
 use Rattle.std.proofs.Common.{◌≡◌, ℕ, zero, suc, ◌+◌, ◌<◌, ◌==◌, ◌&&◌, Bool, true, false, map, Option, Some, None, is_some, if◌then◌else◌, refl, sym, ◌∙◌, ap, subst, arith}
 use Rattle.rb_base.specs.Nodes.{Side, other, has}
 use Rattle.rb_base.specs.Nodes.Side.{Biu, Rmu}

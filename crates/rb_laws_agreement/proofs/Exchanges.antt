@@ -1,5 +1,5 @@
--- What good nodes exchange in a window below the sync slot: a good receiver takes of a good source just what that one says, and
--- what it takes of any source is seen.
+-- What good nodes exchange in a window below the sync slot: a good receiver takes of a good source
+-- just what that one says, and what it takes of any source is seen.
 use Rattle.std.proofs.Common.{◌≡◌, ℕ, zero, suc, ◌+◌, ◌<◌, ◌≤◌, ◌^◌, ◌==◌, ◌&&◌, inl, inr, not, Bool, true, false, List, [], ◌∷◌, map, Option, Some, None, is_some, option_map, slice_get, get_or, if◌then◌else◌, refl, sym, ◌∙◌, ap, subst, arith}
 use Rattle.std.specs.Prelude.{IfSome}
 use Rattle.std.specs.List.{list_any}

@@ -71,7 +71,7 @@ far-side sc m k i st = subst (λ k. IsGoodNode sc m k i st) (sym (other_twice k)
 
 -- Vectors.
 
--- a set of nodes below a count is a number below so many bits
+-- a set of nodes below `count` is a number below 2^count
 set-fits : (count set : ℕ) → count ≤ 16 → set < 2 ^ 16 → ((j : ℕ) → j < 16 → has set j ≡ true → j < count) → set < 2 ^ count
 set-fits count set few fits inside =
     let mask : ℕ = 2 ^ count - 1 in

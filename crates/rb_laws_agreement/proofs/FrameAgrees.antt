@@ -1,4 +1,4 @@
--- Over the end of a frame all good nodes agree, and at the run's begin.
+-- Over the end of a frame all good nodes agree, and at the run's start.
 use Rattle.std.proofs.Common.{◌≡◌, ℕ, suc, ◌+◌, ◌-◌, ◌*◌, ◌<◌, ◌&&◌, nat_lt, not, true, false, List, [], length, inl, inr, Option, Some, None, is_some, slice_get, refl, sym, ◌∙◌, ap, subst, arith}
 use Rattle.std.proofs.lemmas.Bool.{and_from, cases_lt, lt-ltb, ltb-true, not_from_false}
 use Rattle.rb_base.specs.Nodes.{Side, other, has, set_of}

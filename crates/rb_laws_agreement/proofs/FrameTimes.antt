@@ -1,4 +1,5 @@
--- Where good nodes begin frames near each other, and frames take as long as they must, times are kept.
+-- Where good nodes begin frames near each other, and frames take as long as they must, times are
+-- kept.
 use Rattle.std.proofs.Common.{◌≡◌, ℕ, zero, suc, ◌+◌, ◌-◌, ◌*◌, ◌≤◌, Bool, true, false, List, [], length, inl, inr, ◌⊎◌, Option, Some, None, option_map, slice_get, if◌then◌else◌, refl, sym, ◌∙◌, ap, subst, arith}
 use Rattle.std.proofs.lemmas.Option.{same_Some}
 use Rattle.rb_base.specs.Nodes.{Side}
@@ -45,7 +46,7 @@ good-clock sc law me i frame slot good =
     (law.clocks (clock_place sc.sizes me i) (record { start = 0; segments = [] })
     (place-within sc.sizes me i (length sc.clocks) law.one_clock_each (good_counts sc me i frame slot good)))
 
--- Since the frame's begin.
+-- Since the frame's start.
 
 -- a node that began a frame in this state has kept its epoch
 record HasBegun (sc : Scenario) (hands : List HandIn) (frame : ℕ) (me : Side) (i : ℕ) (st : NodeState) : Type 0 where
@@ -129,7 +130,7 @@ first_time sc hands zero = least-or sc hands 0 (first_of (starts sc hands 0) 16)
 first_time sc hands (suc frame) =
     least-or sc hands (suc frame) (first_of (starts sc hands (suc frame)) 16) (first_time sc hands frame + tail_start_of sc.sizes sc.plan * shortest_of sc.plan)
 
--- a node that begins the frame at a time
+-- a node that starts the frame at a time
 pub record Starts (sc : Scenario) (hands : List HandIn) (frame : ℕ) (me : Side) (i time : ℕ) : Type 0 where
   pub st : NodeState
   pub is : IsGoodBefore sc hands frame 0 me i st
@@ -151,7 +152,7 @@ unfolding starts start-at
 starts-so sc hands frame me i st g =
     ap (λ b. start-at sc me i b (slice_get (of_kind me (before_slot sc hands frame 0).nodes) i)) g.good ∙ ap (start-at sc me i true) g.state
 
--- the time is that of a node that begins the frame, and no good node begins it earlier
+-- the time is that of a node that starts the frame, and no good node begins it earlier
 record IsFirst (sc : Scenario) (hands : List HandIn) (frame low : ℕ) : Type 0 where
   pub low_is : IsLow sc hands frame low
   pub least : (you : Side) (j : ℕ) (yours : NodeState) → IsGoodBefore sc hands frame 0 you j yours → low ≤ time_in_frame sc you j yours 0
@@ -239,7 +240,7 @@ next-epoch sc hands law frame complete me i st now g h epoch known =
     left : after sc a me i st ≡ from.st
     left = same_Some (after sc a me i st) from.st (sym (state-after sc a me i st g.state) ∙ from.was.there)
 
--- a node that begins the next frame does so all its ticks after the first time of this one
+-- a node that starts the next frame does so all its ticks after the first time of this one
 turns-later : (sc : Scenario) (hands : List HandIn) → IsLawful sc → KeepsTime sc hands → (frame : ℕ) → IsComplete sc hands frame (sync_slot_of sc.sizes)
     → (me : Side) (i : ℕ) (now : NodeState) → IsGoodBefore sc hands (suc frame) 0 me i now
     → first_time sc hands frame + tail_start_of sc.sizes sc.plan * shortest_of sc.plan ≤ time_in_frame sc me i now 0

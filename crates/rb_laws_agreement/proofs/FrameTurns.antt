@@ -146,7 +146,8 @@ valid-active sc hands n m s e kind others i t valid faulty =
     (and_from (has (s.trusted kind) i) (not (is_good sc kind i m.frame (sync_slot_of sc.sizes))) t (not_from_false (is_good sc kind i m.frame (sync_slot_of sc.sizes)) not_good))
     (not_from_false (is_benign kind m.book.stages i) (v.seen others valid))
 
--- a test on valid vectors that no good node's vector passes is passed by fewer than there are good nodes
+-- a test on valid vectors that no good node's vector passes is passed by fewer than there are good
+-- nodes
 few_pass : (sc : Scenario) (hands : List HandIn) (n : ℕ) (m : Moment) (s : Shared) (e : AtEnd sc hands n m s) (kind : Side) (others : ℕ) (test : Heard → Bool)
     → ((i : ℕ) → has (s.trusted kind) i ≡ true → is_good_now sc m kind i ≡ true → test (s.values (vector_slot sc.sizes kind i)) ≡ false)
     → count_if (λ i. has (s.trusted kind) i && is_valid others (s.values (vector_slot sc.sizes kind i)) && test (s.values (vector_slot sc.sizes kind i))) (numbers 16)

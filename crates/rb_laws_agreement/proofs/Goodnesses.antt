@@ -1,4 +1,5 @@
--- Good nodes: which there are, and that none becomes good again. The slot of a window, and what a slot is for.
+-- Good nodes: which there are, and that none becomes good again. The slot of a window, and what a
+-- slot is for.
 use Rattle.std.proofs.Common.{◌≡◌, ℕ, ◌+◌, ◌-◌, ◌*◌, ◌<◌, ◌≤◌, nat_lt, Bool, true, false, Option, Some, None, get_or, slice_get, if◌then◌else◌, List, refl, arith}
 use Rattle.std.proofs.lemmas.Bool.{and_from, lt-ltb, ltb-true}
 use Rattle.std.proofs.lemmas.Bool.Decides.{nat_tests}

@@ -103,7 +103,8 @@ pub record HasVoted (sc : Scenario) (hands : List HandIn) (m : Moment) (s : Shar
   pub is_value : IsValue sc hands m s slot value
   pub held : (i : ℕ) (st : NodeState) → IsGoodNode sc m (kind_in sc.sizes slot) i st → get_or st.votes slot Fault ≡ value
 
--- after stage 1 the good nodes of the other kind have what they relay. A good sender sent one value to all
+-- after stage 1 the good nodes of the other kind have what they relay. A good sender sent one value
+-- to all
 pub record GoodSent (sc : Scenario) (hands : List HandIn) (m : Moment) (slot p : ℕ) : Type 0 where
   pub value : Heard
   pub own : IsOwn sc hands m slot p value

@@ -1,5 +1,5 @@
--- A window as it is judged: whom the good nodes trust there, what each sees of each source, and what a verdict says that gives no
--- cause.
+-- A window as it is judged: whom the good nodes trust there, what each sees of each source, and
+-- what a verdict says that gives no cause.
 use Rattle.std.proofs.Common.{◌≡◌, ℕ, zero, suc, ◌<◌, ◌≤◌, ◌&&◌, ◌⊎◌, inl, inr, not, nat_le, Bool, true, false, List, [], ◌∷◌, ◌++◌, Option, Some, None, is_some, option_map, slice_get, get_or, refl, sym, ◌∙◌, ap, subst, arith}
 use Rattle.std.specs.List.{list_any}
 use Rattle.std.proofs.lemmas.List.FromFn.{get_or-map-range_with_len}

@@ -1,4 +1,5 @@
--- The moment after a window: its good nodes were good before, and each became what its close made of it.
+-- The moment after a window: its good nodes were good before, and each became what its close made
+-- of it.
 use Rattle.std.proofs.Common.{◌≡◌, ℕ, ◌+◌, ◌*◌, ◌/◌, ◌%◌, ◌<◌, true, List, length, map, Some, option_map, slice_get, sym, ◌∙◌, ap, arith}
 use Rattle.std.proofs.lemmas.Option.{same_Some, slice_get-map}
 use Rattle.std.proofs.lemmas.List.FromFn.{length-map-range_with_len}

@@ -1,5 +1,5 @@
--- The window of a moment as the nodes go through it: all in one slot and stage. What a good node says there, what it hears, and
--- how it closes the window.
+-- The window of a moment as the nodes go through it: all in one slot and stage. What a good node
+-- says there, what it hears, and how it closes the window.
 use Rattle.std.proofs.Common.{◌≡◌, ℕ, zero, suc, ◌+◌, ◌-◌, ◌*◌, ◌/◌, ◌%◌, ◌<◌, ◌≤◌, nat_le, true, false, List, [], ◌∷◌, map, Option, Some, None, option_map, option_and_then, slice_get, unwrap_or, refl, ◌∙◌, ap, arith}
 use Rattle.std.specs.Prelude.{option_to_list}
 use Rattle.std.proofs.lemmas.Bool.Decides.{nat_tests}

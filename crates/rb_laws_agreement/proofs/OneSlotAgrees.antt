@@ -1,4 +1,5 @@
--- One slot, whatever comes of the nodes that are not good: agreement, validity, and no good node is accused.
+-- One slot, whatever comes of the nodes that are not good: agreement, validity, and no good node is
+-- accused.
 use Rattle.std.proofs.Common.{◌≡◌, ℕ, zero, suc, ◌<◌, ◌≤◌, ◌&&◌, ◌⊎◌, inl, inr, Bool, true, false, List, Option, Some, None, unwrap_or, if◌then◌else◌, refl, sym, ◌∙◌, ap, subst, arith}
 use Rattle.std.specs.List.{list_any}
 use Rattle.std.proofs.lemmas.Bool.{cases_lt}

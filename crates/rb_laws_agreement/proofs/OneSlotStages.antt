@@ -1,4 +1,5 @@
--- The stages of one slot, whatever comes of the nodes that are not good: what good nodes take of each other, and what each close makes.
+-- The stages of one slot, whatever comes of the nodes that are not good: what good nodes take of
+-- each other, and what each close makes.
 use Rattle.std.proofs.Common.{◌≡◌, ℕ, suc, ◌+◌, ◌<◌, ◌≤◌, ◌==◌, ◌&&◌, inl, inr, Bool, true, false, List, length, take, Option, Some, None, is_some, slice_set, get_or, if◌then◌else◌, refl, sym, ◌∙◌, ap, subst, arith}
 use Rattle.std.proofs.lemmas.Bool.Decides.{nat_tests}
 use Rattle.std.proofs.lemmas.List.{get_or-set_same}

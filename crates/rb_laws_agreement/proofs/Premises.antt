@@ -1,5 +1,6 @@
--- What a verdict that gives no cause says of the frame so far: of each kind the trusted good nodes outnumber the others of which
--- something was taken, and of one kind none of these others was seen unlike.
+-- What a verdict that gives no cause says of the frame so far: of each kind the trusted good nodes
+-- outnumber the others of which something was taken, and of one kind none of these others was seen
+-- unlike.
 use Rattle.std.proofs.Common.{◌≡◌, ℕ, ◌+◌, ◌<◌, ◌≤◌, Bool, true, false, ◌&&◌, ◌||◌, not, if◌then◌else◌, Option, Some, None, List, refl, sym, ◌∙◌, ap, nat_lt, ◌⊎◌, inl, inr, arith}
 use Rattle.std.proofs.lemmas.Bool.{and_from, not_from_false}
 use Rattle.std.proofs.lemmas.Bool.Decides.{nat_tests}

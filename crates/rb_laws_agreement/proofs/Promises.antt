@@ -1,4 +1,5 @@
--- What follows for those who use the bus: one value for all, the owner's word, one schedule, the same convicted nodes.
+-- What follows for those who use the bus: one value for all, the owner's word, one schedule, the
+-- same convicted nodes.
 use Rattle.std.proofs.Common.{◌≡◌, ℕ, ◌&&◌, nat_lt, not, true, List, Option, Some, None, slice_get, refl, sym, ◌∙◌, ap, subst}
 use Rattle.rb_base.specs.Nodes.{has, set_of}
 use Rattle.rb_base.specs.Nodes.Side.{Biu}

@@ -1,5 +1,5 @@
--- A window below the sync slot that is settled without a breach, before which all good nodes agree: what holds of it whatever its
--- stage.
+-- A window below the sync slot that is settled without a breach, before which all good nodes agree:
+-- what holds of it whatever its stage.
 use Rattle.std.proofs.Common.{◌≡◌, ℕ, zero, suc, ◌+◌, ◌*◌, ◌<◌, true, false, List, [], ◌∷◌, length, Option, Some, is_some, slice_get, refl, sym, ◌∙◌, ap, arith}
 use Rattle.std.specs.Prelude.{IfSome}
 use Rattle.rb_base.specs.Nodes.{Side, other, has}

@@ -1,4 +1,5 @@
--- Where times are kept, good nodes begin slots near each other, and all that the bus promises holds.
+-- Where times are kept, good nodes begin slots near each other, and all that the bus promises
+-- holds.
 use Rattle.std.proofs.Common.{◌≡◌, ℕ, ◌+◌, ◌-◌, ◌*◌, ◌<◌, ◌≤◌, List, ◌∙◌, ap, arith}
 use Rattle.rb_rules.specs.declared.plan.Plan.{Plan}
 use Rattle.rb_rules.specs.Goodness.{Scenario}
@@ -15,7 +16,7 @@ use Rattle.rb_laws_agreement.proofs.FrameTimes.{first_time, begins_in_time}
 use Rattle.rb_laws_agreement.proofs.Promises.{deliver-alike, deliver-word, convict-alike}
 use Rattle.rb_laws_agreement.proofs.SlotLaws.{one-schedule, none_convicted}
 
--- so many ticks drift apart by at most this
+-- n of the longest ticks take longer than n of the shortest ones by the drift in n ticks
 ticks-drift : (plan : Plan) (n : ℕ) → plan.r < plan.u → n * longest_of plan ≡ n * shortest_of plan + drift_in plan n
 ticks-drift plan n small =
     let s : ℕ = plan.u - plan.r in

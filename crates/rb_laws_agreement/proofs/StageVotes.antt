@@ -1,4 +1,5 @@
--- The votes of one stage, under the premise: good nodes that hear one value of all good sources vote for it.
+-- The votes of one stage, under the premise: good nodes that hear one value of all good sources
+-- vote for it.
 use Rattle.std.proofs.Common.{◌≡◌, ℕ, ◌<◌, ◌≤◌, ◌&&◌, not, Bool, true, false, List, Some, is_some, ◌∙◌, arith}
 use Rattle.std.proofs.lemmas.Bool.{and_from, not_from_false}
 use Rattle.rb_base.specs.Counting.{count_if, numbers}

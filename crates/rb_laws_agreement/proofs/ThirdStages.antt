@@ -1,4 +1,5 @@
--- Stage 3 of a slot: after it the good nodes of the other kind hold the same vote, where they vote. Data slots have none.
+-- Stage 3 of a slot: after it the good nodes of the other kind hold the same vote, where they vote.
+-- Data slots have none.
 use Rattle.std.proofs.Common.{◌≡◌, ℕ, ◌+◌, ◌<◌, ◌&&◌, ◌||◌, Bool, true, false, List, inl, inr, Some, None, slice_set, get_or, if◌then◌else◌, refl, sym, ◌∙◌, ap, subst, arith}
 use Rattle.std.specs.Prelude.{IfSome}
 use Rattle.std.proofs.lemmas.List.{get_or-set_other}

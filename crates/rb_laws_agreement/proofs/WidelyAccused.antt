@@ -1,4 +1,5 @@
--- Whoever is accused by all nodes of the other kind that are good at a frame's end is convicted there.
+-- Whoever is accused by all nodes of the other kind that are good at a frame's end is convicted
+-- there.
 use Rattle.std.proofs.Common.{◌≡◌, ℕ, zero, suc, ◌+◌, ◌-◌, ◌*◌, ◌<◌, ◌≤◌, ◌&&◌, ◌||◌, nat_lt, not, true, false, List, Some, slice_get, inl, inr, refl, sym, ◌∙◌, ap, subst, arith}
 use Rattle.std.proofs.lemmas.Bool.{and_from, and_right, lt-ltb, not_from_false}
 use Rattle.rb_base.specs.Nodes.{Side, other, has}

@@ -25,7 +25,7 @@ value_in_rounds sc hands frame slot =
     let i = first_passing (λ i. is_good sc me i frame slot) (numbers 16) in
     vote_on (get_or (of_kind me (before_stage sc hands frame slot 3).nodes) i (first_state sc.sizes me)) slot
 
--- a step of the bus: a slot with its value, or the begin of the next frame at its time
+-- a step of the bus: a slot with its value, or the start of the next frame at its time
 abbrev pub bus_goes : Scenario → List HandIn → (ℕ → ℕ) → AbstractBus → AbstractBus
 bus_goes sc hands low bus =
     elim (nat_lt bus.slot (sync_slot_of sc.sizes)) [
@@ -33,7 +33,7 @@ bus_goes sc hands low bus =
       | false ↦ bus_after_frame sc.sizes (low (bus.frame + 1)) bus
     ]
 
--- the bus after so many steps, `low` being the first time of each frame
+-- the bus after a number of steps, `low` being the first time of each frame
 abbrev pub bus_in_rounds : Scenario → List HandIn → (ℕ → ℕ) → ℕ → AbstractBus
 bus_in_rounds sc hands low zero = first_bus sc.sizes (low 0)
 bus_in_rounds sc hands low (suc n) = bus_goes sc hands low (bus_in_rounds sc hands low n)
@@ -63,8 +63,8 @@ pub record IsBusSlot (sc : Scenario) (hands : List HandIn) (frame slot : ℕ) (b
   pub votes : (me : Side) (i : ℕ) (st : NodeState) → IsGoodAfter sc hands frame slot me i st → HoldsVote sc slot next me st
   pub deliveries : DeliversOn sc hands frame slot bus next
 
--- the rounds make a run of the bus, but for its times: what good nodes hold is what the bus holds, each slot is a step of it, and
--- so is the begin of each frame
+-- the rounds make a run of the bus, but for its times: what good nodes hold is what the bus holds,
+-- each slot is a step of it, and so is the start of each frame
 pub record StepsTheBus (sc : Scenario) (hands : List HandIn) (low : ℕ → ℕ) : Type 0 where
   pub before : (frame slot : ℕ) → slot ≤ sync_slot_of sc.sizes → IsSettled sc hands frame slot
       → IsBusBefore sc hands frame slot (bus_before sc hands low frame slot)

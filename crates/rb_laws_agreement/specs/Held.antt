@@ -18,14 +18,14 @@ abbrev pub last_state : ℕ → List ℕ → ℕ
 last_state state [] = state
 last_state state (next ∷ states) = last_state next states
 
--- the state that the table of BIU i holds in a frame: the last one handed to it for this frame or an earlier one, or the scenario's word if none
--- was handed to it
+-- the state that the table of BIU i holds in a frame: the last one handed to it for this frame or
+-- an earlier one, or the scenario's word if none was handed to it
 abbrev pub state_held : Scenario → List HandIn → ℕ → ℕ → ℕ
 state_held sc hands i zero = last_state (get_or sc.words i 0) (states_for i 0 hands)
 state_held sc hands i (suc frame) = last_state (state_held sc hands i frame) (states_for i (suc frame) hands)
 
--- in each complete slot whose owner is a good BIU with a table, all good BIUs deliver the state that the table holds, as a word. The owner is the
--- one in the schedule of any good node
+-- in each complete slot whose owner is a good BIU with a table, all good BIUs deliver the state
+-- that the table holds, as a word. The owner is the one in the schedule of any good node
 abbrev pub DeliverTheHeldWord : Scenario → List HandIn → Type 0
 DeliverTheHeldWord sc hands =
     (frame slot : ℕ) → slot < sync_slot_of sc.sizes → IsComplete sc hands frame slot

@@ -35,7 +35,8 @@ abbrev pub port_through : Scenario → List HandIn → ℕ → ℕ → PortState
 port_through sc hands frame zero port = port
 port_through sc hands frame (suc slot) port = with_delivery (delivered_in sc hands frame slot) (port_through sc hands frame slot port)
 
--- BIU i's port as a frame begins: its first word, then the values and hand-ins of all frames before, then those of this one
+-- BIU i's port as a frame begins: its first word, then the values and hand-ins of all frames
+-- before, then those of this one
 abbrev pub port_begun : Scenario → List HandIn → ℕ → ℕ → PortState
 port_begun sc hands i zero = with_states (states_for i 0 hands) (fresh_port (get_or sc.apps i 0) (get_or sc.words i 0))
 port_begun sc hands i (suc frame) =

@@ -1,5 +1,6 @@
--- What holds of every lawful scenario and every list of hand-ins up to the first breach of the premise on faults: in slots that
--- are complete without one, as are all before them. Of clocks only the last two laws speak, by their premise.
+-- What holds of every lawful scenario and every list of hand-ins up to the first breach of the
+-- premise on faults: in slots that are complete without one, as are all before them. Of clocks only
+-- the last two laws speak, by their premise.
 use Rattle.std.specs.Prelude.{ℕ, suc, ◌≡◌, ◌+◌, ◌<◌, ◌≤◌, ◌||◌, true, false, Some, List, slice_get}
 use Rattle.rb_base.specs.Nodes.{Side, other, has}
 use Rattle.rb_base.specs.Nodes.Side.{Biu}
@@ -41,11 +42,13 @@ GoodSendersAreHeard =
     → (p : ℕ) (st : NodeState) → IsGoodSender sc hands frame slot p st
     → HasValue sc hands frame slot (value_of_sender sc hands frame slot p st)
 
--- so all good BIUs deliver one value, and where the owner is good, the word that its application offered
+-- so all good BIUs deliver one value, and where the owner is good, the word that its application
+-- offered
 abbrev pub DeliveriesAreRight : Type 0
 DeliveriesAreRight = (sc : Scenario) (hands : List HandIn) → IsLawful sc → DeliverAlike sc hands × DeliverTheWord sc hands
 
--- all good nodes trust the same nodes of each kind, in each complete slot and at the begin of each frame
+-- all good nodes trust the same nodes of each kind, in each complete slot and at the start of each
+-- frame
 abbrev pub TrustAlike : Scenario → List HandIn → Type 0
 TrustAlike sc hands =
     (frame slot : ℕ) → slot ≤ sync_slot_of sc.sizes → IsSettled sc hands frame slot
@@ -71,7 +74,7 @@ NoGoodNodeIsAccused =
     → (frame slot : ℕ) → slot ≤ sync_slot_of sc.sizes → IsComplete sc hands frame slot
     → (me : Side) (i : ℕ) (st : NodeState) → IsGoodAfter sc hands frame slot me i st → SparesAllGood sc frame slot me st
 
--- no good node is convicted, in a complete slot or at the begin of a frame
+-- no good node is convicted, in a complete slot or at the start of a frame
 abbrev pub NoGoodNodeIsConvicted : Type 0
 NoGoodNodeIsConvicted = (sc : Scenario) (hands : List HandIn) → IsLawful sc → ConvictNoGoodNode sc hands
 
@@ -93,7 +96,8 @@ UnheardNodesHaveNoVector =
 abbrev pub Accuses : Standing → ℕ → Type 0
 Accuses s j = (has s.direct j || has s.mismatch j) ≡ true
 
--- each node of the other kind that is good in the frame's sync slot accuses node j when it sends its vector
+-- each node of the other kind that is good in the frame's sync slot accuses node j when it sends
+-- its vector
 abbrev pub IsAccusedByAll : Scenario → List HandIn → ℕ → Side → ℕ → Type 0
 IsAccusedByAll sc hands frame accused j =
     (i : ℕ) (st : NodeState) → is_good sc (other accused) i frame (sync_slot_of sc.sizes) ≡ true
@@ -121,7 +125,8 @@ PortsFollowTheBus =
     → (i : ℕ) → is_good sc Biu i frame slot ≡ true
     → port_at sc (after_slot sc hands frame slot).ports i ≡ port_through sc hands frame (suc slot) (port_begun sc hands i frame)
 
--- after each complete slot good BIUs with one application, one first word and equal hand-ins have equal ports
+-- after each complete slot good BIUs with one application, one first word and equal hand-ins have
+-- equal ports
 abbrev pub GoodPortsAgree : Scenario → List HandIn → Type 0
 GoodPortsAgree sc hands =
     (frame slot : ℕ) → slot ≤ sync_slot_of sc.sizes → IsComplete sc hands frame slot

@@ -1,5 +1,6 @@
--- One slot below the sync slot, stage by stage, whatever comes of the nodes that are not good: agreement, validity, and that no
--- good node is accused. There are no clocks, links and bytes in it: what came of a node is its sense, and all bytes have one.
+-- One slot below the sync slot, stage by stage, whatever comes of the nodes that are not good:
+-- agreement, validity, and that no good node is accused. There are no clocks, links and bytes in
+-- it: what came of a node is its sense, and all bytes have one.
 use Rattle.std.specs.Prelude.{ℕ, zero, suc, ◌≡◌, ◌+◌, ◌<◌, ◌≤◌, ◌&&◌, not, Bool, true, false, Option, Some, None, is_some, List, length, ◌⊎◌}
 use Rattle.rb_base.specs.Counting.{count_if, numbers}
 use Rattle.rb_base.specs.Nodes.{Side, other, has}
@@ -25,7 +26,8 @@ use Rattle.rb_laws_agreement.specs.Values.{vote_on}
 abbrev pub GoodOutnumber : (ℕ → Bool) → (ℕ → Option Heard) → Type 0
 GoodOutnumber good takes = count_if (λ j. not (good j) && is_some (takes j)) (numbers 16) < count_if good (numbers 16)
 
--- validity of a vote: where each good source says this value, and they outnumber the others, it is the vote
+-- validity of a vote: where each good source says this value, and they outnumber the others, it is
+-- the vote
 abbrev pub VotesAreValid : Type 0
 VotesAreValid =
     (s : Standing) (expected : ℕ → Bool) (sense : ℕ → Sense) (good : ℕ → Bool) (value : Heard)
@@ -56,7 +58,7 @@ abbrev pub closes_in : Exchange → ℕ → Side → ℕ → NodeState → Outco
 closes_in x stage me i st =
     close_exact x.sizes me i (keep_sent x.sizes me i st x.slot stage (x.word i)) x.slot stage (x.came stage me i)
 
--- its state after so many stages
+-- the state of node i of kind me after its first q stages
 unfoldable pub state_after : Exchange → ℕ → Side → ℕ → NodeState
 state_after x zero me i = x.before me i
 state_after x (suc q) me i = (closes_in x (q + 1) me i (state_after x q me i)).state
@@ -78,15 +80,16 @@ pub record IsSpared (s : Standing) (j : ℕ) : Type 0 where
   pub direct : has s.direct j ≡ false
   pub mismatch : has s.mismatch j ≡ false
 
--- a good node before the slot trusts the nodes that all good ones trust, holds their owners of data slots, has a place for its
--- vote, and accuses no good node
+-- a good node before the slot trusts the nodes that all good ones trust, holds their owners of data
+-- slots, has a place for its vote, and accuses no good node
 pub record HoldsAlike (x : Exchange) (trusted : Side → ℕ) (owners : List ℕ) (me : Side) (i : ℕ) : Type 0 where
   pub trusts : (kind : Side) → trusted_of kind me (x.before me i) ≡ trusted kind
   pub owners_are : (x.before me i).owners ≡ owners
   pub has_place : x.slot < length (x.before me i).votes
   pub spares : (j : ℕ) → x.good (other me) j ≡ true → IsSpared (x.before me i).far j
 
--- all good nodes hold alike and trust the good ones, and get in each stage what good nodes say. Of the others anything may come
+-- all good nodes hold alike and trust the good ones, and get in each stage what good nodes say. Of
+-- the others anything may come
 pub record IsExchange (x : Exchange) (trusted : Side → ℕ) (owners : List ℕ) : Type 0 where
   pub shape : IsShape x.sizes
   pub below : x.slot < sync_slot_of x.sizes
@@ -103,8 +106,8 @@ NoneIsAsymmetric x kind =
     (q a b j : ℕ) → q < 3 → x.good (other kind) a ≡ true → x.good (other kind) b ≡ true → x.good kind j ≡ false
     → takes_after x q (other kind) a j ≡ takes_after x q (other kind) b j
 
--- the premise on faults: in stages 2 and 3 good sources outnumber all others of which a good node takes something, and of one kind
--- no node is asymmetric
+-- the premise on faults: in stages 2 and 3 good sources outnumber all others of which a good node
+-- takes something, and of one kind no node is asymmetric
 pub record KeepsPremise (x : Exchange) : Type 0 where
   pub most : (q : ℕ) (me : Side) (i : ℕ) → 1 ≤ q → q < 3 → x.good me i ≡ true
       → GoodOutnumber (x.good (other me)) (takes_after x q me i)

@@ -35,9 +35,9 @@ abbrev pub lines_in : Scenario → ℕ → ℕ → Option ℕ → Heard → List
 lines_in sc frame slot None value = []
 lines_in sc frame slot (Some owner) value = lines_of sc frame slot owner value
 
--- the value is the slot's: the good nodes of the kind that sends have voted for it after stage 2, and after stage 3 all good
--- nodes that vote on the slot; and the slot's record has it, by whichever good node's schedule. There is a good voter, so a slot
--- has one value
+-- the value is the slot's: the good nodes of the kind that sends have voted for it after stage 2,
+-- and after stage 3 all good nodes that vote on the slot; and the slot's record has it, by
+-- whichever good node's schedule. There is a good voter, so a slot has one value
 pub record HasValue (sc : Scenario) (hands : List HandIn) (frame slot : ℕ) (value : Heard) : Type 0 where
   pub some_voter : (i : ℕ) × ((st : NodeState) × IsGoodVoter sc hands frame slot i st)
   pub voters : (i : ℕ) (st : NodeState) → IsGoodVoter sc hands frame slot i st → vote_on st slot ≡ value

@@ -90,7 +90,7 @@ pub fn held_words_are_delivered()
 {}
 
 /// What good nodes hold is what the abstract bus holds, each slot is a step of it, and so is the
-/// begin of each frame. Of its times nothing is said.
+/// start of each frame. Of its times nothing is said.
 pub fn rounds_step_the_bus()
     ensures { RoundsStepTheBus }
 {}

@@ -1,4 +1,4 @@
--- A frame begins with its record. Where no BIU is good at its begin, the run ends there.
+-- A frame begins with its record. Where no BIU is good at its start, the run ends there.
 use Rattle.std.proofs.Common.{◌≡◌, ℕ, zero, suc, ◌+◌, ◌-◌, ◌*◌, ◌<◌, ◌≤◌, ◌==◌, nat_lt, Bool, true, false, inl, inr, Option, Some, None, List, [], ◌∷◌, ◌++◌, append_assoc, length, slice_get, option_map, refl, sym, ◌∙◌, ap, subst, arith}
 use Rattle.std.proofs.Math.Nat.{add-sub_of_le}
 use Rattle.std.proofs.lemmas.Bool.{cases_lt, le-ltb, lt-ltb}
@@ -49,7 +49,7 @@ stage-gives sc place rows b going none =
 end-gives : (b : Book) → b.ended ≡ false → (with_end b).given ≡ b.given ++ Ended ∷ []
 end-gives b going = ap (λ e. (elim e as (λ _. Book) [ true ↦ b | false ↦ record b { given = b.given ++ Ended ∷ []; ended = true } ]).given) going
 
--- The begin of a frame.
+-- The start of a frame.
 
 -- what is told of the frame after this moment's by those who begin it
 abbrev begun_next : Scenario → Moment → List Begun

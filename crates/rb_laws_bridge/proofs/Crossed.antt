@@ -1,4 +1,5 @@
--- Words cross a bridge: sound pairs carry the near bus's word, offer it on the far bus, and outvote the others.
+-- Words cross a bridge: sound pairs carry the near bus's word, offer it on the far bus, and outvote
+-- the others.
 use Rattle.std.proofs.Common.{◌≡◌, ℕ, zero, suc, ◌+◌, ◌-◌, ◌*◌, ◌^◌, ◌<◌, ◌≤◌, ◌==◌, ◌&&◌, not, All, Bool, true, false, inl, inr, Option, Some, None, is_some, List, [], ◌∷◌, if◌then◌else◌, refl, sym, ◌∙◌, ap, subst, arith}
 use Rattle.std.specs.List.{list_any, range_with_len}
 use Rattle.std.proofs.lemmas.Bool.{and_from, cases_lt, not-true}

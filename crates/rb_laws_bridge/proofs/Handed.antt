@@ -114,7 +114,7 @@ carried-alike b bank frame k =
         ap (λ hands. port_deliveries frame i (records_of (bus_on b near) hands)) more.is
         ∙ deliveries-alike (bus_on b near) (hands_on near (hands_up_to b frame)) more.more frame more.late i
 
--- Those for one frame.
+-- The hand-ins for one frame.
 
 abbrev for_next : ℕ → List HandIn → List HandIn
 for_next frame hs = filter (λ h. h.frame == frame + 1) hs

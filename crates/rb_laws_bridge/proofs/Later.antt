@@ -16,7 +16,7 @@ use Rattle.rb_laws_events.proofs.MomentBooks.{number-of}
 use Rattle.rb_group.specs.Portions.{deliveries_in, port_deliveries}
 use Rattle.rb_laws_groups.proofs.Added.{step-tells, told-more, told_in}
 
--- The same moments.
+-- Moments of the run.
 
 -- each of these is for a later frame
 abbrev pub AreLater : ℕ → List HandIn → Type 0

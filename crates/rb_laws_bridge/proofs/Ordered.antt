@@ -27,7 +27,8 @@ use Rattle.rb_laws_bridge.proofs.Later.{past_frame, told-after}
 
 -- What a step adds.
 
--- the second book has this record more, of a frame that is at most this one, and after each earlier one of the run
+-- the second book has this record more, of a frame that is at most this one, and after each earlier
+-- one of the run
 record HasOneMore (sc : Scenario) (frame : ℕ) (a b : Book) (r : Record) : Type 0 where
   pub given : b.given ≡ a.given ++ r ∷ []
   pub upper : frame_told sc.frames r ≤ frame
@@ -183,7 +184,7 @@ given-at sc hands records rest r (suc n) are =
           (λ more e. given-later sc hands records r n (given-at sc hands records more r n e))
     ]
 
--- So all is told.
+-- All records are told in order.
 
 pub told-in-order : FramesAreToldInOrder
 told-in-order sc hands records rest r frame are later =

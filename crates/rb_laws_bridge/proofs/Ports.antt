@@ -1,4 +1,5 @@
--- A table that is handed one word as a frame begins offers it through the frame, and each BIU of the bridge is handed one word.
+-- A table that is handed one word as a frame begins offers it through the frame, and each BIU of
+-- the bridge is handed one word.
 use Rattle.std.proofs.Common.{◌≡◌, ℕ, suc, ◌+◌, ◌^◌, ◌%◌, ◌<◌, ◌≤◌, ◌==◌, ◌&&◌, Bool, true, false, inl, inr, cond, eqb, List, [], ◌∷◌, filter, map, get_or, refl, sym, ◌∙◌, ap, arith}
 use Rattle.std.specs.List.{IsDistinct}
 use Rattle.std.proofs.lemmas.Bool.Decides.{nat_tests}
@@ -19,7 +20,8 @@ use Rattle.rb_rules_bridge.specs.Crossings.{hand_in_of, hands_of, hands_on, word
 use Rattle.rb_laws_bridge.proofs.Counted.{IsIn, later-apart}
 use Rattle.rb_laws_bridge.proofs.Handed.{hand-ins-are-carried}
 
--- A table that is handed one word as a frame begins offers that word in every slot of the frame but the first.
+-- A table that is handed one word as a frame begins offers that word in every slot of the frame but
+-- the first.
 pub table-offers : (sc : Scenario) (hands : List HandIn) → IsLawful sc → (frame slot i word : ℕ) → 1 ≤ slot → slot ≤ sync_slot_of sc.sizes → IsComplete sc hands (suc frame) slot
     → is_good sc Biu i (suc frame) slot ≡ true → get_or sc.apps i 0 ≡ 0 → states_for i (suc frame) hands ≡ word ∷ [] → word < 2 ^ 32
     → offered_in sc hands (suc frame) slot i ≡ word

@@ -1,4 +1,5 @@
--- The first records of a run, up to a frame, stay the first, whatever is handed in for later frames.
+-- The first records of a run, up to a frame, stay the first, whatever is handed in for later
+-- frames.
 use Rattle.std.proofs.Common.{◌≡◌, ℕ, zero, suc, ◌+◌, ◌-◌, ◌*◌, ◌<◌, ◌≤◌, ◌⊎◌, true, inl, inr, List, [], ◌∷◌, ◌++◌, append_assoc, refl, sym, ◌∙◌, ap, subst, arith}
 use Rattle.std.proofs.Math.Nat.{add-sub_of_le}
 use Rattle.std.proofs.lemmas.Bool.{cases_lt}
@@ -115,7 +116,8 @@ records-stay sc hands more records frame late first upto =
 pub earlier-stay : EarlierRecordsStay
 earlier-stay sc hands more records frame late first upto = records-stay sc hands more records frame (are-later frame more late) first upto
 
--- So the first records of a bus of a bridge, up to a frame, are those with what was handed in up to its begin.
+-- The first records of a bus of a bridge, up to a frame, are those with what was handed in up to
+-- its start.
 pub first-crossed : (b : Bridge) (bank : Bank) (frame : ℕ) (records : List Record) → frame ≤ b.left.frames → IsPrefix records (records_on b (hands_up_to b frame) bank)
     → AreUpTo (bus_on b bank).frames frame records → AreFirstOf records (records_on b (hands_of b) bank)
 first-crossed b bank frame records le first upto =

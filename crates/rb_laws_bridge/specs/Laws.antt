@@ -1,4 +1,5 @@
--- What is proved of a bridge: what is handed in comes from the records as they are in the end, and words cross.
+-- What is proved of a bridge: what is handed in comes from the records as they are in the end, and
+-- words cross.
 use Rattle.std.specs.Prelude.{ℕ, ◌≡◌, ◌⊎◌, ◌+◌, ◌<◌, ◌≤◌, ◌==◌, ◌&&◌, not, All, Bool, true, false, Option, Some, None, is_some, List, [], ◌∷◌, ◌++◌, filter}
 use Rattle.rb_base.specs.Counting.{count_if}
 use Rattle.rb_base.specs.Nodes.Side.{Biu}
@@ -24,7 +25,8 @@ use Rattle.rb_rules_bridge.specs.Texts.{break_in}
 
 -- What is handed in.
 
--- what is handed in for later frames changes nothing that a port delivers in a frame, nor a breach in it
+-- what is handed in for later frames changes nothing that a port delivers in a frame, nor a breach
+-- in it
 pub record TellsTheSame (sc : Scenario) (hands more : List HandIn) (frame : ℕ) : Type 0 where
   pub deliveries : (receiver : ℕ) → port_deliveries frame receiver (records_of sc (hands ++ more)) ≡ port_deliveries frame receiver (records_of sc hands)
   pub breach : (bank : Bank) → break_in bank frame (records_of sc (hands ++ more)) ≡ break_in bank frame (records_of sc hands)
@@ -33,7 +35,8 @@ abbrev pub LaterHandInsTellNothing : Type 0
 LaterHandInsTellNothing =
     (sc : Scenario) (hands more : List HandIn) (frame : ℕ) → All (λ h. frame < h.frame) more → TellsTheSame sc hands more frame
 
--- so what is said of a frame of a bridge, and what it carries over, goes by what was handed in up to its begin alone
+-- so what is said of a frame of a bridge, and what it carries over, goes by what was handed in up
+-- to its start alone
 pub record GoesByTheEarlier (b : Bridge) (bank : Bank) (frame : ℕ) : Type 0 where
   pub values : (receiver : ℕ) → crossing_value b bank frame receiver
       ≡ value_at Most (members_on b bank) (records_on b (hands_up_to b frame) bank) frame receiver
@@ -43,13 +46,14 @@ pub record GoesByTheEarlier (b : Bridge) (bank : Bank) (frame : ℕ) : Type 0 wh
 abbrev pub FramesGoByTheEarlier : Type 0
 FramesGoByTheEarlier = (b : Bridge) (bank : Bank) (frame : ℕ) → frame ≤ b.left.frames → GoesByTheEarlier b bank frame
 
--- and what is handed in for a frame is what the frame before it carries over, by the records of both buses with all that is handed in
+-- and what is handed in for a frame is what the frame before it carries over, by the records of
+-- both buses with all that is handed in
 abbrev pub HandInsAreCarried : Type 0
 HandInsAreCarried =
     (b : Bridge) (bank : Bank) (frame : ℕ) → frame < b.left.frames
     → filter (λ h. h.frame == frame + 1) (hands_on bank (hands_of b)) ≡ carried_to b (hands_of b) bank frame
 
--- Of a record: its frame. That of the end is the one after all `frames` of the run
+-- the frame of a record. That of the end is the one after all `frames` of the run
 abbrev pub frame_told : ℕ → Record → ℕ
 frame_told frames (Frame frame nodes ports) = frame
 frame_told frames (Slot frame slot lines) = frame
@@ -74,13 +78,13 @@ ends_run (Slot frame slot lines) = false
 ends_run Ended = true
 ends_run (Breach place cause) = true
 
--- no BIU is good at a frame's begin, and the run ends with this record of the frame
+-- no BIU is good at a frame's start, and the run ends with this record of the frame
 pub record EndsDeserted (sc : Scenario) (frame : ℕ) (r : Record) : Type 0 where
   pub nobody : (i : ℕ) → is_good sc Biu i frame 0 ≡ false
   pub last : ends_run r ≡ true
   pub its : frame_told sc.frames r ≡ frame
 
--- the frame begins with this record; or no BIU is good at its begin, and the run ends
+-- the frame begins with this record; or no BIU is good at its start, and the run ends
 abbrev pub BeginsOrEnds : Scenario → ℕ → Record → Type 0
 BeginsOrEnds sc frame r = (frame_in (Some r) ≡ Some frame) ⊎ EndsDeserted sc frame r
 
@@ -88,19 +92,21 @@ BeginsOrEnds sc frame r = (frame_in (Some r) ≡ Some frame) ⊎ EndsDeserted sc
 abbrev pub AreUpTo : ℕ → ℕ → List Record → Type 0
 AreUpTo frames frame records = (before after : List Record) (r : Record) → records ≡ before ++ r ∷ after → frame_told frames r ≤ frame
 
--- so the first record of a later frame is the one with which the next frame begins, and where no BIU is good there, the last
+-- so the first record of a later frame is the one with which the next frame begins, and where no
+-- BIU is good there, the last
 abbrev pub FramesBeginInOrder : Type 0
 FramesBeginInOrder =
     (sc : Scenario) → IsLawful sc → (hands : List HandIn) (records rest : List Record) (r : Record) (frame : ℕ)
     → records_of sc hands ≡ records ++ r ∷ rest → AreUpTo sc.frames frame records → frame < frame_told sc.frames r → frame < sc.frames
     → BeginsOrEnds sc (frame + 1) r
 
--- These are the first records of a run. Where the last of them ends a run, they are all
+-- `records` are the first records of a run. If the last of them ends a run, they are all
 pub record AreFirstOf (records run : List Record) : Type 0 where
   pub first : IsPrefix records run
   pub whole : (before : List Record) (r : Record) → records ≡ before ++ r ∷ [] → ends_run r ≡ true → run ≡ records
 
--- so the first records of a run, up to a frame, stay the first, whatever is handed in for later frames
+-- so the first records of a run, up to a frame, stay the first, whatever is handed in for later
+-- frames
 abbrev pub EarlierRecordsStay : Type 0
 EarlierRecordsStay =
     (sc : Scenario) (hands more : List HandIn) (records : List Record) (frame : ℕ) → All (λ h. frame < h.frame) more
@@ -134,7 +140,8 @@ is_good_through sc frame i = is_good sc Biu i frame (sync_slot_of sc.sizes)
 abbrev pub counts_on : Bridge → Bank → (ℕ → Option ℕ) → Pair → Bool
 counts_on b bank owner pair = is_some (first_slot (bus_on b bank).sizes owner (biu_on bank pair))
 
--- and it is good in the whole frame after this one, as the pair's BIU across the bridge is in this one
+-- and it is good in the whole frame after this one, as the pair's BIU across the bridge is in this
+-- one
 abbrev pub is_sound : Bridge → Bank → (ℕ → Option ℕ) → ℕ → Pair → Bool
 is_sound b bank owner frame pair =
     counts_on b bank owner pair && (is_good_through (bus_on b bank) (frame + 1) (biu_on bank pair)
@@ -145,11 +152,13 @@ unfoldable pub SoundPairsOutnumber : Bridge → Bank → (ℕ → Option ℕ) �
 SoundPairsOutnumber b bank owner frame =
     count_if (λ pair. counts_on b bank owner pair && not (is_sound b bank owner frame pair)) b.pairs < count_if (is_sound b bank owner frame) b.pairs
 
--- the word that the bus on a bank delivered in its carried slot of a frame, or 0 where it delivered none
+-- the word that the bus on a bank delivered in its carried slot of a frame, or 0 where it delivered
+-- none
 abbrev pub word_on : Bridge → Bank → ℕ → ℕ
 word_on b bank frame = word_of (delivered_in (bus_on b bank) (hands_on bank (hands_of b)) frame (carried_slot b bank))
 
--- then in the next frame each BIU on the far bank that is good in all of it finds the word of the near bus
+-- then in the next frame each BIU on the far bank that is good in all of it finds the word of the
+-- near bus
 abbrev pub WordsCrossOn : Bridge → Type 0
 WordsCrossOn b =
     (bank : Bank) (frame : ℕ) → AreUnbroken b (frame + 1)

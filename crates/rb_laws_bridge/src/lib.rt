@@ -9,8 +9,8 @@ pub fn later_hand_ins_tell_nothing()
     ensures { LaterHandInsTellNothing }
 {}
 
-/// So what is said of a frame of a bridge, and what it carries over, goes by what was handed in up
-/// to the frame's begin alone.
+/// What is said of a frame of a bridge, and what it carries over, depends only on what was handed
+/// in up to the frame's start.
 pub fn frames_go_by_the_earlier()
     ensures { FramesGoByTheEarlier }
 {}
@@ -28,7 +28,7 @@ pub fn frames_are_told_in_order()
 {}
 
 /// In every lawful scenario, once a record of a later frame is given, the next frame begins with
-/// it. Where no BIU is good at that frame's begin, it is the last of the run, so nothing is handed
+/// it. Where no BIU is good at that frame's start, it is the last of the run, so nothing is handed
 /// in there.
 pub fn frames_begin_in_order()
     ensures { FramesBeginInOrder }

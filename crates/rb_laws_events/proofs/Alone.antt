@@ -1,5 +1,5 @@
--- For the law that events are rounds: where no node is good any more, what is settled by itself leaves nothing that waits
--- for an event.
+-- For the law that events are rounds: where no node is good any more, what is settled by itself
+-- leaves nothing that waits for an event.
 use Rattle.std.proofs.Common.{◌≡◌, ℕ, zero, suc, ◌+◌, ◌*◌, ◌<◌, ◌≤◌, ◌==◌, ◌&&◌, ◌⊎◌, not, nat_lt, Bool, true, false, List, [], ◌∷◌, ◌++◌, length, refl, ap, sym, ◌∙◌, subst, arith, inl, inr, Option, Some, None, slice_get, if◌then◌else◌}
 use Rattle.std.proofs.lemmas.Bool.{and_parts, cases_lt, eqb-true}
 use Rattle.rb_base.specs.Nodes.{Side, has}
@@ -104,7 +104,7 @@ settled-alone sc sites b (Stage place) shape going h = by (book_with sc sites b 
     by false e = inr (ap (needs_no_event sc) (stage-book-next sc place _ b e) ∙ after-alone sc place shape h)
 settled-alone sc sites b End shape going h = inl (ended-end b)
 
--- no node is beyond the begin of a frame at which nobody is good
+-- no node is beyond the start of a frame at which nobody is good
 near-alone : (sc : Scenario) (hands : List HandIn) (at : Side → ℕ → ℕ) (sites : Each Site) (frame : ℕ) → IsShape sc.sizes → nobody_good sc frame 0 ≡ true → AllTold sc hands at sites
     → (me : Side) (i : ℕ) (s : Site) → slice_get (of_kind me sites) i ≡ Some s → at me i ≤ frame * (windows_in sc.sizes + 1) + 1
 near-alone sc hands at sites frame shape h told me i s there =

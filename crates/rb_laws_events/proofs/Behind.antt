@@ -1,5 +1,5 @@
--- For the law that events are rounds: while the book waits for a milestone, some node that runs has not passed it, so none closes what comes
--- after it.
+-- For the law that events are rounds: while the book waits for a milestone, some node that runs has
+-- not passed it, so none closes what comes after it.
 use Rattle.std.proofs.Common.{◌≡◌, ℕ, suc, ◌+◌, ◌*◌, ◌-◌, ◌%◌, ◌<◌, ◌≤◌, ◌==◌, ◌⊎◌, Bool, true, false, List, refl, ap, sym, ◌∙◌, subst, arith, inl, inr, Option, Some, None, is_some, slice_get, if◌then◌else◌}
 use Rattle.std.proofs.lemmas.Bool.{cases_lt, eq-eqb, le-ltb, lt-ltb, true≢false}
 use Rattle.std.proofs.lemmas.Nat.{mul-le}
@@ -40,7 +40,8 @@ use Rattle.rb_laws_events.proofs.ToldSoFar.{AllHaveTold, HasTold, PendsFirst}
 use Rattle.rb_laws_events.proofs.Untold.{HasNotTold, not-told}
 use Rattle.rb_laws_events.proofs.WorldStands.{AllPend, IsDown, IsUp, SitesStand, sent_by}
 
--- a node that runs has not passed moment n: it stands in an earlier one, or in this, before the frame's first tick
+-- a node that runs has not passed moment n: it stands in an earlier one, or in this, before the
+-- frame's first tick
 pub record IsBehind (sc : Scenario) (hands : List HandIn) (at : Side → ℕ → ℕ) (sites : Each Site) (n : ℕ) : Type 0 where
   pub me : Side
   pub i : ℕ

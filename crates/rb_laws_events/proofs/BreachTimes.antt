@@ -1,5 +1,6 @@
--- For the law that events are rounds where the premise on faults is broken in a sync slot: in the window
--- in which the run breaks off a node that is good in the next frame knows when that begins, whatever the verdict.
+-- For the law that events are rounds where the premise on faults is broken in a sync slot: in the
+-- window in which the run breaks off a node that is good in the next frame knows when that starts,
+-- whatever the verdict.
 use Rattle.std.proofs.Common.{◌≡◌, ℕ, suc, ◌+◌, ◌<◌, ◌≤◌, true, List, refl, ap, sym, ◌∙◌, subst, arith, Option, Some, None, is_some, slice_get}
 use Rattle.std.proofs.lemmas.Option.{same_Some}
 use Rattle.rb_base.specs.Nodes.{Side}
@@ -68,7 +69,8 @@ turned sc hands lawful p over me i now h =
           (sym (state-turned sc hands m me i old.0 old.1) ∙ ap (λ nodes. slice_get (of_kind me nodes) i) (sym next.nodes) ∙ h.there);
     }
 
--- a node that is good in the first window of a frame knew its epoch after the last stage of the frame before
+-- a node that is good in the first window of a frame knew its epoch after the last stage of the
+-- frame before
 pub record KnewThen (sc : Scenario) (m : Moment) (me : Side) (i epoch : ℕ) : Type 0 where
   pub st : NodeState
   pub node : IsGoodNode sc m me i st

@@ -1,5 +1,6 @@
--- For the law that events are rounds where the premise on faults is broken in a sync slot: once a good node closes a stage of
--- the sync slot, all others that stand in it wait for its last tick; and at that tick they tell what the rounds tell.
+-- For the law that events are rounds where the premise on faults is broken in a sync slot: once a
+-- good node closes a stage of the sync slot, all others that stand in it wait for its last tick;
+-- and at that tick they tell what the rounds tell.
 use Rattle.std.proofs.Common.{◌≡◌, ℕ, ◌+◌, ◌*◌, ◌<◌, ◌≤◌, ◌==◌, ◌⊎◌, Bool, true, false, List, [], refl, ap, sym, ◌∙◌, subst, arith, inl, inr, Some, slice_get}
 use Rattle.std.proofs.lemmas.Bool.{cases_lt}
 use Rattle.std.proofs.lemmas.Bool.Decides.{nat_tests}

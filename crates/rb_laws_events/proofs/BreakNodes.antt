@@ -1,4 +1,5 @@
--- For the law that events are rounds: what is asked of the nodes of a world in which the run breaks off in a sync slot.
+-- For the law that events are rounds: what is asked of the nodes of a world in which the run breaks
+-- off in a sync slot.
 use Rattle.std.proofs.Common.{◌≡◌, ℕ, suc, ◌+◌, ◌*◌, ◌<◌, ◌≤◌, ◌⊎◌, Bool, true, List, Some, slice_get}
 use Rattle.rb_base.specs.Nodes.{Side}
 use Rattle.rb_base.specs.Sizes.{sync_slot_of}
@@ -53,8 +54,9 @@ pub record FirstOf (sc : Scenario) (hands : List HandIn) (b t : ℕ) : Type 0 wh
   pub good : is_good_at sc (moment sc hands b) you j ≡ true
   pub first : t ≤ time_of (clock_of sc you j) (last_tick sc (moment sc hands b) you yours)
 
--- what the nodes keep, N, where the run breaks off with stage q: it begins with the first close of the stage, each node that is good then waits for
--- its last tick of it or has told its row, and events keep it
+-- what the nodes keep, N, where the run breaks off with stage q: it begins with the first close of
+-- the stage, each node that is good then waits for its last tick of it or has told its row, and
+-- events keep it
 pub record KeepsNodes (sc : Scenario) (q : ℕ) (N : List HandIn → ℕ → (Side → ℕ → ℕ → Bool) → Each Site → Type 0) : Type 0 where
   pub begins : (hands : List HandIn) (b : ℕ) → BreaksAt sc hands b q → (now : ℕ) (at : Side → ℕ → ℕ) (sites : Each Site) (t : ℕ) → FirstCloses sc hands now at sites b t
       → N hands b (sent_by sc hands at sites) sites
@@ -69,7 +71,8 @@ pub record KeepsNodes (sc : Scenario) (q : ℕ) (N : List HandIn → ℕ → (Si
   pub arrival : (hands : List HandIn) (b : ℕ) → BreaksAt sc hands b q → (sent : Side → ℕ → ℕ → Bool) (sites : Each Site) → N hands b sent sites
       → (me : Side) (i n : ℕ) (c : Coming) (s : Site) → (is_good_at sc (moment sc hands b) me i ≡ true → Moves (clock_of sc me i)) → slice_get (of_kind me sites) i ≡ Some s → StandsAt n c s.coming
       → ((a : Timed) → s.ahead ≡ Some a → ArrivesNow n c s a) → FirstOf sc hands b c.time → N hands b sent (at_node me i (after_arrival sc me i n c) sites)
-  -- a node at which something may happen was good then, and its next tick comes after those that it has had
+  -- a node at which something may happen was good then, and its next tick comes after those that it
+  -- has had
   pub goes : (hands : List HandIn) (b : ℕ) → BreaksAt sc hands b q → (sent : Side → ℕ → ℕ → Bool) (sites : Each Site) → N hands b sent sites → (me : Side) (i : ℕ) (s : Site)
       → slice_get (of_kind me sites) i ≡ Some s → HasStopped s ⊎ (is_good_at sc (moment sc hands b) me i ≡ true)
   pub ahead : (hands : List HandIn) (b : ℕ) → BreaksAt sc hands b q → (sent : Side → ℕ → ℕ → Bool) (sites : Each Site) → N hands b sent sites → (me : Side) (i : ℕ) (s : Site)

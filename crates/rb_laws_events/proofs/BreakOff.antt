@@ -1,5 +1,5 @@
--- For the law that events are rounds: worlds in which the run breaks off in a sync slot. The book stays until all that are good have told of the
--- stage, and then it is the rounds', and has ended.
+-- For the law that events are rounds: worlds in which the run breaks off in a sync slot. The book
+-- stays until all that are good have told of the stage, and then it is the rounds', and has ended.
 use Rattle.std.proofs.Common.{◌≡◌, ℕ, suc, ◌+◌, ◌^◌, ◌<◌, ◌≤◌, ◌==◌, ◌&&◌, ◌⊎◌, Bool, true, false, List, length, refl, ap, sym, ◌∙◌, subst, arith, inl, inr, Option, Some, None, slice_get, if◌then◌else◌}
 use Rattle.std.proofs.lemmas.Bool.{and_from, and_right, cases_lt, lt-ltb, not_from_false}
 use Rattle.rb_base.specs.Nodes.{Side, other}
@@ -43,7 +43,8 @@ use Rattle.rb_laws_events.proofs.UpToThere.{UpTo, from-running}
 use Rattle.rb_laws_events.proofs.WorldBooks.{happens-book, settle_rest}
 use Rattle.rb_laws_events.proofs.WorldStands.{AllPend, IsUp, sent_by}
 
--- a world in which the run breaks off with stage q at moment b, and some good node has not told of the stage
+-- a world in which the run breaks off with stage q at moment b, and some good node has not told of
+-- the stage
 pub record BreakStands (sc : Scenario) (N : ℕ → List HandIn → ℕ → (Side → ℕ → ℕ → Bool) → Each Site → Type 0) (hands : List HandIn) (sites : Each Site) (book : Book) : Type 0 where
   pub b : ℕ
   pub q : ℕ

@@ -1,5 +1,5 @@
--- For the law that cores follow the rounds: ports where the run breaks off. The port of a BIU stays that of the rounds before the breaking stage
--- until the BIU has had its last tick of the stage.
+-- For the law that cores follow the rounds: ports where the run breaks off. The port of a BIU stays
+-- that of the rounds before the breaking stage until the BIU has had its last tick of the stage.
 use Rattle.std.proofs.Common.{◌≡◌, ℕ, ◌+◌, ◌<◌, ◌≤◌, ◌==◌, ◌⊎◌, Bool, true, false, refl, ap, sym, ◌∙◌, subst, arith, inl, inr, List, [], Option, Some, None, slice_get, option_and_then}
 use Rattle.std.proofs.lemmas.Bool.{cases_lt}
 use Rattle.std.proofs.lemmas.Bool.Decides.{nat_tests}

@@ -1,4 +1,5 @@
--- For the law that every run ends: as long as a node waits for its last tick of the stage with which the run breaks off, no other has had all its ticks.
+-- For the law that every run ends: as long as a node waits for its last tick of the stage with
+-- which the run breaks off, no other has had all its ticks.
 use Rattle.std.proofs.Common.{◌≡◌, ℕ, ◌+◌, ◌-◌, ◌*◌, ◌^◌, ◌<◌, ◌≤◌, true, List, ap, ◌∙◌, arith, inl, inr, lit≤}
 use Rattle.std.proofs.lemmas.Bool.{cases_lt}
 use Rattle.std.proofs.lemmas.Nat.{mul-le}

@@ -1,5 +1,6 @@
--- For the law that events are rounds: an event in a world in which the run breaks off in a sync slot. Until all that are good have told of the stage
--- the book stays; then it is that of the rounds, and has ended.
+-- For the law that events are rounds: an event in a world in which the run breaks off in a sync
+-- slot. Until all that are good have told of the stage the book stays; then it is that of the
+-- rounds, and has ended.
 use Rattle.std.proofs.Common.{◌≡◌, ℕ, ◌^◌, ◌<◌, ◌≤◌, ◌&&◌, ◌⊎◌, Bool, true, false, List, [], ◌∷◌, ◌++◌, length, refl, ap, sym, ◌∙◌, subst, arith, inl, inr, Option, Some, None, is_some, slice_get}
 use Rattle.std.proofs.lemmas.Option.{same_Some}
 use Rattle.rb_base.specs.Nodes.{Side, other}
@@ -44,7 +45,8 @@ use Rattle.rb_laws_events.proofs.WorldTicks.{length-after, reached, reached-same
 
 -- Nodes.
 
--- the nodes where the run breaks off with stage q at moment b. One that is good then runs, or has told its row, and it has ticks left
+-- the nodes where the run breaks off with stage q at moment b. One that is good then runs, or has
+-- told its row, and it has ticks left
 pub record NodesOff (sc : Scenario) (N : ℕ → List HandIn → ℕ → (Side → ℕ → ℕ → Bool) → Each Site → Type 0) (hands : List HandIn) (b q : ℕ) (sent : Side → ℕ → ℕ → Bool) (sites : Each Site) : Type 0 where
   pub nodes : N q hands b sent sites
   pub counts : (me : Side) → length (of_kind me sites) ≡ count_of me sc.sizes

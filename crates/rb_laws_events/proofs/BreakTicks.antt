@@ -1,5 +1,6 @@
--- For the law that events are rounds where the premise on faults is broken in a sync slot: as long as a node waits for the last
--- tick of the stage with which the run breaks off, those that have closed it don't close the next one. An arrival keeps each of them.
+-- For the law that events are rounds where the premise on faults is broken in a sync slot: as long
+-- as a node waits for the last tick of the stage with which the run breaks off, those that have
+-- closed it don't close the next one. An arrival keeps each of them.
 use Rattle.std.proofs.Common.{◌≡◌, ℕ, suc, ◌+◌, ◌*◌, ◌<◌, ◌≤◌, Bool, true, List, [], ◌∷◌, ap, sym, ◌∙◌, subst, arith, inl, inr, Some, slice_get}
 use Rattle.std.proofs.lemmas.Bool.{cases_lt}
 use Rattle.rb_base.specs.Nodes.{Side}
@@ -33,7 +34,8 @@ use Rattle.rb_laws_events.proofs.Receiving.{ArrivesNow}
 use Rattle.rb_laws_events.proofs.StageOrder.{last_of}
 use Rattle.rb_laws_events.proofs.TickWindows.{first_of}
 
--- up to the last tick of the stage at any good node no good node comes to the last tick of the next stage
+-- up to the last tick of the stage at any good node no good node comes to the last tick of the next
+-- stage
 pub before-next : (sc : Scenario) (hands : List HandIn) → IsLawful sc → HasRoom sc.plan → (p q : ℕ) → IsRunning (moment sc hands p) → q < 2 → (moment sc hands p).window ≡ 3 * sync_slot_of sc.sizes + q
     → (me : Side) (i : ℕ) (s : Site) → HasClosed sc hands me i p s
     → (you : Side) (j : ℕ) (yours : NodeState) → slice_get (of_kind you (moment sc hands p).nodes) j ≡ Some yours → is_good_at sc (moment sc hands p) you j ≡ true

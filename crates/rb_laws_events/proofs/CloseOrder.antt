@@ -1,4 +1,5 @@
--- For the law on the order of closes: the times of two closes, and a node's state some moments before.
+-- For the law on the order of closes: the times of two closes, and a node's state some moments
+-- before.
 use Rattle.std.proofs.Common.{◌≡◌, ℕ, suc, ◌+◌, ◌*◌, ◌<◌, ◌≤◌, ◌==◌, nat_lt, Bool, true, false, List, length, refl, ap, sym, ◌∙◌, subst, arith, Some, slice_get}
 use Rattle.std.proofs.lemmas.Bool.{lt-ltb, le-ltb}
 use Rattle.std.proofs.lemmas.Option.{same_Some}
@@ -26,7 +27,8 @@ use Rattle.rb_laws_events.proofs.StageOrder.{Apart, last_of, apart-next, apart-t
 
 -- Clocks.
 
--- a node that closes at offset o is before one that closes at offset m, if the two began at most p apart
+-- a node that closes at offset o is before one that closes at offset m, if the two began at most p
+-- apart
 pub times-apart : (sc : Scenario) → IsLawful sc → (a b : Timeline) (mine yours o m : ℕ) → HasLengths (shortest_of sc.plan) (longest_of sc.plan) a
     → HasLengths (shortest_of sc.plan) (longest_of sc.plan) b → time_of a mine ≤ time_of b yours + sc.plan.p → Apart sc.plan o m
     → time_of a (mine + o) < time_of b (yours + m)

@@ -1,5 +1,5 @@
--- For the law that events are rounds: the tick with which a node closes a window does what the rounds
--- do with the node in that window.
+-- For the law that events are rounds: the tick with which a node closes a window does what the
+-- rounds do with the node in that window.
 use Rattle.std.proofs.Common.{◌≡◌, ℕ, ◌&&◌, nat_le, true, false, List, map, sym, ◌∙◌, ap, Option, Some, None}
 use Rattle.rb_base.specs.Nodes.{Side}
 use Rattle.rb_rules.specs.declared.plan.Window.{Window}

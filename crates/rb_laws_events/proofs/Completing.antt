@@ -1,5 +1,6 @@
--- For the law that events are rounds: what an event completes is settled, and what comes next by an event waits again.
--- While the record of a frame's begin is the turn, all nodes that are good there have begun the frame, and none is beyond its second window.
+-- For the law that events are rounds: what an event completes is settled, and what comes next by an
+-- event waits again. While the record of a frame's start is the turn, all nodes that are good there
+-- have begun the frame, and none is beyond its second window.
 use Rattle.std.proofs.Common.{◌≡◌, ℕ, suc, ◌+◌, ◌-◌, ◌*◌, ◌%◌, ◌<◌, ◌≤◌, ◌==◌, ◌&&◌, ◌⊎◌, nat_lt, Bool, true, false, List, length, refl, ap, sym, ◌∙◌, subst, arith, inl, inr, Option, Some, None, is_some, slice_get, if◌then◌else◌}
 use Rattle.std.proofs.lemmas.Bool.{and_parts, cases_lt, le-ltb, lt-ltb}
 use Rattle.std.proofs.lemmas.Bool.Decides.{nat_tests}
@@ -29,7 +30,8 @@ use Rattle.rb_laws_events.proofs.WorldBooks.{settle_rest}
 
 -- The event.
 
--- an event at node i of a kind: where all nodes stand then, and what that node tells that it did not tell before
+-- an event at node i of a kind: where all nodes stand then, and what that node tells that it did
+-- not tell before
 pub record EventAt (sc : Scenario) (hands : List HandIn) (at now_at : Side → ℕ → ℕ) (sites now_sites : Each Site) : Type 0 where
   pub me : Side
   pub i : ℕ
@@ -71,7 +73,7 @@ stage-completed sc hands at now_at sites now_sites place event old new =
       | inr number ↦ sym (ap (number_at sc.sizes) row.1.1) ∙ number
     ]
 
--- and a begin that it completes is that at which the node stands
+-- and a start that it completes is that at which the node stands
 record BeginCompleted (sc : Scenario) (at now_at : Side → ℕ → ℕ) (me : Side) (i frame : ℕ) : Type 0 where
   good : is_good sc me i frame 0 ≡ true
   stood : at me i ≡ frame * (windows_in sc.sizes + 1)
@@ -123,7 +125,7 @@ stage-of sc hands b place (inr at) going up =
     by true false f h e = record { g = at.0; stage = less (moment sc hands at.0).window (stages_in sc.sizes) f; place_is = cc; not_last = h }
     by false q f h e = cc
 
--- the stage after a moment's, or the begin of the next frame
+-- the stage after a moment's, or the start of the next frame
 next-stage-is : (sc : Scenario) (hands : List HandIn) (g : ℕ) → (moment sc hands g).window + 1 < stages_in sc.sizes → next_stage sc.sizes (moment sc hands g) g ≡ g + 1
 next-stage-is sc hands g inner =
     ap (λ b. g + (if b then 1 else windows_in sc.sizes + 1 - (moment sc hands g).window)) (lt-ltb ((moment sc hands g).window + 1) (stages_in sc.sizes) inner)
@@ -141,7 +143,7 @@ next-frame-is sc hands g outer =
     one-more : (a n : ℕ) → (a + 1) * n ≡ a * n + n
     one-more a n = omega arith
 
--- after a frame's begin its first stage waits for a node that has only begun
+-- after a frame's start its first stage waits for a node that has only begun
 first-waits : (sc : Scenario) (hands : List HandIn) (at : Side → ℕ → ℕ) (sites : Each Site) (m : Milestone) (frame : ℕ)
     → m ≡ (if frame == sc.frames then End else Stage (record { frame = frame; slot = 0; stage = 1 }))
     → is_due sc sites (Stage (record { frame = frame; slot = 0; stage = 1 })) ≡ false → is_due sc sites m ≡ false

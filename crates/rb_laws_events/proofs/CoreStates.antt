@@ -1,5 +1,5 @@
--- For the law that cores are those of the rounds: a node that stands in a moment of the rounds finds that moment by its own frame and window, and
--- holds its state.
+-- For the law that cores are those of the rounds: a node that stands in a moment of the rounds
+-- finds that moment by its own frame and window, and holds its state.
 use Rattle.std.proofs.Common.{◌≡◌, ℕ, ◌+◌, ◌*◌, ◌-◌, ◌%◌, ◌≤◌, ◌==◌, Bool, true, false, refl, ap, sym, ◌∙◌, subst, arith, inl, inr, List, Option, Some, None, slice_get}
 use Rattle.std.proofs.lemmas.Bool.{cases_lt}
 use Rattle.rb_base.specs.Nodes.{Side}
@@ -76,7 +76,8 @@ place-number f w slot stage n p e h = omega (arith, e, h)
 
 -- One node.
 
--- what is asked of a node: in moment p its state is `st`, and k is a tick of the window that is still to come
+-- what is asked of a node: in moment p its state is `st`, and k is a tick of the window that is
+-- still to come
 pub record StandsIn (sc : Scenario) (hands : List HandIn) (me : Side) (i p : ℕ) (c : Core) (st : NodeState) (k : ℕ) : Type 0 where
   pub state : slice_get (of_kind me (moment sc hands p).nodes) i ≡ Some st
   pub good : is_good_at sc (moment sc hands p) me i ≡ true

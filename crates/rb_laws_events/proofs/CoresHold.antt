@@ -1,4 +1,5 @@
--- For the law that cores are those of the rounds: it holds in every world before the breaking stage.
+-- For the law that cores are those of the rounds: it holds in every world before the breaking
+-- stage.
 use Rattle.std.proofs.Common.{◌≡◌, ℕ, suc, ◌+◌, ◌*◌, ◌-◌, ◌%◌, ◌<◌, ◌==◌, nat_lt, Bool, true, false, refl, ap, sym, ◌∙◌, subst, arith, inl, inr, List, [], ◌∷◌, ◌++◌, Option, Some, None, slice_get, is_some, if◌then◌else◌}
 use Rattle.std.proofs.lemmas.Bool.{cases_lt, eqb-true, lt-ltb}
 use Rattle.rb_base.specs.Nodes.{Side}

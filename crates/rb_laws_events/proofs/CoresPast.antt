@@ -1,5 +1,6 @@
--- For the law that cores follow the rounds: where the run breaks off, a core that has closed the breaking stage stands in a moment by which
--- the run has ended, and each other one still holds the state of the rounds.
+-- For the law that cores follow the rounds: where the run breaks off, a core that has closed the
+-- breaking stage stands in a moment by which the run has ended, and each other one still holds the
+-- state of the rounds.
 use Rattle.std.proofs.Common.{◌≡◌, ℕ, zero, suc, ◌+◌, ◌*◌, ◌-◌, ◌<◌, ◌≤◌, ◌⊎◌, Bool, true, false, refl, ap, sym, ◌∙◌, subst, arith, inl, inr, List, Option, Some, None, slice_get}
 use Rattle.std.proofs.lemmas.Bool.{cases_lt}
 use Rattle.std.proofs.lemmas.Nat.{mul-le}
@@ -92,7 +93,8 @@ later-frame f g w s slot stage q b is small long more =
 same-frame : (f w s slot stage q b : ℕ) → b ≡ f * w + (3 * s + q) → 3 * s + q + 1 + 1 ≤ 3 * slot + stage → suc b ≤ f * w + 3 * slot + stage - 1
 same-frame f w s slot stage q b is late = omega (arith, is, late)
 
--- a core of the breaking frame that is past the stage, or of a later frame, stands in a moment by which the run has ended
+-- a core of the breaking frame that is past the stage, or of a later frame, stands in a moment by
+-- which the run has ended
 record IsLate (sc : Scenario) (hands : List HandIn) (me : Side) (b q : ℕ) (c : Core) : Type 0 where
   place : ((c.state.frame ≡ (moment sc hands b).frame) × (c.state.epoch + first_of sc.sizes sc.plan me c.state (3 * sync_slot_of sc.sizes + q + 1) ≤ c.had))
       ⊎ ((moment sc hands b).frame + 1 ≤ c.state.frame)

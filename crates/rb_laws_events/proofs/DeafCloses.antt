@@ -1,5 +1,6 @@
--- For the law that events are rounds where the premise on faults is broken in a sync slot: a node that closes
--- a stage of the sync slot in which it does not listen tells the same of it whatever came to it, and knows the same but for accusations.
+-- For the law that events are rounds where the premise on faults is broken in a sync slot: a node
+-- that closes a stage of the sync slot in which it does not listen tells the same of it whatever
+-- came to it, and knows the same but for accusations.
 use Rattle.std.proofs.Common.{◌≡◌, ℕ, zero, suc, ◌==◌, ◌&&◌, if◌then◌else◌, Bool, true, false, List, [], ◌∷◌, map, refl, ap, ◌∙◌, Option, Some, None, get_or}
 use Rattle.rb_base.specs.Counting.{numbers}
 use Rattle.rb_base.specs.Nodes.{Side, has}

@@ -1,5 +1,6 @@
--- For the law that events are rounds where the premise on faults is broken in a sync slot: a node that doesn't listen in a stage
--- of the sync slot tells what the rounds tell at its last tick, whatever came to it, and closes nothing before the last tick of the next window.
+-- For the law that events are rounds where the premise on faults is broken in a sync slot: a node
+-- that doesn't listen in a stage of the sync slot tells what the rounds tell at its last tick,
+-- whatever came to it, and closes nothing before the last tick of the next window.
 use Rattle.std.proofs.Common.{◌≡◌, ℕ, ◌+◌, ◌*◌, ◌<◌, ◌==◌, Bool, true, false, List, ap, sym, ◌∙◌, subst, arith}
 use Rattle.std.proofs.lemmas.Bool.Decides.{nat_tests}
 use Rattle.rb_base.specs.Nodes.{Side}
@@ -67,7 +68,8 @@ deaf-leaves sizes plan me i st w arrivals slot deaf keeps =
     same-is : (a b : ℕ) → a ≡ b → (a == b) ≡ true
     same-is a b h = grind (arith, nat_tests)
 
--- the node has told its row after its last tick, and its next frame, as far as it knows when, begins after all stages of this one
+-- the node has told its row after its last tick, and its next frame, as far as it knows when,
+-- begins after all stages of this one
 pub deaf-closes : (sc : Scenario) (hands : List HandIn) → HasRoom sc.plan → (ports : List PortState) (p q : ℕ) → q < 3
     → (moment sc hands p).window ≡ 3 * sync_slot_of sc.sizes + q → (me : Side) (i : ℕ) (s : Site) → (h : WaitsDeaf sc hands me i p s)
     → HasWord sc ports me i h.st (moment sc hands p).window (word_at sc (moment sc hands p) me i h.st)

@@ -150,7 +150,8 @@ unplaced : (P : Coming → Type 0) (n : ℕ) (cs : List Coming) → Every (λ p.
 unplaced P n [] a = tt
 unplaced P n (c ∷ cs) a = (a.0, unplaced P (n + 1) cs a.1)
 
--- an arrival of a known source that is not found at time t, and is not pending before it, comes after it
+-- an arrival of a known source that is not found at time t, and is not pending before it, comes
+-- after it
 after-it : (t : ℕ) (from time : ℕ) → ((from == from) && (time == t)) ≡ false → t ≤ time → t < time
 after-it t from time h le = grind (arith, nat_tests)
 
@@ -349,7 +350,8 @@ none-absurd sc w known t e none =
     (every-flat (λ u. t < u) times_of (in_order w.sites) (every-append (λ s. Every (λ u. t < u) (times_of s)) w.sites.bius w.sites.rmus bius rmus)) e in
     absurd (omega arith)
 
--- before the last record, and where the next one needs an event, some event is due as long as anything is pending
+-- before the last record, and where the next one needs an event, some event is due as long as
+-- anything is pending
 pub some-due : (sc : Scenario) (w : World) (t : ℕ) → ComesFromNodes sc w → (w.book.ended || needs_no_event sc w.book.upcoming) ≡ false
     → least (flat_map times_of (in_order w.sites)) ≡ Some t → due_of sc w ≡ [] → ⊥
 unfolding due_of

@@ -1,4 +1,5 @@
--- For the law that events are rounds: what a tick and an arrival are to all that the nodes have told.
+-- For the law that events are rounds: what a tick and an arrival are to all that the nodes have
+-- told.
 use Rattle.std.proofs.Common.{◌≡◌, ℕ, ◌+◌, ◌-◌, ◌*◌, ◌<◌, ◌≤◌, ◌&&◌, ◌⊎◌, Bool, true, false, List, refl, ap, sym, ◌∙◌, subst, arith, inl, inr, Option, Some, None, slice_get, option_map}
 use Rattle.std.proofs.Math.Path.{fun_ext}
 use Rattle.rb_base.specs.Nodes.{Side}

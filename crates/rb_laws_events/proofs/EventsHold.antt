@@ -61,7 +61,8 @@ due-holds sc lawful = something-is-due sc (λ choices. some-pends sc lawful (wor
 pub turns-hold : OneTurnARecordInLawful
 turns-hold sc lawful = turns-are-next sc (events-hold sc lawful)
 
--- as long as the run has not ended each tick that may be taken is one of those that its node may have
+-- as long as the run has not ended each tick that may be taken is one of those that its node may
+-- have
 pub ticks-left : (sc : Scenario) → IsLawful sc → (w : World) → AnyWorld sc (nodes_at sc) w → w.book.ended ≡ false → HasTicksLeft sc w
 ticks-left sc lawful w (inl run) going = in-rounds-left sc w run.stands
 ticks-left sc lawful w (inr (inl off)) going = record { counts = off.stands.nodes.counts; left = left-off sc (nodes_at sc) w lawful (keeps sc lawful) off }

@@ -1,4 +1,5 @@
--- For the law that events are rounds: whatever is chosen, the nodes of the world stand in the rounds, or the run breaks off there in a sync slot.
+-- For the law that events are rounds: whatever is chosen, the nodes of the world stand in the
+-- rounds, or the run breaks off there in a sync slot.
 use Rattle.std.proofs.Common.{◌≡◌, ℕ, ◌+◌, ◌<◌, ◌≤◌, ◌⊎◌, ◌&&◌, ◌||◌, Bool, true, false, List, [], ◌∷◌, ◌++◌, fold, flat_map, append_assoc, refl, ap, sym, ◌∙◌, subst, arith, inl, inr, Option, Some, None, slice_get}
 use Rattle.std.proofs.lemmas.Bool.{cases_lt}
 use Rattle.std.proofs.lemmas.List.{append-nil}
@@ -87,7 +88,8 @@ go-on-keeps sc now at w lawful room h = by w.book.ended
 
 -- Choices in the run.
 
--- a due event that is taken: either the nodes stand in the rounds after it, or it is the first close of a stage with which the run breaks off
+-- a due event that is taken: either the nodes stand in the rounds after it, or it is the first
+-- close of a stage with which the run breaks off
 take-run : (sc : Scenario) (N : ℕ → List HandIn → ℕ → (Side → ℕ → ℕ → Bool) → Each Site → Type 0) (w : World) (d : Due) → IsLawful sc → HasRoom sc.plan → ((q : ℕ) → q < 3 → KeepsNodes sc q (N q)) → InRun sc w
     → w.book.ended ≡ false → needs_no_event sc w.book.upcoming ≡ false → IsDue w d → AnyWorld sc N (take_if_due sc w (Some d))
 take-run sc N w d lawful room keeps run going needs due = from-where waits.1.from

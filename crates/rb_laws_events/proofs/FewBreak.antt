@@ -1,5 +1,6 @@
--- For the law that pending events are few where the run breaks off with the first or the second stage of the sync slot: a node that has told its row
--- sends one message at most until all have told, and enters no window.
+-- For the law that pending events are few where the run breaks off with the first or the second
+-- stage of the sync slot: a node that has told its row sends one message at most until all have
+-- told, and enters no window.
 use Rattle.std.proofs.Common.{◌≡◌, ℕ, zero, suc, ◌+◌, ◌-◌, ◌*◌, ◌^◌, ◌<◌, ◌≤◌, ◌==◌, ◌⊎◌, Bool, true, false, List, refl, ap, sym, ◌∙◌, subst, arith, inl, inr, Option, Some, None, length}
 use Rattle.std.proofs.lemmas.Bool.Decides.{nat_tests}
 use Rattle.rb_base.specs.Nodes.{Side}

@@ -1,5 +1,5 @@
--- For the law that pending events are few where the run breaks off in a sync slot: a tick brings no more to its node than what is said to it in a
--- window, and nothing where it begins none.
+-- For the law that pending events are few where the run breaks off in a sync slot: a tick brings no
+-- more to its node than what is said to it in a window, and nothing where it begins none.
 use Rattle.std.proofs.Common.{◌≡◌, ℕ, zero, suc, ◌+◌, ◌≤◌, Bool, true, false, List, [], filter, flat_map, length, length-append, refl, ap, ◌∙◌, arith, Option, Some, None}
 use Rattle.std.specs.List.{range_with_len}
 use Rattle.rb_base.specs.Nodes.{Side, other}
@@ -39,7 +39,7 @@ says-few sc me i span =
     by j true = omega arith
     by j false = let mapped = length-mapped (coming_said sc.plan.version (clock_of sc me i) j span) (filter (is_said me i j span) sc.says) in omega (arith, mapped)
 
--- what a window that begins brings
+-- what a window that starts brings
 record Brings (sc : Scenario) (o : Option Span) (s z : Site) : Type 0 where
   most : length z.coming ≤ length s.coming + length sc.says
   none : o ≡ None → length z.coming ≤ length s.coming

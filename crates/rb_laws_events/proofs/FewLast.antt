@@ -1,5 +1,6 @@
--- For the law that pending events are few where the run breaks off with the last stage of the sync slot: a node that has told its row sends one message
--- at most in the tail and one in the first window of the next frame, and enters that window once.
+-- For the law that pending events are few where the run breaks off with the last stage of the sync
+-- slot: a node that has told its row sends one message at most in the tail and one in the first
+-- window of the next frame, and enters that window once.
 use Rattle.std.proofs.Common.{◌≡◌, ℕ, zero, suc, ◌+◌, ◌-◌, ◌*◌, ◌<◌, ◌≤◌, ◌⊎◌, Bool, true, false, List, refl, ap, sym, ◌∙◌, subst, arith, inl, inr, Option, Some, None, length, lit<}
 use Rattle.std.proofs.lemmas.Bool.{cases_lt}
 use Rattle.rb_base.specs.Nodes.{Side}

@@ -1,5 +1,6 @@
--- For the law that pending events are few where the run breaks off in a sync slot: room at each node for what comes to it, for the messages that may
--- be sent to it yet, and for what may be said to it in windows that it enters yet.
+-- For the law that pending events are few where the run breaks off in a sync slot: room at each
+-- node for what comes to it, for the messages that may be sent to it yet, and for what may be said
+-- to it in windows that it enters yet.
 use Rattle.std.proofs.Common.{◌≡◌, ℕ, ◌+◌, ◌*◌, ◌<◌, ◌≤◌, ◌&&◌, Bool, true, false, [], ◌∷◌, ◌++◌, length, length-append, refl, ap, sym, ◌∙◌, subst, arith, Option, Some, None, slice_get}
 use Rattle.std.proofs.lemmas.Option.{same_Some}
 use Rattle.rb_base.specs.Nodes.{Side, other}
@@ -15,7 +16,7 @@ use Rattle.rb_laws_events.proofs.SourceSums.{sum-larger, sum-le, sum_to}
 use Rattle.rb_laws_events.proofs.WorldStands.{is_node, node-is, node-itself}
 use Rattle.rb_laws_events.proofs.WorldTicks.{after_tick, get-after, moved, reached}
 
--- node i of kind me may send so many messages yet, and enter so many windows
+-- node i of kind me may still send `sends me i` messages, and enter `enters me i` windows
 pub record HaveRooms (sc : Scenario) (most : Side → ℕ) (sends enters : Side → ℕ → ℕ) (sites : Each Site) : Type 0 where
   pub room : (me : Side) (i : ℕ) (s : Site) → slice_get (of_kind me sites) i ≡ Some s
       → length s.coming + sum_to (sends (other me)) (count_of (other me) sc.sizes) + enters me i * length sc.says ≤ most me

@@ -1,4 +1,5 @@
--- Pending events are few: what pends at a node that runs is of the window in which it stands and of the next.
+-- Pending events are few: what pends at a node that runs is of the window in which it stands and of
+-- the next.
 use Rattle.std.proofs.Common.{◌≡◌, ℕ, ◌+◌, ◌≤◌, ◌&&◌, Bool, true, false, List, [], ◌∷◌, ◌++◌, length, length-append, map, inl, inr, refl, ap, sym, ◌∙◌, subst, arith, Option, Some, None, option_map, option_to_list, slice_get}
 use Rattle.rb_base.specs.Nodes.{Side, other}
 use Rattle.rb_rules.specs.Book.{Each, of_kind}

@@ -1,4 +1,5 @@
--- For the law that pending events are few where the run breaks off in a sync slot: at its last tick of the stage a node sends nothing.
+-- For the law that pending events are few where the run breaks off in a sync slot: at its last tick
+-- of the stage a node sends nothing.
 use Rattle.std.proofs.Common.{◌≡◌, ℕ, ◌+◌, ◌*◌, ◌<◌, Bool, true, false, List, [], ◌∷◌, ◌++◌, refl, ap, sym, ◌∙◌, subst, arith, Option, Some, None, slice_get, lit<}
 use Rattle.std.proofs.lemmas.Option.{same_Some}
 use Rattle.rb_base.specs.Nodes.{Side}

@@ -1,4 +1,5 @@
--- For the law that pending events are few: what comes to a node that stands in the rounds is of the window in which it stands and of the next.
+-- For the law that pending events are few: what comes to a node that stands in the rounds is of the
+-- window in which it stands and of the next.
 use Rattle.std.proofs.Common.{◌≡◌, ℕ, suc, ◌+◌, ◌*◌, ◌≤◌, Bool, true, false, List, [], ◌∷◌, filter, length, map, refl, ap, arith, Option, Some, None, option_map, option_to_list}
 use Rattle.std.proofs.lemmas.Bool.Decides.{nat_tests}
 use Rattle.rb_base.specs.Nodes.{Side, other}

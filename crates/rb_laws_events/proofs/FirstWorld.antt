@@ -116,7 +116,7 @@ first-tick sc me =
     let zero_first : first_of sc.sizes sc.plan me st 0 ≡ 0 * sc.plan.l = first-same sc.sizes sc.plan me st 0 (omega arith) in
     record { from = omega arith; to = omega arith }
 
--- the span that begins there
+-- the span that starts there
 first-span : (sc : Scenario) (hands : List HandIn) (me : Side) → HasRoom sc.plan
     → span_from sc.sizes sc.plan me (first_state sc.sizes me) 0 ≡ Some (span_of (first_state sc.sizes me) (window_in sc (moment sc hands 0) me (first_state sc.sizes me)))
 unfolding begin_frame

@@ -1,5 +1,5 @@
--- For the law that events are rounds: in a run that has not ended good nodes have begun the frame together, and over the turn they
--- begin the next one together.
+-- For the law that events are rounds: in a run that has not ended good nodes have begun the frame
+-- together, and over the turn they begin the next one together.
 use Rattle.std.proofs.Common.{◌≡◌, ℕ, suc, ◌+◌, ◌*◌, ◌≤◌, ◌<◌, true, List, ap, sym, ◌∙◌, subst, arith, inl, inr, Some, slice_get, option_map}
 use Rattle.rb_base.specs.Nodes.{Side}
 use Rattle.rb_base.specs.Nodes.Side.{Biu, Rmu}
@@ -41,7 +41,8 @@ pub good-node : (sc : Scenario) (m : Moment) (me : Side) (i : ℕ) (st : NodeSta
     → IsGoodNode sc m me i st
 good-node sc m me i st there good = record { there = there; good = good }
 
--- good nodes have begun the moment's frame together, by the time that so many frames take; it is one of the run
+-- good nodes have begun the moment's frame together, by the time that its number of frames takes;
+-- it is one of the run
 pub record BegunWell (sc : Scenario) (m : Moment) : Type 0 where
   pub together : HaveBegunTogether sc m
   pub by_then : BeginByThen sc m

@@ -101,7 +101,7 @@ stage-turn sc n w place shape going up nobody =
     let none : good_at sc Biu place.frame place.slot ≡ 0 = no-good sc Biu place.frame place.slot (nobody-each sc place.frame place.slot shape nobody Biu) in
     (Breach place FewGoodBiu, settle-gives sc n w (next_world sc w (Stage place)) (Breach place FewGoodBiu) next (stage-gives sc place _ w.book going none))
 
--- after the begin of a frame at which nobody is good, which has no record, comes one of these
+-- after the start of a frame at which nobody is good, which has no record, comes one of these
 begin-turn : (sc : Scenario) (n : ℕ) (w : World) (frame : ℕ) → IsShape sc.sizes → w.book.ended ≡ false → w.book.upcoming ≡ Begin frame → nobody_good sc frame 0 ≡ true
     → (r : Record) × ((settle sc ByItself (suc (suc n)) w).turn ≡ Some r)
 begin-turn sc n w frame shape going up nobody =

@@ -1,5 +1,5 @@
--- For the law that events are rounds: a state that is handed in while all nodes are before the data slots of the frame
--- keeps the world in the rounds.
+-- For the law that events are rounds: a state that is handed in while all nodes are before the data
+-- slots of the frame keeps the world in the rounds.
 use Rattle.std.proofs.Common.{◌≡◌, ◌≢◌, ℕ, zero, suc, ◌+◌, ◌-◌, ◌*◌, ◌<◌, ◌≤◌, Bool, true, false, List, [], ◌∷◌, ◌++◌, length, refl, ap, sym, ◌∙◌, subst, arith, inl, inr, Option, Some, slice_get, get_or, option_map, option_to_list, if◌then◌else◌}
 use Rattle.std.proofs.Math.Path.{fun_ext}
 use Rattle.std.proofs.lemmas.Bool.{cases_lt, lt-ltb, le-ltb}

@@ -1,5 +1,5 @@
--- For the law that events are rounds: what is handed in at a frame's begin changes the ports of that moment, and up to
--- the first data slot nothing else.
+-- For the law that events are rounds: what is handed in at a frame's start changes the ports of
+-- that moment, and up to the first data slot nothing else.
 use Rattle.std.proofs.Common.{◌≡◌, ℕ, zero, suc, ◌+◌, ◌-◌, ◌*◌, ◌<◌, ◌≤◌, ◌==◌, ◌&&◌, nat_le, nat_lt, Bool, true, false, List, [], ◌∷◌, ◌++◌, refl, ap, sym, ◌∙◌, subst, arith, inl, inr, Option, None, if◌then◌else◌}
 use Rattle.std.proofs.Math.Path.{fun_ext}
 use Rattle.std.proofs.lemmas.Bool.{cases_lt, lt-ltb, le-ltb}
@@ -66,7 +66,7 @@ alike-results sc m x a =
 
 -- Moments.
 
--- a moment is before the begin of a frame, or after it
+-- a moment is before the start of a frame, or after it
 pub before-frame : (sc : Scenario) (hands : List HandIn) (n frame : ℕ) → n < frame * (windows_in sc.sizes + 1) → (moment sc hands n).frame < frame
 before-frame sc hands n frame lt =
     let m : Moment = moment sc hands n in

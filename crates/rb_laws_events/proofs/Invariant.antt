@@ -1,6 +1,7 @@
--- For the law that events are rounds: the invariant of a run event by event. Each node stands in a moment
--- of the rounds of its own; its next busy tick is pending; and what has come to it and is pending there of a source is what the
--- source has sent in the rounds for that moment's window and for the next stage.
+-- For the law that events are rounds: the invariant of a run event by event. Each node stands in a
+-- moment of the rounds of its own; its next busy tick is pending; and what has come to it and is
+-- pending there of a source is what the source has sent in the rounds for that moment's window and
+-- for the next stage.
 use Rattle.std.proofs.Common.{◌≡◌, ℕ, suc, ◌+◌, ◌-◌, ◌^◌, ◌<◌, ◌≤◌, ◌==◌, ◌&&◌, ◌||◌, nat_lt, Bool, true, false, List, [], Option, Some, None, slice_get, option_map, option_to_list, if◌then◌else◌}
 use Rattle.rb_base.specs.Nodes.{Side, other}
 use Rattle.rb_base.specs.Sizes.{Sizes}
@@ -24,7 +25,8 @@ use Rattle.rb_laws_events.proofs.TickWindows.{first_of}
 
 -- Moments.
 
--- the number of the moment of the stage after that of moment p. Tails and ends of frames are no stages
+-- the number of the moment of the stage after that of moment p. Tails and ends of frames are no
+-- stages
 abbrev pub next_stage : Sizes → Moment → ℕ → ℕ
 next_stage sizes m p = p + (if nat_lt (m.window + 1) (stages_in sizes) then 1 else windows_in sizes + 1 - m.window)
 
@@ -52,8 +54,8 @@ abbrev pub has_sent : Option Sending → ℕ → Option Timed → ℕ → Bool
 has_sent None q a p = false
 has_sent (Some s) q a p = nat_lt p q || ((p == q) && is_past s.tick a)
 
--- what source j has sent to node i of kind me for a moment's window. A source that is not good has said all that it says for the
--- window when the window opens
+-- what source j has sent to node i of kind me for a moment's window. A source that is not good has
+-- said all that it says for the window when the window opens
 abbrev pub heard_so_far : Scenario → Moment → Side → ℕ → Span → (ℕ → Bool) → ℕ → List Coming
 heard_so_far sc m me i span sent j =
     elim (is_good_at sc m (other me) j) [ true ↦ elim (sent j) [ true ↦ entry_of sc m me i j | false ↦ [] ] | false ↦ said_by sc me i span j ]
@@ -73,8 +75,9 @@ word_at sc m me i st = word_for_window sc m i (window_in sc m me st)
 abbrev pub last_tick : Scenario → Moment → Side → NodeState → ℕ
 last_tick sc m me st = st.epoch + last_of sc.sizes sc.plan me st m.window
 
--- a node that runs, in moment p of the rounds, in which `st` is its state, and in which its pending tick is `a`. `sent` tells
--- which nodes have sent what they send in which moments, `now` is the time of the last event
+-- a node that runs, in moment p of the rounds, in which `st` is its state, and in which its pending
+-- tick is `a`. `sent` tells which nodes have sent what they send in which moments, `now` is the
+-- time of the last event
 pub record NodeStands (sc : Scenario) (hands : List HandIn) (sent : Side → ℕ → ℕ → Bool) (now : ℕ) (me : Side) (i p : ℕ) (s : Site) (st : NodeState) (a : Timed) : Type 0 where
   pub state : slice_get (of_kind me (moment sc hands p).nodes) i ≡ Some st
   pub good : is_good_at sc (moment sc hands p) me i ≡ true
@@ -88,7 +91,8 @@ pub record NodeStands (sc : Scenario) (hands : List HandIn) (sent : Side → ℕ
 
 -- What is taken of synchrony: in moment p the good nodes are in time.
 
--- the message of a source comes after the last tick of the window before, at the latest with this window's last tick
+-- the message of a source comes after the last tick of the window before, at the latest with this
+-- window's last tick
 abbrev pub ComesInWindow : Scenario → Moment → Side → ℕ → NodeState → Coming → Type 0
 ComesInWindow sc m me i st c =
     ((k : ℕ) → st.epoch + first_of sc.sizes sc.plan me st m.window ≡ suc k → time_of (clock_of sc me i) k < c.time)

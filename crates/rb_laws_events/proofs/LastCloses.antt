@@ -1,6 +1,7 @@
--- For the law that events are rounds where the premise on faults is broken in a sync slot: the last tick of a window at a
--- node, with nothing known of what comes after. It shows what the rounds tell of the window, where all that was sent to the node has
--- come; and whatever came to it, where it doesn't listen.
+-- For the law that events are rounds where the premise on faults is broken in a sync slot: the last
+-- tick of a window at a node, with nothing known of what comes after. It shows what the rounds tell
+-- of the window, where all that was sent to the node has come; and whatever came to it, where it
+-- doesn't listen.
 use Rattle.std.proofs.Common.{◌≡◌, ℕ, ◌+◌, ◌^◌, ◌<◌, ◌≤◌, ◌==◌, ◌&&◌, ◌⊎◌, nat_le, Bool, true, false, List, [], map, ap, sym, ◌∙◌, subst, arith, Some, None}
 use Rattle.std.proofs.lemmas.Bool.{le-leb}
 use Rattle.std.proofs.lemmas.Bool.Decides.{nat_tests}

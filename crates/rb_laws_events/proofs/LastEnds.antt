@@ -1,5 +1,6 @@
--- For the law that events are rounds where the premise on faults is broken in a sync slot: a node that waits for its last tick
--- of the last stage has told its row of it after that tick, and knows when its next frame begins.
+-- For the law that events are rounds where the premise on faults is broken in a sync slot: a node
+-- that waits for its last tick of the last stage has told its row of it after that tick, and knows
+-- when its next frame begins.
 use Rattle.std.proofs.Common.{◌≡◌, ℕ, ◌+◌, ◌*◌, ◌<◌, ◌≤◌, ◌⊎◌, Bool, true, false, List, [], ◌∷◌, ◌++◌, refl, ap, sym, ◌∙◌, subst, arith, inl, Option, Some, None, option_map, lit<}
 use Rattle.std.proofs.lemmas.Bool.{true≢false}
 use Rattle.rb_base.specs.Nodes.{Side, other}
@@ -176,7 +177,7 @@ hearing-last sc hands lawful room sent ports p running at me i s h frame all_sen
     every-left P [] ys e = tt
     every-left P (x ∷ xs) ys e = (e.0, every-left P xs ys e.1)
 
--- And one that doesn't.
+-- A node that does not listen in the last stage.
 
 epoch-before : (sc : Scenario) (hands : List HandIn) → IsLawful sc → (p : ℕ) → IsRunning (moment sc hands p) → (moment sc hands p).window ≡ 3 * sync_slot_of sc.sizes + 2
     → (me : Side) (i : ℕ) (st : NodeState) → IsGoodNode sc (moment sc hands p) me i st → listens me Sync 3 ≡ false → (x : ℕ) × (new_epoch_of sc.plan me st ≡ Some x)

@@ -1,6 +1,7 @@
--- For the law that events are rounds where the premise on faults is broken in a sync slot: a due tick of a node of a world in which
--- the run breaks off with the last stage of the sync slot. After it the node has told its row, and what it says comes to those that listen in
--- the stage after their last tick of it.
+-- For the law that events are rounds where the premise on faults is broken in a sync slot: a due
+-- tick of a node of a world in which the run breaks off with the last stage of the sync slot. After
+-- it the node has told its row, and what it says comes to those that listen in the stage after
+-- their last tick of it.
 use Rattle.std.proofs.Common.{◌≡◌, ℕ, ◌+◌, ◌*◌, ◌-◌, ◌<◌, ◌≤◌, ◌==◌, Bool, true, false, List, refl, ap, sym, ◌∙◌, subst, arith, inl, inr, Option, Some, None, slice_get, lit<}
 use Rattle.std.proofs.lemmas.Bool.{cases_lt, true≢false}
 use Rattle.std.proofs.lemmas.Bool.Decides.{nat_tests}
@@ -56,7 +57,8 @@ use Rattle.rb_laws_events.proofs.TailTicks.{none-some}
 
 -- Times.
 
--- no good node comes to the last tick of the first window of its next frame as long as another waits for its last tick of the stage
+-- no good node comes to the last tick of the first window of its next frame as long as another
+-- waits for its last tick of the stage
 pub closes-later : (sc : Scenario) (hands : List HandIn) → IsLawful sc → (p : ℕ) → IsRunning (moment sc hands p) → (moment sc hands p).window ≡ 3 * sync_slot_of sc.sizes + 2
     → (you : Side) (j : ℕ) (yours : NodeState) → slice_get (of_kind you (moment sc hands p).nodes) j ≡ Some yours → is_good_at sc (moment sc hands p) you j ≡ true
     → (me : Side) (i : ℕ) (st : NodeState) → slice_get (of_kind me (moment sc hands p).nodes) i ≡ Some st → is_good_at sc (moment sc hands p) me i ≡ true
@@ -83,7 +85,8 @@ closes-later sc hands lawful p running at you j yours there2 good2 me i st there
           absurd (omega (arith, up, early, le))
     ]
 
--- what a BIU says in the first window of its next frame comes after the last tick of the stage at any RMU
+-- what a BIU says in the first window of its next frame comes after the last tick of the stage at
+-- any RMU
 comes-later : (sc : Scenario) (hands : List HandIn) → IsLawful sc → (p : ℕ) → IsRunning (moment sc hands p) → (at : (moment sc hands p).window ≡ 3 * sync_slot_of sc.sizes + 2)
     → (n : ℕ) (yours : NodeState) → slice_get (of_kind Rmu (moment sc hands p).nodes) n ≡ Some yours → is_good_at sc (moment sc hands p) Rmu n ≡ true
     → (i : ℕ) (st : NodeState) → slice_get (of_kind Biu (moment sc hands p).nodes) i ≡ Some st → is_good_at sc (moment sc hands p) Biu i ≡ true

@@ -1,4 +1,5 @@
--- For the law that events are rounds: the nodes of a world in which the run breaks off with the last stage of the sync slot keep what is asked of them.
+-- For the law that events are rounds: the nodes of a world in which the run breaks off with the
+-- last stage of the sync slot keep what is asked of them.
 use Rattle.std.proofs.Common.{◌≡◌, ℕ, ◌+◌, ◌*◌, ◌≤◌, ◌⊎◌, Bool, true, false, List, ap, sym, ◌∙◌, subst, inl, inr, Some}
 use Rattle.std.proofs.lemmas.Option.{same_Some}
 use Rattle.rb_base.specs.Nodes.{Side}

@@ -1,6 +1,7 @@
--- For the law that events are rounds where the premise on faults is broken in a sync slot: the nodes of a world in which the
--- run breaks off with the last stage of the sync slot. A node that has told its row of it may go through the tail into the next frame, and
--- what it says there comes to the others after their last tick of the stage. An arrival and a message keep each node.
+-- For the law that events are rounds where the premise on faults is broken in a sync slot: the
+-- nodes of a world in which the run breaks off with the last stage of the sync slot. A node that
+-- has told its row of it may go through the tail into the next frame, and what it says there comes
+-- to the others after their last tick of the stage. An arrival and a message keep each node.
 use Rattle.std.proofs.Common.{◌≡◌, ℕ, zero, suc, ◌+◌, ◌^◌, ◌<◌, ◌≤◌, ◌&&◌, ◌⊎◌, Bool, true, false, List, [], ◌∷◌, ◌++◌, append_assoc, refl, ap, sym, ◌∙◌, subst, arith, inl, inr, Option, Some, None, slice_get, remove}
 use Rattle.rb_base.specs.Nodes.{Side, other}
 use Rattle.rb_rules.specs.declared.message.Message.{Message}
@@ -33,8 +34,8 @@ use Rattle.rb_laws_events.proofs.WorldTicks.{reached}
 
 -- Nodes.
 
--- a node that listens waits for its last tick of the stage; besides what comes to it of the stage and of the first window of the next frame in
--- the rounds, some messages may come after that tick
+-- a node that listens waits for its last tick of the stage; besides what comes to it of the stage
+-- and of the first window of the next frame in the rounds, some messages may come after that tick
 pub record WaitsAhead (sc : Scenario) (hands : List HandIn) (sent : Side → ℕ → ℕ → Bool) (me : Side) (i p : ℕ) (s : Site) : Type 0 where
   pub now : ℕ
   pub mine : List Coming

@@ -1,5 +1,6 @@
--- For the law that events are rounds where the premise on faults is broken in a sync slot: a tick of a node that has told its
--- row of the last stage of the sync slot, and the tick with which a node tells it.
+-- For the law that events are rounds where the premise on faults is broken in a sync slot: a tick
+-- of a node that has told its row of the last stage of the sync slot, and the tick with which a
+-- node tells it.
 use Rattle.std.proofs.Common.{◌≡◌, ℕ, zero, suc, ◌+◌, ◌-◌, ◌^◌, ◌<◌, ◌≤◌, ◌==◌, ◌⊎◌, Bool, true, false, List, [], refl, ap, sym, ◌∙◌, subst, arith, Option, Some, None, option_map}
 use Rattle.rb_base.specs.Nodes.{Side}
 use Rattle.rb_base.specs.Sizes.{Sizes}
@@ -80,7 +81,8 @@ acts-next sc ports me i x s =
     close-core None s = refl
     close-core (Some c) s = refl
 
--- so a node that stands in the tail or in the next frame's first window waits for its next tick there
+-- so a node that stands in the tail or in the next frame's first window waits for its next tick
+-- there
 pub waits-next : (sc : Scenario) (ports : List PortState) (me : Side) (i : ℕ) (st : NodeState) (x : ℕ) (act : Act) (s : Site)
     → (IsInTail sc.sizes sc.plan me st.frame st.epoch x act.core.state act.core.had × (act.core.had ≤ x)) ⊎ HasTurned st.frame x act.core.state act.core.had
     → (a : Timed) → (after_act sc ports me i act s).ahead ≡ Some a → AwaitsNext sc me i st x (after_act sc ports me i act s).core a

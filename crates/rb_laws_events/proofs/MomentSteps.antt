@@ -1,5 +1,5 @@
--- For the law that events are rounds: moments in their order: who is good in an earlier one, and what lies between
--- a window and the next stage.
+-- For the law that events are rounds: moments in their order: who is good in an earlier one, and
+-- what lies between a window and the next stage.
 use Rattle.std.proofs.Common.{◌≡◌, ℕ, zero, suc, ◌+◌, ◌-◌, ◌/◌, ◌<◌, ◌≤◌, true, List, length, ap, sym, ◌∙◌, subst, arith, inl, inr, Some, slice_get, if◌then◌else◌}
 use Rattle.std.proofs.lemmas.Bool.{cases_lt, lt-ltb, le-ltb}
 use Rattle.rb_base.specs.Nodes.{Side}

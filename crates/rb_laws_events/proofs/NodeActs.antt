@@ -1,4 +1,5 @@
--- For the law that events are rounds: the act of a core at a tick of a window, and its next busy tick.
+-- For the law that events are rounds: the act of a core at a tick of a window, and its next busy
+-- tick.
 use Rattle.std.proofs.Common.{◌≡◌, ℕ, ◌+◌, ◌^◌, ◌<◌, ◌≤◌, ◌==◌, nat_lt, Bool, true, false, refl, ap, sym, ◌∙◌, subst, arith, List, [], Option, Some, None}
 use Rattle.std.proofs.lemmas.Bool.Decides.{nat_tests}
 use Rattle.rb_base.specs.Nodes.{Side}

@@ -1,5 +1,5 @@
--- For the law that events are rounds: a node stays where it stands when something comes to it, when an event
--- happens elsewhere, and at a tick that is not the last of its window.
+-- For the law that events are rounds: a node stays where it stands when something comes to it, when
+-- an event happens elsewhere, and at a tick that is not the last of its window.
 use Rattle.std.proofs.Common.{◌≡◌, ℕ, suc, ◌+◌, ◌^◌, ◌<◌, ◌≤◌, ◌==◌, Bool, true, false, List, [], ◌∷◌, ◌++◌, map, refl, ap, sym, ◌∙◌, subst, arith, Option, Some, None, option_map, option_to_list}
 use Rattle.std.proofs.lemmas.Bool.Decides.{nat_tests}
 use Rattle.std.proofs.lemmas.List.{append-nil}
@@ -96,7 +96,7 @@ stands-arrival sc hands sent now me i p n c s st a moves due h =
 
 -- A tick.
 
--- what a node has told of the frame after a tick with this begin
+-- what a node has told of the frame after a tick with this start
 abbrev pub begun_after : Scenario → List PortState → Side → ℕ → Option Epoch → Option Begun → Option Begun
 begun_after sc ports me i None b = b
 begun_after sc ports me i (Some e) b = Some (begun_of sc ports me i e)

@@ -1,5 +1,5 @@
--- For the law that events are rounds: at the last tick of its window a node closes it as the rounds do, and stands
--- in the next moment, or stops.
+-- For the law that events are rounds: at the last tick of its window a node closes it as the rounds
+-- do, and stands in the next moment, or stops.
 use Rattle.std.proofs.Common.{◌≡◌, ℕ, zero, suc, ◌+◌, ◌^◌, ◌<◌, ◌≤◌, ◌==◌, nat_lt, Bool, true, false, List, [], ◌∷◌, ◌++◌, map, refl, ap, sym, ◌∙◌, subst, arith, Option, Some, None, slice_get, option_map, option_to_list, get_or}
 use Rattle.std.proofs.lemmas.Bool.Decides.{nat_tests}
 use Rattle.rb_base.specs.Nodes.{Side, other}

@@ -1,5 +1,5 @@
--- For the law that events are rounds: where a node stands after it has closed a window: in the next one, or
--- past an empty tail and the turn in the first one of the next frame.
+-- For the law that events are rounds: where a node stands after it has closed a window: in the next
+-- one, or past an empty tail and the turn in the first one of the next frame.
 use Rattle.std.proofs.Common.{◌≡◌, ℕ, suc, ◌+◌, ◌*◌, ◌-◌, ◌<◌, ◌≤◌, ◌==◌, ◌&&◌, nat_le, nat_lt, Bool, true, false, refl, ap, sym, ◌∙◌, subst, arith, inl, inr, ◌⊎◌, List, Option, Some, None, is_some, slice_get, option_map, unwrap_or, if◌then◌else◌}
 use Rattle.std.proofs.lemmas.Bool.{cases_lt, le-ltb, lt-leb, lt-ltb}
 use Rattle.std.proofs.lemmas.Bool.Decides.{nat_tests}
@@ -70,7 +70,8 @@ passed-over sc m sent me i st w e = by (is_good sc me i m.frame w.slot) (nat_le 
 
 -- The next place.
 
--- a node that has closed the window of moment p, in this state, goes on with tick k, which is the first of moment q's window
+-- a node that has closed the window of moment p, in this state, goes on with tick k, which is the
+-- first of moment q's window
 pub record NextPlace (sc : Scenario) (hands : List HandIn) (me : Side) (i p k : ℕ) (c : NodeState) : Type 0 where
   pub q : ℕ
   pub st : NodeState

@@ -1,5 +1,5 @@
--- For the law that events are rounds: the next busy tick of a node in a window lies in it, and no message
--- goes out before.
+-- For the law that events are rounds: the next busy tick of a node in a window lies in it, and no
+-- message goes out before.
 use Rattle.std.proofs.Common.{◌≡◌, ℕ, zero, suc, ◌+◌, ◌-◌, ◌^◌, ◌<◌, ◌≤◌, ◌==◌, ◌||◌, Bool, true, false, refl, ap, sym, ◌∙◌, subst, arith, inl, inr, Option, Some, None, is_some}
 use Rattle.std.proofs.lemmas.Bool.{cases_lt, le-ltb, lt-ltb, true≢false}
 use Rattle.std.proofs.lemmas.Bool.Decides.{nat_tests}

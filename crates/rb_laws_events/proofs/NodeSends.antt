@@ -1,5 +1,5 @@
--- For the law that events are rounds: at each tick of a window the core says what the rounds send in this
--- window, if that is its tick.
+-- For the law that events are rounds: at each tick of a window the core says what the rounds send
+-- in this window, if that is its tick.
 use Rattle.std.proofs.Common.{◌≡◌, ℕ, zero, suc, ◌+◌, ◌*◌, ◌-◌, ◌/◌, ◌%◌, ◌<◌, ◌≤◌, ◌==◌, ◌⊎◌, true, false, refl, ap, sym, ◌∙◌, subst, arith, inl, inr, Option, Some, None, option_and_then, option_map, if◌then◌else◌}
 use Rattle.std.proofs.lemmas.Bool.{cases_lt}
 use Rattle.std.proofs.lemmas.Option.{same_Some}
@@ -29,7 +29,8 @@ use Rattle.rb_laws_events.specs.Closing.{stages_in}
 use Rattle.rb_laws_events.proofs.StageOrder.{last_of, last-same}
 use Rattle.rb_laws_events.proofs.TickWindows.{IsTickIn, first_of, first-same, ends-before-later, here-is}
 
--- a node's calls go out in their own windows, and the tick of its next epoch comes after the last stage
+-- a node's calls go out in their own windows, and the tick of its next epoch comes after the last
+-- stage
 pub record KeepsTime (sizes : Sizes) (plan : Plan) (me : Side) (st : NodeState) : Type 0 where
   pub second : (x : ℕ) → st.k1 ≡ Some x → IsTickIn sizes plan me st (3 * sync_slot_of sizes + 1) (x + plan.l)
   pub third : (x : ℕ) → st.k2 ≡ Some x → IsTickIn sizes plan me st (3 * sync_slot_of sizes + 2) (x + plan.v)

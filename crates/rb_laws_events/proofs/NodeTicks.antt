@@ -1,5 +1,5 @@
--- For the law that events are rounds: what a core does at a tick of a window, whether it has already said
--- what it has to say in it or not.
+-- For the law that events are rounds: what a core does at a tick of a window, whether it has
+-- already said what it has to say in it or not.
 use Rattle.std.proofs.Common.{◌≡◌, ℕ, ◌+◌, ◌*◌, ◌-◌, ◌<◌, ◌≤◌, ◌==◌, ◌&&◌, nat_lt, Bool, true, false, refl, ap, sym, ◌∙◌, subst, arith, inl, inr, Option, Some, None, is_some, option_and_then, option_map, unwrap_or, if◌then◌else◌}
 use Rattle.std.proofs.lemmas.Bool.{cases_lt, eqb-true, le-ltb, lt-ltb, ltb-false, ltb-true}
 use Rattle.std.proofs.lemmas.Bool.Decides.{nat_tests}
@@ -151,7 +151,8 @@ no-turn sizes plan me st n k ticks keeps le at =
     ap (λ b. elim b as (λ _. NodeState) [ true ↦ turn_if_known sizes plan me st | false ↦ st ])
     (no-tick k (new_epoch_of plan me st) (λ x e. epoch-later sizes plan me st n k x ticks keeps le at e))
 
--- What is known of a tick of window n: the state in which the core takes it, `word` being the word of the rounds.
+-- What is known of a tick of window n: the state in which the core takes it, `word` being the word
+-- of the rounds.
 
 -- the message has gone out before tick k
 abbrev pub gone : Option Sending → ℕ → Bool

@@ -1,5 +1,5 @@
--- For the law that events are rounds: the word that a core is given at a tick is the one that the rounds
--- give the node in the window.
+-- For the law that events are rounds: the word that a core is given at a tick is the one that the
+-- rounds give the node in the window.
 use Rattle.std.proofs.Common.{◌≡◌, ℕ, ◌+◌, ◌-◌, ◌==◌, ◌&&◌, nat_lt, Bool, true, false, refl, ap, sym, ◌∙◌, subst, arith, Option, Some, None, is_some, option_and_then, option_map, unwrap_or, get_or, if◌then◌else◌, List}
 use Rattle.std.proofs.lemmas.Bool.{and_parts, eqb-true}
 use Rattle.std.proofs.lemmas.Bool.Decides.{nat_tests}
@@ -276,7 +276,8 @@ taken-word sc ports i slot stage m p b e =
     by true = refl
     by false = refl
 
--- at any tick the word that is wanted for what would be said with word 0 comes to the same as the one of the rounds
+-- at any tick the word that is wanted for what would be said with word 0 comes to the same as the
+-- one of the rounds
 pub wanted-fits : (sc : Scenario) (ports : List PortState) (me : Side) (i : ℕ) (st : NodeState) (slot stage : ℕ) (b : Bool)
     → WordFits sc.sizes me i st slot stage (word_wanted sc ports i (at_its_tick b (message_said sc.sizes me i st slot stage 0)))
     (word_for sc ports i slot (role_of sc.sizes slot)) b

@@ -1,4 +1,5 @@
--- For the law that running nodes agree: what the rounds hold in common at a slot, the nodes hold that stand there.
+-- For the law that running nodes agree: what the rounds hold in common at a slot, the nodes hold
+-- that stand there.
 use Rattle.std.proofs.Common.{◌≡◌, ℕ, zero, suc, ◌+◌, ◌*◌, ◌-◌, ◌==◌, ◌&&◌, ◌<◌, ◌≤◌, ◌⊎◌, nat_lt, not, Bool, true, false, refl, ap, sym, ◌∙◌, subst, arith, inl, inr, List, Option, Some, get_or, slice_get, is_some, if◌then◌else◌}
 use Rattle.std.proofs.lemmas.Bool.{and_right, cases_lt}
 use Rattle.rb_base.specs.Nodes.{Side, has, set_of}
@@ -67,7 +68,8 @@ convicted-same sizes Rmu Rmu st o = refl
 
 -- One node in a slot.
 
--- the node is good in the rounds before its stage, where its state has the epoch, the schedule, the convicted nodes and the votes of its core
+-- the node is good in the rounds before its stage, where its state has the epoch, the schedule, the
+-- convicted nodes and the votes of its core
 record IsIn {w : World} {me : Side} (sc : Scenario) (frame slot : ℕ) (node : RunningNode w me) : Type 0 where
   st : NodeState
   there : IsGoodIn sc (before_stage sc w.hands frame slot (window_of sc node).stage) me node.index st
@@ -169,7 +171,7 @@ settled-slot {w} {me} sc frame slot node at = by at.settled
     by (inl complete) = inl complete
     by (inr begin) = inr begin.0
 
--- At the begin of the slot.
+-- At the start of the slot.
 
 -- a node with this epoch was there before the slot
 record WasThere (sc : Scenario) (hands : List HandIn) (frame slot : ℕ) (me : Side) (i epoch : ℕ) : Type 0 where
@@ -288,7 +290,7 @@ holds-shared {w} {me} sc lawful frame slot node follow at r =
           subst (SharedAt sc w.hands frame slot r.shared) (sym four) (r.tail (a.last four))
     ]
 
--- a node at the begin of the slot holds the state of the rounds before it
+-- a node at the start of the slot holds the state of the rounds before it
 before-is : {w : World} {me : Side} (sc : Scenario) (frame slot : ℕ) (node : RunningNode w me) → (window_of sc node).stage ≡ 1 → (a : IsIn sc frame slot node)
     → IsGoodBefore sc w.hands frame slot me node.index a.st
 before-is {w} {me} sc frame slot node first a = record {
@@ -296,7 +298,7 @@ before-is {w} {me} sc frame slot node first a = record {
   state = ap (λ stage. slice_get (of_kind me (before_stage sc w.hands frame slot stage).nodes) node.index) (sym first) ∙ a.there.0;
 }
 
--- the slot is complete, or both stand at the begin of its frame
+-- the slot is complete, or both stand at the start of its frame
 record BothBegin {w : World} {me you : Side} (sc : Scenario) (frame slot : ℕ) (mine : RunningNode w me) (yours : RunningNode w you) : Type 0 where
   begins : BeginsFrame sc w.hands frame slot
   mine_first : (window_of sc mine).stage ≡ 1

@@ -1,4 +1,5 @@
--- For the law that events are rounds: what holds in every world in which all nodes stand in the rounds, and one event in it.
+-- For the law that events are rounds: what holds in every world in which all nodes stand in the
+-- rounds, and one event in it.
 use Rattle.std.proofs.Common.{◌≡◌, ℕ, ◌<◌, ◌≤◌, Bool, true, false, List, [], ◌∷◌, ◌++◌, flat_map, length, length-set, option_and_then, refl, ap, sym, ◌∙◌, subst, arith, inl, inr, Option, Some, None, slice_get}
 use Rattle.std.specs.Prelude.{⊤}
 use Rattle.std.proofs.lemmas.Option.{none-some, same_Some}
@@ -49,8 +50,9 @@ use Rattle.rb_laws_events.proofs.WorldEvents.{AfterTick, passed-on, tick-event}
 use Rattle.rb_laws_events.proofs.WorldStands.{AllPend, IsDown, IsUp, SitesStand, arrival-keeps-world, sent_by}
 use Rattle.rb_laws_events.proofs.WorldTicks.{moved}
 
--- the world stands in the rounds: each node in its moment, what they have told is what they tell there, the book is a moment's, the ports of
--- the nodes that run are those of the rounds, and what comes next waits for a node
+-- the world stands in the rounds: each node in its moment, what they have told is what they tell
+-- there, the book is a moment's, the ports of the nodes that run are those of the rounds, and what
+-- comes next waits for a node
 pub record WorldInRounds (sc : Scenario) (now : ℕ) (at : Side → ℕ → ℕ) (w : World) : Type 0 where
   pub sites : SitesStand sc w.hands now at w.sites
   pub passed : HavePassed sc w.hands now at

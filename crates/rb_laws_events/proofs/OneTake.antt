@@ -1,5 +1,5 @@
--- For the law that events are rounds: one due event keeps the whole invariant, as long as the nodes are in time where
--- they stand and where the node of the event stands next.
+-- For the law that events are rounds: one due event keeps the whole invariant, as long as the nodes
+-- are in time where they stand and where the node of the event stands next.
 use Rattle.std.proofs.Common.{◌≡◌, ℕ, zero, suc, ◌<◌, ◌≤◌, ◌&&◌, not, Bool, true, false, List, length, refl, ap, sym, ◌∙◌, subst, arith, Option, Some, None, slice_get}
 use Rattle.std.proofs.lemmas.Option.{same_Some}
 use Rattle.rb_base.specs.Nodes.{Side, other}
@@ -150,7 +150,8 @@ pub record StandsUpTo (sc : Scenario) (hands : List HandIn) (n : ℕ) (w : World
   pub hands_are : w.hands ≡ hands
   pub bound : (me : Side) (i : ℕ) (s : Site) → slice_get (of_kind me w.sites) i ≡ Some s → stands.at me i ≤ n
 
--- where the next record needs an event, no event closes the window of the moment at which the book waits
+-- where the next record needs an event, no event closes the window of the moment at which the book
+-- waits
 pub closes-earlier : (sc : Scenario) (now : ℕ) (at : Side → ℕ → ℕ) (w : World) (n : ℕ) (d : Due) → IsLawful sc → WorldInRounds sc now at w → WaitsAt sc w.hands at w.sites w.book n
     → UpTo sc w.hands n → (due : IsDue w d) → ClosesEarlier sc w.hands at n d.side d.node d.pending
 closes-earlier sc now at w n d lawful h waits up_to due = by d.pending due.ready

@@ -1,5 +1,5 @@
--- For the law that events are rounds: no node is beyond the stage after that which the book waits for, and what it waits for is not
--- complete. Whatever is settled keeps it so.
+-- For the law that events are rounds: no node is beyond the stage after that which the book waits
+-- for, and what it waits for is not complete. Whatever is settled keeps it so.
 use Rattle.std.proofs.Common.{◌≡◌, ℕ, zero, suc, ◌+◌, ◌*◌, ◌<◌, ◌≤◌, ◌==◌, ◌&&◌, ◌⊎◌, not, nat_lt, if◌then◌else◌, Bool, true, false, List, [], ◌∷◌, ◌++◌, length, refl, ap, sym, ◌∙◌, subst, arith, inl, inr, Option, Some, None, slice_get}
 use Rattle.std.specs.Prelude.{⊤}
 use Rattle.std.proofs.lemmas.Bool.{and_parts, eqb-true, le-ltb, ltb-true}
@@ -159,7 +159,7 @@ stage-waits sc hands at sites place counts told before needs =
     let le : at me i ≤ number_at sc.sizes place = before me i site.0 site.1 in
     omega arith))
 
--- the begin of a frame after which the book waits for the first stage
+-- the start of a frame after which the book waits for the first stage
 begin-waits : (sc : Scenario) (hands : List HandIn) (at : Side → ℕ → ℕ) (sites : Each Site) (frame : ℕ) → ((me : Side) → length (of_kind me sites) ≡ count_of me sc.sizes)
     → AllTold sc hands at sites → ((me : Side) (i : ℕ) (s : Site) → slice_get (of_kind me sites) i ≡ Some s → at me i ≤ frame * (windows_in sc.sizes + 1))
     → (m : Milestone) → m ≡ (if frame == sc.frames then End else Stage (record { frame = frame; slot = 0; stage = 1 })) → needs_no_event sc m ≡ false → is_complete sc sites m ≡ false
@@ -247,7 +247,8 @@ next-bound sc at way w sites same bound = elim (next-cases sc way w) [
 ended-paced : (sc : Scenario) (at : Side → ℕ → ℕ) (sites : Each Site) (b : Book) → b.ended ≡ true → Paced sc at sites b
 ended-paced sc at sites b e = record { bound = λ going. true-false (sym e ∙ going); waits = λ going. true-false (sym e ∙ going) }
 
--- a milestone that needs no event is settled: what comes after the last stage of a frame in which nobody is good needs none either
+-- a milestone that needs no event is settled: what comes after the last stage of a frame in which
+-- nobody is good needs none either
 nobody-then : (sc : Scenario) → IsShape sc.sizes → (frame slot : ℕ) → nobody_good sc frame slot ≡ true → nobody_good sc (frame + 1) 0 ≡ true
 nobody-then sc shape frame slot h = by (nobody_good sc (frame + 1) 0) refl
   where

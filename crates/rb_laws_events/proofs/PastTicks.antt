@@ -1,5 +1,6 @@
--- For the law that events are rounds where the premise on faults is broken in a sync slot: what a node does after it has
--- closed the stage with which the run breaks off. Whatever middles it keeps, it tells nothing up to the last tick of the next window.
+-- For the law that events are rounds where the premise on faults is broken in a sync slot: what a
+-- node does after it has closed the stage with which the run breaks off. Whatever middles it keeps,
+-- it tells nothing up to the last tick of the next window.
 use Rattle.std.proofs.Common.{◌≡◌, ℕ, ◌+◌, ◌<◌, ◌≤◌, ◌==◌, ◌&&◌, if◌then◌else◌, Bool, true, false, List, [], ◌∷◌, ◌++◌, not, nat_lt, refl, ap, sym, ◌∙◌, subst, arith, inl, inr, Option, Some, None, is_some}
 use Rattle.std.proofs.lemmas.Bool.{cases_lt}
 use Rattle.std.proofs.lemmas.Bool.Decides.{nat_tests}
@@ -21,7 +22,8 @@ use Rattle.rb_laws_events.proofs.NodeTicks.{Like, like-kept, like-itself, past-t
 use Rattle.rb_laws_events.proofs.StageOrder.{last_of}
 use Rattle.rb_laws_events.proofs.TickWindows.{IsTickIn, ends-before-later, first_of, last-is}
 
--- a node of a frame that began at tick e stands in window n or beyond, and its next frame begins after all stages of this one
+-- a node of a frame that began at tick e stands in window n or beyond, and its next frame begins
+-- after all stages of this one
 pub record IsPast (sizes : Sizes) (plan : Plan) (me : Side) (frame e n : ℕ) (c : NodeState) (had : ℕ) : Type 0 where
   pub in_frame : c.frame ≡ frame
   pub epoch : c.epoch ≡ e

@@ -1,5 +1,5 @@
--- For the law that events are rounds: what has come of a source for the open window, what is pending
--- of it, and what was sent: how an arrival keeps them together.
+-- For the law that events are rounds: what has come of a source for the open window, what is
+-- pending of it, and what was sent: how an arrival keeps them together.
 use Rattle.std.proofs.Common.{◌≡◌, ℕ, zero, suc, ◌+◌, ◌<◌, ◌≤◌, ◌^◌, ◌==◌, ◌&&◌, not, nat_lt, nat_le, Bool, true, false, List, [], ◌∷◌, ◌++◌, map, filter, remove, length, length-append, refl, sym, ◌∙◌, ap, subst, arith, cond}
 use Rattle.std.proofs.lemmas.Bool.Decides.{nat_tests}
 use Rattle.std.proofs.lemmas.List.{append-nil}
@@ -20,8 +20,8 @@ is_now j t c = (c.from == j) && nat_le c.time t
 abbrev pub is_later : ℕ → ℕ → Coming → Bool
 is_later j t c = (c.from == j) && nat_lt t c.time
 
--- of source j: what came and what is still pending by time t are together what was sent for the open window so far, and what
--- pends for later is what was sent for the next one
+-- of source j: what came and what is still pending by time t are together what was sent for the
+-- open window so far, and what pends for later is what was sent for the next one
 pub record Hears (j t : ℕ) (got coming sent next : List Coming) : Type 0 where
   pub came : Every (λ c. IsOneOf c sent) (coming_from got j)
   pub pends : Every (λ c. IsOneOf c sent) (filter (is_now j t) coming)
@@ -84,7 +84,8 @@ pub each-append : (P : Coming → Type 0) (xs ys : List Coming) → Every P xs �
 each-append P [] ys a b = b
 each-append P (x ∷ xs) ys a b = (a.0, each-append P xs ys a.1 b)
 
--- an arrival by the window's last tick was pending and has come now. For every source what was sent stays the same
+-- an arrival by the window's last tick was pending and has come now. For every source what was sent
+-- stays the same
 pub arrival-keeps : (j t n : ℕ) (c : Coming) (got coming sent next : List Coming) → StandsAt n c coming → c.time ≤ t
     → Hears j t got coming sent next → Hears j t (got ++ c ∷ []) (remove coming n) sent next
 arrival-keeps j t n c got coming sent next at le h =

@@ -10,7 +10,8 @@ use Rattle.rb_rules.specs.Plan.{IsFeasible, IsPlan, Sides, drift_in, longest_of,
 use Rattle.rb_rules.proofs.Lawfulness.{SendsInside, sends_inside_all}
 use Rattle.rb_laws_synchrony.proofs.PlanNumbers.{enough}
 
--- the ticks after the sending tick take at least so long, so with the one that sends and those before it the window takes longer
+-- the ticks after the sending tick take at least so long, so with the one that sends and those
+-- before it the window takes longer
 window-rest : (ticks h shortest n : ℕ) → h < ticks → pos n ≤ℤ ((pos ticks -ℤ pos (1 + h)) *ℤ pos shortest)
     → n + shortest + h * shortest ≤ ticks * shortest
 window-rest ticks h shortest n inside le =
@@ -62,10 +63,11 @@ fits sizes plan is feasible =
       skew = omega (arith, bound);
     }
 
--- Sums of ticks: `u` is a shortest tick, `d` how far two clocks drift apart in one, and `a + b` ticks lie between two closes.
+-- Sums of ticks: `u` is a shortest tick, `d` how far two clocks drift apart in one, and `a + b`
+-- ticks lie between two closes.
 
--- two nodes begin a frame at the times s and t, at most p apart. The first closes no later than after o longest ticks, the second
--- no earlier than after o and n shortest ones
+-- two nodes begin a frame at the times s and t, at most p apart. The first closes no later than
+-- after o longest ticks, the second no earlier than after o and n shortest ones
 pub closes-first : (u d o n m p s t first second : ℕ) → p + d * o < n * u → o + n ≤ m → s ≤ t + p → first ≤ s + o * (u + d) → t + m * u ≤ second
     → first < second
 closes-first u d o n m p s t first second less later apart early late =

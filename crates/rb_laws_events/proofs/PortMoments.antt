@@ -1,5 +1,5 @@
--- For the law that events are rounds: the ports of a world and those of the rounds: the words that they offer, and
--- what is delivered to them.
+-- For the law that events are rounds: the ports of a world and those of the rounds: the words that
+-- they offer, and what is delivered to them.
 use Rattle.std.proofs.Common.{◌≡◌, ℕ, suc, ◌<◌, ◌==◌, ◌≢◌, List, [], length, refl, ap, ◌∙◌, arith, Option, Some, None, slice_get, get_or, option_map, option_and_then}
 use Rattle.std.proofs.lemmas.Bool.{lt-ltb}
 use Rattle.std.proofs.lemmas.List.{get_or-set_same, get_or-set_other}

@@ -1,4 +1,5 @@
--- For the law that running ports agree: between two deliveries the port of a running BIU is that of the rounds after the slot.
+-- For the law that running ports agree: between two deliveries the port of a running BIU is that of
+-- the rounds after the slot.
 use Rattle.std.proofs.Common.{◌≡◌, ℕ, ◌+◌, ◌<◌, true, ap, sym, ◌∙◌, arith, inl, inr, ◌⊎◌, List}
 use Rattle.std.proofs.lemmas.Bool.{cases_lt}
 use Rattle.rb_base.specs.Nodes.Side.{Biu}

@@ -1,4 +1,5 @@
--- For the law that running cores agree: between the delivery of a slot and that of the next a port stays in the rounds.
+-- For the law that running cores agree: between the delivery of a slot and that of the next a port
+-- stays in the rounds.
 use Rattle.std.proofs.Common.{◌≡◌, ℕ, suc, ◌+◌, ◌-◌, ◌*◌, ◌%◌, length, ◌<◌, ◌≤◌, ◌==◌, ◌&&◌, ◌⊎◌, nat_le, Bool, true, false, refl, ap, sym, ◌∙◌, arith, inl, inr, List, None, option_map}
 use Rattle.std.proofs.lemmas.Bool.{cases_lt}
 use Rattle.std.proofs.lemmas.Bool.Decides.{nat_tests}

@@ -1,5 +1,5 @@
--- For the law that events are rounds: an event keeps the ports of the nodes that run those of the rounds, and what is
--- handed in is of frames that all good nodes have begun.
+-- For the law that events are rounds: an event keeps the ports of the nodes that run those of the
+-- rounds, and what is handed in is of frames that all good nodes have begun.
 use Rattle.std.proofs.Common.{◌≡◌, ℕ, zero, suc, ◌+◌, ◌*◌, ◌<◌, ◌≤◌, ◌==◌, ◌&&◌, ◌⊎◌, nat_le, Bool, true, false, List, [], ◌∷◌, length, refl, ap, sym, ◌∙◌, subst, arith, inl, inr, Option, Some, None, slice_get, option_and_then, option_map}
 use Rattle.std.proofs.lemmas.Bool.{cases_lt, eqb-true}
 use Rattle.std.proofs.lemmas.Bool.Decides.{nat_tests}
@@ -110,7 +110,7 @@ none-begun sc hands sites me i p s a st all there pend state told good first at_
           absurd (omega (arith, up, more, le, some))
     ]
 
--- The line of a port at a frame's begin.
+-- The line of a port at a frame's start.
 
 before-is : (sc : Scenario) (hands : List HandIn) (p : ℕ) → (moment sc hands p).window ≡ 0 → NoneHanded (moment sc hands p).frame hands → (moment sc hands p).ports ≡ ports_before sc hands p
 unfolding ports_before begin_frame

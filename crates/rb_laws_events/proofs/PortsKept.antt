@@ -1,5 +1,5 @@
--- For the law that events are rounds: the port of a BIU that closes a window is that of the rounds in the moment
--- where the node stands then.
+-- For the law that events are rounds: the port of a BIU that closes a window is that of the rounds
+-- in the moment where the node stands then.
 use Rattle.std.proofs.Common.{◌≡◌, ℕ, suc, ◌+◌, ◌-◌, ◌*◌, ◌<◌, ◌≤◌, ◌==◌, ◌&&◌, ◌⊎◌, nat_le, nat_lt, Bool, true, false, List, [], ◌∷◌, length, refl, ap, sym, ◌∙◌, subst, arith, inl, inr, Option, Some, None, slice_get, option_and_then, option_map, if◌then◌else◌}
 use Rattle.std.proofs.lemmas.Bool.{cases_lt, lt-ltb, le-ltb}
 use Rattle.rb_base.specs.Nodes.{Side}
@@ -109,7 +109,7 @@ still-early sc hands p i ticks counted early =
     let slot : slot_numbered sc.sizes (moment sc hands p).window < sc.sizes.bius = omega arith in
     still-by sc hands p i ticks counted (omega arith) (no-data-early sc.sizes _ slot)
 
--- no state is handed in at a frame's begin
+-- no state is handed in at a frame's start
 abbrev pub NoneHanded : ℕ → List HandIn → Type 0
 NoneHanded frame hands = Every (λ h. (h.frame == frame) ≡ false) hands
 
@@ -133,7 +133,8 @@ ports-turned sc hands p over =
 
 -- The place where a node stands after a close.
 
--- from the moment after a window to that where the node stands nothing changes at the port, unless something has been handed in
+-- from the moment after a window to that where the node stands nothing changes at the port, unless
+-- something has been handed in
 pub port-there : (sc : Scenario) (hands : List HandIn) (p q i : ℕ) → HasTicks sc.plan → i < sc.sizes.bius → (moment sc hands p).window ≤ stages_in sc.sizes
     → (q ≡ next_stage sc.sizes (moment sc hands p) p) ⊎ ((q ≡ suc p) × ((moment sc hands q).window ≡ stages_in sc.sizes))
     → ((moment sc hands q).window ≡ 0 → NoneHanded (moment sc hands q).frame hands)

@@ -1,5 +1,5 @@
--- For the law that events are rounds: a node in an open window: what was sent to it so far has come or
--- is pending, and its next busy tick is pending. An arrival keeps it so.
+-- For the law that events are rounds: a node in an open window: what was sent to it so far has come
+-- or is pending, and its next busy tick is pending. An arrival keeps it so.
 use Rattle.std.proofs.Common.{◌≡◌, ℕ, zero, suc, ◌^◌, ◌<◌, ◌≤◌, List, [], ◌∷◌, map, remove, refl, sym, ◌∙◌, subst, arith, inl, inr, Some}
 use Rattle.std.proofs.lemmas.Bool.{cases_lt}
 use Rattle.rb_base.specs.Nodes.{Side, other}
@@ -16,8 +16,9 @@ use Rattle.rb_laws_events.proofs.PendingLists.{Hears, StandsAt, arrival-keeps, i
 use Rattle.rb_laws_events.proofs.SameHeard.{Every, kept_as}
 use Rattle.rb_laws_events.proofs.SayLists.{every-to}
 
--- node i of kind me in an open window, of which this is the last tick. `sent` gives what was sent to it of each source for the
--- window so far, `next` what was sent for the one after it; `now` is the time of the last event, `a` the node's next busy tick
+-- node i of kind me in an open window, of which this is the last tick. `sent` gives what was sent
+-- to it of each source for the window so far, `next` what was sent for the one after it; `now` is
+-- the time of the last event, `a` the node's next busy tick
 pub record Receives (sc : Scenario) (me : Side) (i last : ℕ) (sent next : ℕ → List Coming) (now : ℕ) (s : Site) (a : Timed) : Type 0 where
   pub hears : (j : ℕ) → Hears j (time_of (clock_of sc me i) last) s.got s.coming (sent j) (next j)
   pub known : Every (λ c. c.from < count_of (other me) sc.sizes) s.coming

@@ -1,5 +1,5 @@
--- For the law that events are rounds: in every moment of the rounds each good node is in the moment's
--- frame, and knows the middles of the windows passed.
+-- For the law that events are rounds: in every moment of the rounds each good node is in the
+-- moment's frame, and knows the middles of the windows passed.
 use Rattle.std.proofs.Common.{◌≡◌, ℕ, zero, suc, ◌+◌, ◌-◌, ◌*◌, ◌/◌, ◌<◌, ◌≤◌, ◌==◌, nat_lt, min, Bool, true, false, List, [], ◌∷◌, length, refl, subst, inl, inr, sym, ◌∙◌, ap, arith, Option, Some, None, slice_get, is_some}
 use Rattle.std.proofs.lemmas.Bool.{cases_lt}
 use Rattle.std.proofs.lemmas.Bool.Decides.{nat_tests}
@@ -126,7 +126,7 @@ turn-stands sc m me e st w f = record {
       (record { k1 = sym (knows-none sc.sizes me 1); k2 = sym (knows-none sc.sizes me 2); k3 = sym (knows-none sc.sizes me 3) });
 }
 
--- a node that stood at the end of a frame stands at the begin of the next
+-- a node that stood at the end of a frame stands at the start of the next
 turned-stand : (sc : Scenario) (hands : List HandIn) (m : Moment) (me : Side) (i : ℕ) (old st : NodeState) → m.window ≡ windows_in sc.sizes
     → slice_get (of_kind me m.nodes) i ≡ Some old → slice_get (of_kind me (next_frame sc hands m).nodes) i ≡ Some st → Stands sc m me old
     → Stands sc (next_frame sc hands m) me st
@@ -179,7 +179,8 @@ step-stand : (sc : Scenario) (hands : List HandIn) (m : Moment) → HasTicks sc.
 unfolding step
 step-stand sc hands m ticks h = stepped-stand sc hands m (m.frame == sc.frames) (nat_lt m.window (windows_in sc.sizes)) ticks refl h
 
--- in every moment each good node is in its frame, and knows the middles of the windows that it has passed
+-- in every moment each good node is in its frame, and knows the middles of the windows that it has
+-- passed
 pub moments-stand : (sc : Scenario) (hands : List HandIn) (n : ℕ) → HasTicks sc.plan → AllStand sc (moment sc hands n)
 moments-stand sc hands zero ticks = first-stand sc hands
 moments-stand sc hands (suc n) ticks = step-stand sc hands (moment sc hands n) ticks (moments-stand sc hands n ticks)

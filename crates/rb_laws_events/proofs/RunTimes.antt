@@ -56,7 +56,8 @@ later-is sc hands p q e all =
 
 -- Up to stage 1 of the sync slot.
 
--- good nodes that have begun the frame together are in time in each window up to there, whatever comes of the run
+-- good nodes that have begun the frame together are in time in each window up to there, whatever
+-- comes of the run
 pub in-exact : (sc : Scenario) (hands : List HandIn) → IsLawful sc → (p : ℕ) → BegunWell sc (moment sc hands p) → (moment sc hands p).window ≤ 3 * sync_slot_of sc.sizes
     → InTime sc (moment sc hands p) (moment sc hands (next_stage sc.sizes (moment sc hands p) p))
 in-exact sc hands lawful p well early =
@@ -250,7 +251,8 @@ in-tail sc hands lawful p at running =
           omega arith;
     })
 
--- in a run that has not ended by the next stage good nodes are in time in each window, and what is sent in the next stage comes later
+-- in a run that has not ended by the next stage good nodes are in time in each window, and what is
+-- sent in the next stage comes later
 pub record Running (sc : Scenario) (hands : List HandIn) (p : ℕ) : Type 0 where
   pub times : InTime sc (moment sc hands p) (moment sc hands (next_stage sc.sizes (moment sc hands p) p))
   pub later : AllLater sc hands p
@@ -282,7 +284,7 @@ in-running sc hands lawful p within running =
       ]
     ]
 
--- At the begin.
+-- At the start.
 
 pub first-running : (sc : Scenario) (hands : List HandIn) → IsRunning (moment sc hands 0)
 unfolding begin_frame with_frame

@@ -1,4 +1,5 @@
--- For the law that every run ends: where each world has ticks left, only so many events are taken, whatever is chosen.
+-- For the law that every run ends: if each world has ticks left, the number of events that are
+-- taken is bounded, whatever is chosen.
 use Rattle.std.proofs.Common.{◌≡◌, ℕ, zero, suc, ◌+◌, ◌*◌, ◌^◌, ◌<◌, ◌≤◌, ◌==◌, ◌&&◌, Bool, true, false, List, [], ◌∷◌, ◌++◌, fold, length, map, refl, sym, ◌∙◌, subst, arith, Option, Some, None, slice_get}
 use Rattle.std.specs.List.{range_with_len}
 use Rattle.std.proofs.lemmas.Nat.{mul-le}
@@ -148,7 +149,7 @@ first-left sc =
     let both : nodes_of sc.sizes * all ≡ sc.sizes.bius * all + sc.sizes.rmus * all = omega arith in
     omega (arith, bius, rmus, both)
 
--- where each world has ticks left, only so many events are taken
+-- if each world has ticks left, the number of events that are taken is bounded
 pub every-run-ends : (sc : Scenario) → ((choices : List Choice) → (world_after sc choices).book.ended ≡ false → HasTicksLeft sc (world_after sc choices))
     → ((choices : List Choice) (me : Side) (i : ℕ) (s : Site) → slice_get (of_kind me (world_after sc choices).sites) i ≡ Some s → s.runs ≡ true → s.core.had < 2 ^ 31) → EveryRunEnds sc
 every-run-ends sc left room = record {

@@ -1,6 +1,6 @@
 -- For the law that events are rounds: a close needs only how many messages came of each source, and
--- the sole one. So a node closes on its inbox as the rounds do on what is heard, where of each source as many came, and each
--- of them is one of those.
+-- the sole one. So a node closes on its inbox as the rounds do on what is heard, where of each
+-- source as many came, and each of them is one of those.
 use Rattle.std.proofs.Common.{◌≡◌, ℕ, ◌==◌, Bool, true, false, List, [], ◌∷◌, map, filter, length, refl, ◌∙◌, ap, arith, ◌⊎◌, inl, inr, cond, get_or}
 use mathlib.Core.Path.{fun_ext}
 use Rattle.rb_base.specs.Nodes.{Side}

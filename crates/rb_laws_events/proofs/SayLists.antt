@@ -1,5 +1,5 @@
--- For the law that events are rounds: what nodes that are not good say in a window that opens: it comes in the
--- window, and stands together with what good nodes have already sent for it.
+-- For the law that events are rounds: what nodes that are not good say in a window that opens: it
+-- comes in the window, and stands together with what good nodes have already sent for it.
 use Rattle.std.proofs.Common.{◌≡◌, ℕ, zero, suc, ◌+◌, ◌<◌, ◌≤◌, ◌==◌, ◌&&◌, ◌⊎◌, nat_le, Bool, true, false, cond, All, List, [], ◌∷◌, ◌++◌, filter, flat_map, map, length, refl, ap, sym, ◌∙◌, subst, arith, inl, inr}
 use Rattle.std.specs.List.{range_with_len}
 use Rattle.std.proofs.lemmas.Bool.{and_parts, cases_lt, eq-eqb, le-leb, le-ltb, leb-true}

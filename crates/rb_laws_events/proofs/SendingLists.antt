@@ -1,5 +1,5 @@
--- For the law that events are rounds: what was sent and what is pending stay together when a message
--- goes out, and when a window opens.
+-- For the law that events are rounds: what was sent and what is pending stay together when a
+-- message goes out, and when a window opens.
 use Rattle.std.proofs.Common.{◌≡◌, ℕ, ◌+◌, ◌<◌, ◌≤◌, ◌==◌, nat_lt, nat_le, Bool, true, false, List, [], ◌∷◌, ◌++◌, filter, length, length-append, refl, sym, ◌∙◌, ap, subst, arith, inl, cond}
 use Rattle.std.proofs.lemmas.Bool.Decides.{nat_tests}
 use Rattle.std.proofs.lemmas.List.{append-nil}
@@ -61,8 +61,8 @@ say-other j t got coming sent next e its h =
       later = filter-last (is_later j t) coming e ∙ ap (λ b. filter (is_later j t) coming ++ cond b (e ∷ []) []) later ∙ append-nil (filter (is_later j t) coming) ∙ h.later;
     }
 
--- what is pending when a window opens: it comes after time t, that of the last tick before, and if it is of source j by time u,
--- that of the new window's last tick
+-- what is pending when a window opens: it comes after time t, that of the last tick before, and if
+-- it is of source j by time u, that of the new window's last tick
 abbrev pub OpensFor : ℕ → ℕ → ℕ → Coming → Type 0
 OpensFor j t u c = (t < c.time) × ((c.from == j) ≡ true → c.time ≤ u)
 

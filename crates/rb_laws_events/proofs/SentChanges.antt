@@ -1,4 +1,5 @@
--- For the law that events are rounds: what a tick of a node changes of what it has sent in the rounds.
+-- For the law that events are rounds: what a tick of a node changes of what it has sent in the
+-- rounds.
 use Rattle.std.proofs.Common.{◌≡◌, ℕ, zero, suc, ◌+◌, ◌*◌, ◌<◌, ◌≤◌, ◌==◌, ◌&&◌, ◌||◌, ◌⊎◌, nat_lt, Bool, true, false, List, [], ◌∷◌, refl, ap, sym, ◌∙◌, subst, arith, inl, inr, Option, Some, None, slice_get, option_map, get_or}
 use Rattle.std.proofs.lemmas.Bool.{cases_lt, eqb-true, le-ltb, lt-ltb}
 use Rattle.std.proofs.lemmas.Bool.Decides.{nat_tests}
@@ -68,7 +69,8 @@ abbrev pub past : Option Sending → Option Timed → Bool
 past None a = false
 past (Some s) a = is_past s.tick a
 
--- a node that stood in moment q with tick k pending stands in moment r with this tick pending, if any
+-- a node that stood in moment q with tick k pending stands in moment r with this tick pending, if
+-- any
 pub record Steps (so : ℕ → Option Sending) (q k r : ℕ) (b : Option Timed) : Type 0 where
   pub how : ((r ≡ q) × (gone (so q) (k + 1) ≡ past (so q) b)) ⊎ ((q < r) × (past (so r) b ≡ false))
   pub between : (p : ℕ) → q < p → p < r → so p ≡ None

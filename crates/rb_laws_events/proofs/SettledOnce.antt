@@ -1,5 +1,5 @@
--- For the law that events are rounds: what waits is not settled, and a stage and a frame's begin that are settled give
--- the records that they give.
+-- For the law that events are rounds: what waits is not settled, and a stage and a frame's start
+-- that are settled give the records that they give.
 use Rattle.std.proofs.Common.{◌≡◌, ℕ, zero, suc, ◌+◌, ◌*◌, ◌≤◌, ◌==◌, ◌&&◌, nat_lt, Bool, true, false, List, [], ◌∷◌, ◌++◌, length, refl, ap, sym, ◌∙◌, subst, arith, Option, Some, None, slice_get, if◌then◌else◌}
 use Rattle.std.proofs.lemmas.Bool.{le-ltb}
 use Rattle.std.proofs.lemmas.List.{append-nil}
@@ -52,7 +52,8 @@ pub rest-still : (sc : Scenario) (way : Way) (n : ℕ) (w : World) (o : Option R
 rest-still sc way n w None still = settle-still sc way n w still
 rest-still sc way n w (Some r) still = refl
 
--- a world in which what comes next waits, and while a frame's record is the turn all nodes are near its begin
+-- a world in which what comes next waits, and while a frame's record is the turn all nodes are near
+-- its start
 pub record Settled (sc : Scenario) (at : Side → ℕ → ℕ) (w : World) : Type 0 where
   pub waits : Waits sc w
   pub turn : (frame : ℕ) → frame_in w.turn ≡ Some frame → AfterRecord sc at w frame
@@ -112,7 +113,7 @@ sync-silent sc place rows b late = by b.ended refl
     by true f e = none-past b.given b.given refl
     by false f e = judged (verdict_of (judged_of sc place rows ∷ b.stages)) e
 
--- a frame's begin
+-- a frame's start
 pub record FrameGiven (sc : Scenario) (frame : ℕ) (begun : List Begun) (b x : Book) : Type 0 where
   pub next : x.upcoming ≡ (if frame == sc.frames then End else Stage (record { frame = frame; slot = 0; stage = 1 }))
   pub going : x.ended ≡ false

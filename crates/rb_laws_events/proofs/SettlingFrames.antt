@@ -1,5 +1,6 @@
--- For the law that events are rounds: where each node has told what it tells in the rounds, the begin of a frame that
--- the world settles is settled as in the rounds, and so whatever is settled makes the book one of the rounds'.
+-- For the law that events are rounds: where each node has told what it tells in the rounds, the
+-- start of a frame that the world settles is settled as in the rounds, and so whatever is settled
+-- makes the book one of the rounds'.
 use Rattle.std.proofs.Common.{◌≡◌, ℕ, zero, suc, ◌+◌, ◌<◌, ◌≤◌, ◌==◌, ◌&&◌, ◌||◌, ◌⊎◌, not, nat_lt, Bool, true, false, List, [], ◌∷◌, length, map, refl, ap, sym, ◌∙◌, subst, arith, inl, inr, Option, Some, None, is_some, slice_get, option_map, if◌then◌else◌}
 use Rattle.std.proofs.lemmas.Bool.{and_parts, cases_lt, eqb-true, le-ltb, lt-ltb}
 use Rattle.std.proofs.lemmas.Option.{same_Some, slice_get_past, slice_get_within}
@@ -28,12 +29,12 @@ use Rattle.rb_laws_events.proofs.Settling.{RowsOfRounds, each-at, end-settled, o
 use Rattle.rb_laws_events.proofs.WorldBooks.{settle-on}
 use Rattle.rb_laws_events.proofs.WorldNodes.{next-sites}
 
--- the ports before what is handed in at a frame's begin
+-- the ports before what is handed in at a frame's start
 unfoldable pub ports_before : Scenario → List HandIn → ℕ → List PortState
 ports_before sc hands zero = map (port_at sc []) (numbers sc.sizes.bius)
 ports_before sc hands (suc e) = (moment sc hands e).ports
 
--- what a node has told last of a frame's begin is what it tells in the rounds
+-- what a node has told last of a frame's start is what it tells in the rounds
 pub record BegunInRounds (sc : Scenario) (hands : List HandIn) (me : Side) (i : ℕ) (b : Begun) : Type 0 where
   pub q : ℕ
   pub st : NodeState
@@ -119,7 +120,7 @@ begun-are sc hands g sites ticks first counts rounds complete =
     get-each tells sites me i ∙ pick (of_kind me sites) i (slice_get (of_kind me sites) i) refl (λ s e. one me i s e) (λ e. none me i e)
     ∙ sym (get-each make m.nodes me i))
 
--- the begin of a frame that is complete is settled as in the rounds
+-- the start of a frame that is complete is settled as in the rounds
 pub frame-settled : (sc : Scenario) (hands : List HandIn) (e : ℕ) (sites : Each Site) → HasTicks sc.plan → windows_in sc.sizes ≤ (moment sc hands e).window
     → ((moment sc hands e).frame == sc.frames) ≡ false
     → ((me : Side) → length (of_kind me sites) ≡ count_of me sc.sizes) → BegunOfRounds sc hands sites
@@ -149,7 +150,7 @@ first-settled sc hands sites ticks counts rounds complete =
 
 -- Where the run is.
 
--- a run that has not ended is in one of its frames, or at the begin of the one after the last
+-- a run that has not ended is in one of its frames, or at the start of the one after the last
 pub record RunsIn (sc : Scenario) (m : Moment) : Type 0 where
   pub bound : m.frame ≤ sc.frames
   pub at_first : m.frame ≡ sc.frames → m.window ≡ 0

@@ -1,5 +1,6 @@
--- For the law that events are rounds where the premise on faults is broken in a sync slot: nodes of the kind that is heard
--- in a stage of the sync slot don't listen in it, so whatever came to them they say nothing in the next one, and in the tail.
+-- For the law that events are rounds where the premise on faults is broken in a sync slot: nodes of
+-- the kind that is heard in a stage of the sync slot don't listen in it, so whatever came to them
+-- they say nothing in the next one, and in the tail.
 use Rattle.std.proofs.Common.{◌≡◌, ℕ, zero, suc, ◌+◌, ◌*◌, ◌<◌, true, false, refl, ap, sym, ◌∙◌, subst, arith, Option, Some, None}
 use Rattle.rb_base.specs.Nodes.{Side, other}
 use Rattle.rb_base.specs.Nodes.Side.{Biu, Rmu}

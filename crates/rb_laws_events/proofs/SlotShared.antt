@@ -1,5 +1,5 @@
--- For the law that running nodes agree: what all good nodes hold in common is the same before each of the three stages of a complete slot,
--- and in the sync slot before the tail.
+-- For the law that running nodes agree: what all good nodes hold in common is the same before each
+-- of the three stages of a complete slot, and in the sync slot before the tail.
 use Rattle.std.proofs.Common.{◌≡◌, ℕ, zero, suc, ◌+◌, ◌-◌, ◌*◌, ◌<◌, ◌≤◌, inl, inr, ap, sym, ◌∙◌, subst, arith, List}
 use Rattle.std.proofs.lemmas.Bool.{cases_lt}
 use Rattle.rb_base.specs.Sizes.{sync_slot_of}

@@ -1,5 +1,5 @@
--- For the law on the order of closes: how far apart the last ticks of two stages in a row are, and what is known of a node's
--- earlier states.
+-- For the law on the order of closes: how far apart the last ticks of two stages in a row are, and
+-- what is known of a node's earlier states.
 use Rattle.std.proofs.Common.{◌≡◌, ℕ, ◌+◌, ◌*◌, ◌-◌, ◌<◌, ◌≤◌, ap, sym, ◌∙◌, subst, arith, inl, inr}
 use Rattle.std.proofs.lemmas.Bool.{cases_lt}
 use Rattle.std.proofs.lemmas.Nat.{mul-le}
@@ -16,7 +16,8 @@ use Rattle.rb_laws_events.proofs.PlanNumbers.{Fits}
 
 -- The last ticks of windows.
 
--- a node's stage ends at offset o and the next one at offset m, no fewer ticks later than two nodes may be apart
+-- a node's stage ends at offset o and the next one at offset m, no fewer ticks later than two nodes
+-- may be apart
 pub record Apart (plan : Plan) (o m : ℕ) : Type 0 where
   pub ticks : ℕ
   pub enough : plan.p + 2 * plan.r * o < ticks * shortest_of plan
@@ -95,7 +96,8 @@ apart-third sizes plan me you mine yours fit some u =
     let fits_z : skew_of sizes plan + drift_in plan (plan.l + plan.v) + shortest_of plan + plan.h * shortest_of plan ≤ plan.z * shortest_of plan = fit.in_z in
     record { ticks = plan.z; enough = omega (arith, up, sum, fits_z, u); later = omega (arith, o, m, some) }
 
--- from the last stage of a frame to the first of the next, which begins no earlier than the windows of this one end
+-- from the last stage of a frame to the first of the next, which begins no earlier than the windows
+-- of this one end
 pub apart-turn : (sizes : Sizes) (plan : Plan) (me you : Side) (mine yours : NodeState) → Fits sizes plan → 1 ≤ plan.l → 1 ≤ shortest_of plan
     → Apart plan (last_of sizes plan me mine (3 * sync_slot_of sizes + 2)) (tail_start_of sizes plan + last_of sizes plan you yours 0)
 apart-turn sizes plan me you mine yours fit some u =

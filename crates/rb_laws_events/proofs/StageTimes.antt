@@ -1,5 +1,5 @@
--- For the law that events are rounds: where a run has not ended, the calls and the epochs of good nodes come where they must, and no
--- window ends too late for a clock.
+-- For the law that events are rounds: where a run has not ended, the calls and the epochs of good
+-- nodes come where they must, and no window ends too late for a clock.
 use Rattle.std.proofs.Common.{◌≡◌, ℕ, ◌+◌, ◌*◌, ◌-◌, ◌^◌, ◌≤◌, ◌<◌, true, List, ap, sym, ◌∙◌, subst, arith, inl, inr, Some, slice_get}
 use Rattle.std.proofs.lemmas.Bool.{cases_lt}
 use Rattle.rb_base.specs.Nodes.{Side}

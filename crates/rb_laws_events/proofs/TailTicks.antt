@@ -1,6 +1,6 @@
--- For the law that events are rounds where the premise on faults is broken in a sync slot: what a node does after it has
--- closed the last stage of its frame. It goes through the tail and begins the next frame, and closes no stage before the end of that one's
--- first window.
+-- For the law that events are rounds where the premise on faults is broken in a sync slot: what a
+-- node does after it has closed the last stage of its frame. It goes through the tail and begins
+-- the next frame, and closes no stage before the end of that one's first window.
 use Rattle.std.proofs.Common.{◌≡◌, ℕ, ◌+◌, ◌*◌, ◌-◌, ◌<◌, ◌≤◌, ◌==◌, ◌&&◌, ◌⊎◌, if◌then◌else◌, Bool, true, false, List, [], refl, ap, sym, ◌∙◌, subst, arith, inl, inr, Option, Some, None, is_some, option_map, unwrap_or, slice_get}
 use Rattle.std.proofs.lemmas.Bool.{eqb-true}
 use Rattle.std.proofs.lemmas.Bool.Decides.{nat_tests}
@@ -116,7 +116,8 @@ closed-same sizes plan me i st w arrivals slot deaf =
 
 -- The node after the last stage of its frame.
 
--- in the tail of a frame that began at tick e, and so up to tick x, with which the next one begins. A BIU's calls went out before
+-- in the tail of a frame that began at tick e, and so up to tick x, with which the next one begins.
+-- A BIU's calls went out before
 pub record IsInTail (sizes : Sizes) (plan : Plan) (me : Side) (frame e x : ℕ) (c : NodeState) (had : ℕ) : Type 0 where
   pub in_frame : c.frame ≡ frame
   pub epoch : c.epoch ≡ e
@@ -137,7 +138,8 @@ pub record HasTurned (frame x : ℕ) (c : NodeState) (had : ℕ) : Type 0 where
 abbrev pub IsAfter : Sizes → Plan → Side → ℕ → ℕ → ℕ → NodeState → ℕ → ℕ → Type 0
 IsAfter sizes plan me frame e x c had k = (IsInTail sizes plan me frame e x c had × (k ≤ x)) ⊎ HasTurned frame x c had
 
--- and what a tick gives. What it says, if it is one that calls in the last stage, goes out in the first window of the next frame
+-- and what a tick gives. What it says, if it is one that calls in the last stage, goes out in the
+-- first window of the next frame
 pub record GoesOn (sizes : Sizes) (plan : Plan) (me : Side) (frame e x k : ℕ) (a : Act) : Type 0 where
   pub closed : (s : Shown) → a.closed ≡ Some s → (s.place.stage == 4) ≡ true
   pub after : (IsInTail sizes plan me frame e x a.core.state a.core.had × (a.core.had ≤ x)) ⊎ HasTurned frame x a.core.state a.core.had

@@ -1,5 +1,5 @@
--- For the law that every run ends: each event that is taken leaves fewer ticks before 2^31, or fewer messages on their
--- way, so only so many are taken.
+-- For the law that every run ends: each event that is taken leaves fewer ticks before 2^31, or
+-- fewer messages on their way, so their number is bounded.
 use Rattle.std.proofs.Common.{◌≡◌, ℕ, zero, suc, ◌+◌, ◌-◌, ◌*◌, ◌^◌, ◌<◌, ◌≤◌, ◌==◌, ◌&&◌, Bool, true, false, List, [], ◌∷◌, ◌++◌, cond, filter, flat_map, length, refl, ap, sym, ◌∙◌, subst, arith, Option, Some, None, option_map, remove, slice_get}
 use Rattle.std.specs.List.{range_with_len}
 use Rattle.std.proofs.lemmas.Bool.Decides.{nat_tests}
@@ -23,7 +23,8 @@ use Rattle.rb_laws_events.specs.Laws.{most_at_once, nodes_of}
 use Rattle.rb_laws_events.proofs.FewThere.{length-mapped}
 use Rattle.rb_laws_events.proofs.PendingLists.{StandsAt}
 
--- What is left of a node: its ticks, each with all that it may make pending, and what is on its way to it.
+-- What is left of a node: its ticks, each with all that it may make pending, and what is on its way
+-- to it.
 
 abbrev pub ticks_left : Option Timed → ℕ
 ticks_left None = 0

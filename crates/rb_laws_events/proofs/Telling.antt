@@ -1,4 +1,5 @@
--- For the law that events are rounds: an event keeps all that the nodes have told what they tell in the rounds.
+-- For the law that events are rounds: an event keeps all that the nodes have told what they tell in
+-- the rounds.
 use Rattle.std.proofs.Common.{◌≡◌, ℕ, zero, suc, ◌+◌, ◌<◌, ◌≤◌, ◌==◌, ◌&&◌, nat_le, Bool, true, false, List, [], ◌∷◌, ◌++◌, map, refl, ap, sym, ◌∙◌, subst, arith, inl, inr, Option, Some, None, slice_get}
 use Rattle.std.proofs.lemmas.Bool.{cases_lt}
 use Rattle.std.proofs.lemmas.Bool.Decides.{nat_tests}
@@ -120,7 +121,7 @@ closed-row sc hands me i p st s row within there frame before =
     four-not : (n : ℕ) → n ≡ 4 → (n == 4) ≡ false → ⊥
     four-not n e f = grind (arith, nat_tests)
 
--- The begin of a frame.
+-- The start of a frame.
 
 -- the first tick of a frame is one of its first window
 pub first-window : (sizes : Sizes) (plan : Plan) (me : Side) (st : NodeState) (n k : ℕ) → HasTicks plan → n ≤ stages_in sizes → IsTickIn sizes plan me st n k → st.epoch ≡ k → n ≡ 0

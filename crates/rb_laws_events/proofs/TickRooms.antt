@@ -1,4 +1,5 @@
--- For the law that events are rounds: a lawful plan's windows have room, and no good node counts 2^31 ticks in a run.
+-- For the law that events are rounds: a lawful plan's windows have room, and no good node counts
+-- 2^31 ticks in a run.
 use Rattle.std.proofs.Common.{◌≡◌, ℕ, ◌+◌, ◌*◌, ◌-◌, ◌^◌, ◌<◌, ◌≤◌, ap, ◌∙◌, arith, lit≤, Some, unwrap_or}
 use Rattle.std.proofs.lemmas.Nat.{mul-le}
 use Rattle.rb_base.specs.Nodes.{Side}
@@ -36,7 +37,8 @@ few-ticks sizes plan shape is =
     let sync : 3 * sync_slot_of sizes * plan.l ≤ 336 * 1000 = mul-le (3 * sync_slot_of sizes) plan.l 336 1000 (omega arith) l in
     omega (arith, sync, l, v, z, c)
 
--- the last tick of a window of the frame that begins with the node's epoch comes within the ticks of one more frame
+-- the last tick of a window of the frame that begins with the node's epoch comes within the ticks
+-- of one more frame
 pub ends-by-then : (sizes : Sizes) (plan : Plan) (me : Side) (st : NodeState) (n : ℕ) → HasTicks plan → n < stages_in sizes
     → last_of sizes plan me st n < frame_ticks sizes plan
 ends-by-then sizes plan me st n ticks below =

@@ -1,4 +1,5 @@
--- For the law that events are rounds: which window of its frame a tick lies in, as the core finds it.
+-- For the law that events are rounds: which window of its frame a tick lies in, as the core finds
+-- it.
 use Rattle.std.proofs.Common.{◌≡◌, ℕ, zero, suc, ◌+◌, ◌*◌, ◌-◌, ◌<◌, ◌≤◌, ◌==◌, nat_le, Bool, true, false, List, [], ◌∷◌, length, map, refl, ap, sym, ◌∙◌, subst, arith, inl, inr, Some, None, slice_get, get_or, unwrap_or, find, cond, length-append}
 use Rattle.std.proofs.lemmas.Bool.{and_from, and_right, cases_lt}
 use Rattle.std.proofs.lemmas.Bool.Decides.{nat_tests}
@@ -153,7 +154,8 @@ none-before sizes plan me st n offset ticks h low m w lt there =
     let before : last_of sizes plan me st m < first_of sizes plan me st n = ends-before-later sizes plan me st m n ticks lt h in
     subst (λ w. holds_offset offset w ≡ false) same (holds-not offset (window_numbered sizes plan me st m) (omega arith))
 
--- tick k is one of window n of the frame of a node in this state. The tail has no last tick of its own here
+-- tick k is one of window n of the frame of a node in this state. The tail has no last tick of its
+-- own here
 pub record IsTickIn (sizes : Sizes) (plan : Plan) (me : Side) (st : NodeState) (n k : ℕ) : Type 0 where
   pub from : st.epoch + first_of sizes plan me st n ≤ k
   pub to : k ≤ st.epoch + last_of sizes plan me st n

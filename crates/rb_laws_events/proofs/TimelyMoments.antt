@@ -1,4 +1,5 @@
--- For the law that events are rounds: what a timely window and epochs that are close together give of being in time.
+-- For the law that events are rounds: what a timely window and epochs that are close together give
+-- of being in time.
 use Rattle.std.proofs.Common.{◌≡◌, ℕ, suc, ◌+◌, ◌*◌, ◌<◌, ◌≤◌, true, false, All, List, [], ◌∷◌, refl, ap, sym, ◌∙◌, subst, arith, inl, Some, slice_get, Option, None, option_map, option_to_list, ◌-◌}
 use Rattle.std.proofs.lemmas.List.Elements.{All-head, All-tail}
 use Rattle.std.proofs.Math.Nat.{add-mul, mul-add}
@@ -95,8 +96,8 @@ order-outer sc hands lawful p together last frame =
 
 -- The message of the next window.
 
--- two nodes begin a frame at the times s and t, at most p apart. A message that the one sends h ticks after the end of a window comes after
--- the other has closed it
+-- two nodes begin a frame at the times s and t, at most p apart. A message that the one sends h
+-- ticks after the end of a window comes after the other has closed it
 comes-later : (u d o h p dmin s t last sent e : ℕ) → 1 ≤ u → p + d * o ≤ h * u + dmin → s ≤ t + p → last ≤ s + o * (u + d) → t + (o + 1 + h) * u ≤ sent → sent + dmin ≤ e
     → last < e
 comes-later u d o h p dmin s t last sent e some room apart early late way =
@@ -106,7 +107,8 @@ comes-later u d o h p dmin s t last sent e some room apart early late way =
     let f : o * d ≡ d * o = omega arith in
     omega (arith, a, b, c, f, some, room, apart, early, late, way)
 
--- up to stage 1 of the sync slot what is sent in the next window comes later, if the nodes began the frame at most p apart
+-- up to stage 1 of the sync slot what is sent in the next window comes later, if the nodes began
+-- the frame at most p apart
 pub later-exact : (sc : Scenario) (hands : List HandIn) → IsLawful sc → (p : ℕ) → HaveBegunTogether sc (moment sc hands p) → (moment sc hands p).window + 1 ≤ 3 * sync_slot_of sc.sizes
     → (me : Side) (i j : ℕ) (st source : NodeState) → slice_get (of_kind me (moment sc hands p).nodes) i ≡ Some st → is_good_at sc (moment sc hands p) me i ≡ true
     → slice_get (of_kind (other me) (moment sc hands (suc p)).nodes) j ≡ Some source → is_good_at sc (moment sc hands (suc p)) (other me) j ≡ true
@@ -166,7 +168,8 @@ later-exact sc hands lawful p together below me i j st source there good source_
     ] in
     by (sending_of sc m2 (other me) j) refl
 
--- a message that the one sends a and h ticks after its begin of the frame comes no later than with the last of the other's l ticks from tick a on
+-- a message that the one sends a and h ticks after its start of the frame comes no later than with
+-- the last of the other's l ticks from tick a on
 comes-in-time : (u d a h l p dmax s t last sent e : ℕ) → p + d * (a + h) + dmax + u + h * u ≤ l * u → 1 ≤ l → t ≤ s + p
     → s + (a + l - 1) * u ≤ last → sent ≤ t + (a + h) * (u + d) → e ≤ sent + dmax → e ≤ last
 comes-in-time u d a h l p dmax s t last sent e room some apart early late way =
@@ -188,7 +191,8 @@ comes-not-before u d a h p dmin s t before first sent e some room apart step ear
     let z : a * d ≡ d * a = omega arith in
     omega (arith, x, y, z, some, room, apart, step, early, late, way)
 
--- up to stage 1 of the sync slot what good nodes send comes in its window, if they began the frame at most p apart
+-- up to stage 1 of the sync slot what good nodes send comes in its window, if they began the frame
+-- at most p apart
 pub heard-exact : (sc : Scenario) (hands : List HandIn) → IsLawful sc → (p : ℕ) → HaveBegunTogether sc (moment sc hands p) → (moment sc hands p).window ≤ 3 * sync_slot_of sc.sizes
     → (me : Side) (i j : ℕ) (st source : NodeState) → slice_get (of_kind me (moment sc hands p).nodes) i ≡ Some st → is_good_at sc (moment sc hands p) me i ≡ true
     → slice_get (of_kind (other me) (moment sc hands p).nodes) j ≡ Some source → is_good_at sc (moment sc hands p) (other me) j ≡ true

@@ -1,5 +1,5 @@
--- For the law that events are rounds: what a node has told is of moments before that in which it stands, and no
--- node is more than a stage ahead of one that runs.
+-- For the law that events are rounds: what a node has told is of moments before that in which it
+-- stands, and no node is more than a stage ahead of one that runs.
 use Rattle.std.proofs.Common.{◌≡◌, ℕ, suc, ◌+◌, ◌-◌, ◌*◌, ◌%◌, ◌<◌, ◌≤◌, ◌==◌, ◌⊎◌, Bool, true, false, List, refl, ap, sym, ◌∙◌, subst, arith, inl, inr, Option, Some, None, slice_get, if◌then◌else◌}
 use Rattle.std.proofs.lemmas.Bool.{cases_lt, lt-ltb, le-ltb}
 use Rattle.std.proofs.lemmas.Bool.Decides.{nat_tests}
@@ -50,7 +50,8 @@ number-is sc hands q stage =
 
 -- One node.
 
--- what node i of a kind, which stands in moment p, has told is of earlier moments, or of the begin of that one, if that begin is past
+-- what node i of a kind, which stands in moment p, has told is of earlier moments, or of the start
+-- of that one, if that start is past
 pub record NodeTold (sc : Scenario) (hands : List HandIn) (me : Side) (i p : ℕ) (s : Site) : Type 0 where
   pub row : (row : Row) → s.row ≡ Some row → number_at sc.sizes row.place < p
   pub begun : (b : Begun) → s.begun ≡ Some b → b.frame * (windows_in sc.sizes + 1) ≤ p
@@ -58,7 +59,7 @@ pub record NodeTold (sc : Scenario) (hands : List HandIn) (me : Side) (i p : ℕ
       → s.ahead ≡ Some a → slice_get (of_kind me (moment sc hands p).nodes) i ≡ Some st → st.epoch < a.tick
   pub was_good : (q : ℕ) → q < p → is_good_at sc (moment sc hands q) me i ≡ true
 
--- what a node tells of a begin is of its own frame and tick
+-- what a node tells of a start is of its own frame and tick
 begun-then : (sc : Scenario) (ports : List PortState) (me : Side) (i k : ℕ) (y : NodeState) (o : Option Begun) (b : Begun)
     → begun_after sc ports me i (epoch_at sc.sizes me y k) o ≡ Some b → ((b.frame ≡ y.frame) × (y.epoch ≡ k)) ⊎ (o ≡ Some b)
 begun-then sc ports me i k y o b = by (y.epoch == k) refl
@@ -281,7 +282,8 @@ all-told sc hands at sites me i frame k r m change s there new all =
 
 -- Nobody is far ahead.
 
--- a node that runs closes its window before any node closes the next stage, so no node has passed that
+-- a node that runs closes its window before any node closes the next stage, so no node has passed
+-- that
 pub near : (sc : Scenario) (hands : List HandIn) (now : ℕ) (at : Side → ℕ → ℕ) (sites : Each Site) → HasTicks sc.plan → AreInTime sc hands at → HavePassed sc hands now at
     → SitesStand sc hands now at sites → (me : Side) (i : ℕ) (s : Site) → slice_get (of_kind me sites) i ≡ Some s → s.runs ≡ true
     → (you : Side) (j : ℕ) (z : Site) → NodeTold sc hands you j (at you j) z → at you j ≤ next_stage sc.sizes (moment sc hands (at me i)) (at me i)

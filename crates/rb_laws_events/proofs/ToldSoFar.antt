@@ -1,5 +1,5 @@
--- For the law that events are rounds: each node has told of all windows that it has closed and, but for a first tick that pends, of the
--- begin of its frame.
+-- For the law that events are rounds: each node has told of all windows that it has closed and, but
+-- for a first tick that pends, of the start of its frame.
 use Rattle.std.proofs.Common.{◌≡◌, ℕ, ◌+◌, ◌*◌, ◌<◌, ◌≤◌, ◌==◌, ◌%◌, ◌⊎◌, Bool, true, false, List, [], ◌∷◌, ◌++◌, length, refl, ap, sym, ◌∙◌, subst, arith, inl, inr, Option, Some, None, slice_get}
 use Rattle.std.proofs.lemmas.Bool.{cases_lt, eq-eqb, eqb-true}
 use Rattle.std.proofs.lemmas.Bool.Decides.{nat_tests}
@@ -58,7 +58,7 @@ pub record HasTold (sc : Scenario) (hands : List HandIn) (me : Side) (i p : ℕ)
 
 -- Begins.
 
--- what is told of a begin stays, or is told again
+-- what is told of a start stays, or is told again
 begun-stays : (sc : Scenario) (ports : List PortState) (me : Side) (i k : ℕ) (y : NodeState) (b : Begun) → y.frame ≡ b.frame
     → (c : Begun) × ((begun_after sc ports me i (epoch_at sc.sizes me y k) (Some b) ≡ Some c) × (c.frame ≡ b.frame))
 begun-stays sc ports me i k y b frame = by (y.epoch == k)

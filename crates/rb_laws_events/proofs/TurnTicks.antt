@@ -1,5 +1,6 @@
--- For the law that events are rounds where the premise on faults is broken in a sync slot: a tick of a node that has closed
--- the last stage of its frame, also the one with which the next frame begins; and which of its ticks comes next.
+-- For the law that events are rounds where the premise on faults is broken in a sync slot: a tick
+-- of a node that has closed the last stage of its frame, also the one with which the next frame
+-- begins; and which of its ticks comes next.
 use Rattle.std.proofs.Common.{◌≡◌, ℕ, zero, suc, ◌+◌, ◌-◌, ◌^◌, ◌<◌, ◌≤◌, ◌==◌, ◌||◌, ◌⊎◌, Bool, true, false, refl, ap, sym, ◌∙◌, subst, arith, inl, inr, Option, Some, None, is_some}
 use Rattle.std.proofs.lemmas.Bool.{cases_lt}
 use Rattle.std.proofs.lemmas.Bool.Decides.{nat_tests}
@@ -122,7 +123,7 @@ begin-busy sizes plan me i st x known =
     ∙ ap (λ n. (n == x) || is_last sizes plan me y x || is_some (said_at sizes plan me i y 0 x)) epoch
     ∙ ap (λ b. b || is_last sizes plan me y x || is_some (said_at sizes plan me i y 0 x)) (eq_self x)
 
--- so in the tail it is no later than the begin of the next frame
+-- so in the tail it is no later than the start of the next frame
 pub awaits-next : (sizes : Sizes) (plan : Plan) (me : Side) (i frame e x : ℕ) (c : Core) (k : ℕ) → (IsInTail sizes plan me frame e x c.state c.had × (c.had ≤ x)) ⊎ HasTurned frame x c.state c.had
     → next_tick sizes plan me i c ≡ Some k → IsAfter sizes plan me frame e x c.state c.had k
 awaits-next sizes plan me i frame e x c k (inl t) is = inl (t.0, first-busy sizes plan me i c.state (2 ^ 31 - c.had) c.had k x t.1 (begin-busy sizes plan me i c.state x t.0.known) is)

@@ -1,5 +1,6 @@
--- For the law that events are rounds: over the turn of a run that has not ended, what good nodes send in the next frame comes after all
--- windows of this one, and no good node closes its first window before all good nodes have begun the frame.
+-- For the law that events are rounds: over the turn of a run that has not ended, what good nodes
+-- send in the next frame comes after all windows of this one, and no good node closes its first
+-- window before all good nodes have begun the frame.
 use Rattle.std.proofs.Common.{◌≡◌, ℕ, zero, suc, ◌+◌, ◌*◌, ◌-◌, ◌≤◌, ◌<◌, true, List, refl, ap, sym, ◌∙◌, subst, arith, Option, Some, None, slice_get, option_map, option_to_list, unwrap_or}
 use Rattle.std.proofs.lemmas.Option.{same_Some}
 use Rattle.rb_base.specs.Nodes.{Side, other}
@@ -55,7 +56,8 @@ in-first sc hands t at =
     let f : IsFrameLater sc hands (moment sc hands (suc t)) (moment sc hands (suc (suc t))) = frame-later sc hands (moment sc hands (suc t)) (omega arith) in
     f.window
 
--- what good nodes send in the first window of the next frame comes after all good nodes have begun it
+-- what good nodes send in the first window of the next frame comes after all good nodes have begun
+-- it
 arrives-late : (low p f h u d dmin begin sent e : ℕ) → p + d * (f + h) ≤ h * u + dmin → low ≤ begin → begin + h * u ≤ sent → sent + dmin ≤ e → low + p ≤ e
 arrives-late low p f h u d dmin begin sent e room from later way = omega (arith, room, from, later, way)
 

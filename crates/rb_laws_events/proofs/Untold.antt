@@ -1,5 +1,5 @@
--- For the law that events are rounds: where a milestone is not complete, some good node has not told of it; and where nobody has closed
--- a stage, it is not complete.
+-- For the law that events are rounds: where a milestone is not complete, some good node has not
+-- told of it; and where nobody has closed a stage, it is not complete.
 use Rattle.std.proofs.Common.{◌≡◌, ℕ, zero, suc, ◌+◌, ◌*◌, ◌-◌, ◌<◌, ◌==◌, ◌&&◌, ◌||◌, ◌⊎◌, not, Bool, true, false, List, [], ◌∷◌, ◌++◌, refl, ap, sym, ◌∙◌, subst, arith, inl, inr, Option, Some, None, is_some, slice_get}
 use Rattle.std.specs.List.{list_all}
 use Rattle.std.proofs.lemmas.Bool.{and_parts, cases_lt, eqb-true, true≢false}

@@ -1,4 +1,5 @@
--- For the law that events are rounds: all nodes are in time in each moment up to where the book waits.
+-- For the law that events are rounds: all nodes are in time in each moment up to where the book
+-- waits.
 use Rattle.std.proofs.Common.{◌≡◌, ℕ, suc, ◌+◌, ◌*◌, ◌-◌, ◌<◌, ◌≤◌, ◌==◌, ◌⊎◌, nat_lt, Bool, true, false, List, refl, ap, sym, ◌∙◌, subst, arith, inl, inr}
 use Rattle.std.proofs.lemmas.Bool.{cases_lt, eqb-true, le-ltb}
 use Rattle.rb_base.specs.Sizes.{sync_slot_of}
@@ -84,7 +85,8 @@ in-here sc hands lawful p running within =
           on.times
     ]
 
--- in each moment up to n all nodes are in time, and before it what is sent in the next stage comes later
+-- in each moment up to n all nodes are in time, and before it what is sent in the next stage comes
+-- later
 pub record UpTo (sc : Scenario) (hands : List HandIn) (n : ℕ) : Type 0 where
   pub times : (p : ℕ) → p ≤ n → (moment sc hands p).window ≤ stages_in sc.sizes → InTime sc (moment sc hands p) (moment sc hands (next_stage sc.sizes (moment sc hands p) p))
   pub later : (p : ℕ) → p < n → (moment sc hands p).window ≤ stages_in sc.sizes → AllLater sc hands p
@@ -121,7 +123,8 @@ breaks-later sc hands b q n off running = elim (cases_lt b n) [
     true-false : true ≡ false → ⊥
     true-false e = cc
 
--- up to a stage after one at which the run has not ended nodes are in time, and no sync slot before it breaks the run off
+-- up to a stage after one at which the run has not ended nodes are in time, and no sync slot before
+-- it breaks the run off
 pub record Reaches (sc : Scenario) (hands : List HandIn) (n : ℕ) : Type 0 where
   pub up_to : UpTo sc hands n
   pub not_past : (b q : ℕ) → BreaksAt sc hands b q → n ≤ b

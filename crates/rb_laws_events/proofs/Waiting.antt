@@ -1,5 +1,6 @@
--- For the law that events are rounds: after each event what comes by an event next still waits for a node. So the
--- node of the event that completes a milestone stands at that milestone, and no other is far ahead.
+-- For the law that events are rounds: after each event what comes by an event next still waits for
+-- a node. So the node of the event that completes a milestone stands at that milestone, and no
+-- other is far ahead.
 use Rattle.std.proofs.Common.{◌≡◌, ℕ, suc, ◌+◌, ◌*◌, ◌<◌, ◌≤◌, ◌==◌, ◌&&◌, ◌||◌, not, Bool, true, false, List, [], ◌∷◌, ◌++◌, length, refl, ap, sym, ◌∙◌, arith, Option, Some, None, is_some, slice_get, option_map, if◌then◌else◌, lit≤}
 use Rattle.std.specs.List.{list_all}
 use Rattle.std.proofs.lemmas.Bool.{and_parts}
@@ -37,7 +38,7 @@ is_due sc sites m = comes_so sc ByAnEvent m && is_complete sc sites m
 abbrev pub Waits : Scenario → World → Type 0
 Waits sc w = w.book.ended ≡ false → is_due sc w.sites w.book.upcoming ≡ false
 
--- all nodes that are good at a frame's begin have begun it
+-- all nodes that are good at a frame's start have begun it
 abbrev pub HasBegun : Scenario → Each Site → ℕ → Type 0
 HasBegun sc sites frame =
     (me : Side) (i : ℕ) (s : Site) → slice_get (of_kind me sites) i ≡ Some s → is_good sc me i frame 0 ≡ true → (b : Begun) × ((s.begun ≡ Some b) × (frame ≤ b.frame))

@@ -1,5 +1,5 @@
--- For the law that events are rounds: a due event keeps all nodes of the world in the rounds: each stands in a
--- moment, and has passed the windows before.
+-- For the law that events are rounds: a due event keeps all nodes of the world in the rounds: each
+-- stands in a moment, and has passed the windows before.
 use Rattle.std.proofs.Common.{◌≡◌, ℕ, ◌+◌, ◌^◌, ◌<◌, ◌≤◌, ◌⊎◌, Bool, true, false, List, refl, ap, sym, ◌∙◌, subst, arith, inl, inr, Option, Some, None, slice_get}
 use Rattle.std.proofs.lemmas.Bool.{cases_lt}
 use Rattle.std.proofs.lemmas.Option.{same_Some}
@@ -70,7 +70,8 @@ pub record TickIsDue (sc : Scenario) (hands : List HandIn) (now : ℕ) (at : Sid
   pub next : (st : NodeState) → slice_get (of_kind me (moment sc hands (at me i)).nodes) i ≡ Some st → a.tick ≡ last_tick sc (moment sc hands (at me i)) me st
       → NextInTime sc hands (at me i)
 
--- the node afterwards, in moment r: the world stands there, and the node has closed its window or not
+-- the node afterwards, in moment r: the world stands there, and the node has closed its window or
+-- not
 pub record AfterTick (sc : Scenario) (hands : List HandIn) (at : Side → ℕ → ℕ) (sites : Each Site) (ports : List PortState) (me : Side) (i : ℕ) (s : Site) (a : Timed) (x : Act) : Type 0 where
   pub r : ℕ
   pub st : NodeState

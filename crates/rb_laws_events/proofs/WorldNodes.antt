@@ -1,5 +1,5 @@
--- For the law that events are rounds: in every world there are as many nodes as the bus has, and what
--- comes to a node comes from nodes that there are.
+-- For the law that events are rounds: in every world there are as many nodes as the bus has, and
+-- what comes to a node comes from nodes that there are.
 use Rattle.std.proofs.Common.{◌≡◌, ℕ, zero, suc, ◌+◌, ◌<◌, ◌==◌, ◌&&◌, Bool, true, false, List, [], ◌∷◌, ◌++◌, length, remove, refl, sym, ◌∙◌, subst, arith, Option, Some, None, slice_get, map, filter, fold}
 use Rattle.std.specs.Prelude.{flat_map}
 use Rattle.std.specs.List.{range_with_len}

@@ -1,5 +1,5 @@
--- For the law that events are rounds: all nodes of a world, each in its own moment of the rounds. One arrival, and
--- one tick of a node that goes on or stops, keep it.
+-- For the law that events are rounds: all nodes of a world, each in its own moment of the rounds.
+-- One arrival, and one tick of a node that goes on or stops, keep it.
 use Rattle.std.proofs.Common.{◌≡◌, ℕ, ◌≤◌, ◌==◌, ◌&&◌, Bool, true, false, List, [], length, refl, ap, sym, ◌∙◌, subst, Option, Some, None, slice_get, option_and_then, option_map}
 use Rattle.std.proofs.lemmas.Bool.{and_parts, eqb-true}
 use Rattle.std.proofs.lemmas.Option.{same_Some}
@@ -27,7 +27,8 @@ use Rattle.rb_laws_events.proofs.SameHeard.{Every}
 abbrev pub ahead_in : List Site → ℕ → Option Timed
 ahead_in sites j = option_and_then (λ (s : Site). s.ahead) (slice_get sites j)
 
--- node j of a kind has sent what it sends in moment p. `at` gives the moments in which the nodes stand
+-- node j of a kind has sent what it sends in moment p. `at` gives the moments in which the nodes
+-- stand
 abbrev pub sent_by : Scenario → List HandIn → (Side → ℕ → ℕ) → Each Site → Side → ℕ → ℕ → Bool
 sent_by sc hands at sites side j p = has_sent (sending_of sc (moment sc hands p) side j) (at side j) (ahead_in (of_kind side sites) j) p
 
@@ -37,7 +38,8 @@ pub record IsUp (sc : Scenario) (hands : List HandIn) (sent : Side → ℕ → �
   pub a : Timed
   pub stands : NodeStands sc hands sent now me i p s st a
 
--- a node that has stopped in moment p, in which it is not good; nor is it in the slot in which its core stands
+-- a node that has stopped in moment p, in which it is not good; nor is it in the slot in which its
+-- core stands
 pub record IsDown (sc : Scenario) (hands : List HandIn) (me : Side) (i p : ℕ) (s : Site) : Type 0 where
   pub not_good : is_good_at sc (moment sc hands p) me i ≡ false
   pub stopped : StandsWhereNotGood sc me i s.core

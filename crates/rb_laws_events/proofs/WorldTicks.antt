@@ -1,5 +1,5 @@
--- For the law that events are rounds: a tick of one node keeps all nodes of the world: that node goes on or stops,
--- and what it says is on its way to the nodes of the other kind.
+-- For the law that events are rounds: a tick of one node keeps all nodes of the world: that node
+-- goes on or stops, and what it says is on its way to the nodes of the other kind.
 use Rattle.std.proofs.Common.{◌≡◌, ℕ, ◌<◌, ◌≤◌, ◌==◌, ◌&&◌, ◌⊎◌, Bool, true, false, List, [], ◌∷◌, ◌++◌, length, refl, ap, sym, ◌∙◌, subst, inl, inr, Option, Some, None, slice_get, option_and_then, option_map, option_to_list}
 use Rattle.std.proofs.lemmas.Bool.{eqb-true, true≢false}
 use Rattle.std.proofs.lemmas.Option.{same_Some}

@@ -25,20 +25,22 @@ HaveBegunTogether sc m =
     (me you : Side) (i j : ℕ) (mine yours : NodeState) → IsGoodIn sc m me i mine → IsGoodIn sc m you j yours
     → time_of (clock_of sc me i) mine.epoch ≤ time_of (clock_of sc you j) yours.epoch + sc.plan.p
 
--- between the two moments each node that is good in both has begun a frame, and not before all stages of the one before
+-- between the two moments each node that is good in both has begun a frame, and not before all
+-- stages of the one before
 abbrev pub HaveBegunAFrame : Scenario → Moment → Moment → Type 0
 HaveBegunAFrame sc m later =
     (me : Side) (i : ℕ) (before after : NodeState) → IsGoodIn sc m me i before → IsGoodIn sc later me i after
     → before.epoch + tail_start_of sc.sizes sc.plan ≤ after.epoch
 
--- each node that is good in a moment's window closes it before any node that is good in the later one's closes that
+-- each node that is good in a moment's window closes it before any node that is good in the later
+-- one's closes that
 abbrev pub CloseInOrder : Scenario → Moment → Moment → Type 0
 CloseInOrder sc m later =
     (me you : Side) (i j : ℕ) (mine yours : NodeState) → IsGoodIn sc m me i mine → IsGoodIn sc later you j yours
     → closing_time sc m me i mine < closing_time sc later you j yours
 
--- All good nodes close a stage before any closes the next one of the frame; and the last stage before the first one of the next
--- frame, between which lie the tail and the turn
+-- All good nodes close a stage before any closes the next one of the frame; and the last stage
+-- before the first one of the next frame, between which lie the tail and the turn
 abbrev pub GoodNodesCloseInOrder : Type 0
 GoodNodesCloseInOrder =
     (sc : Scenario) (hands : List HandIn) → IsLawful sc → (n : ℕ) → HaveBegunTogether sc (moment sc hands n)

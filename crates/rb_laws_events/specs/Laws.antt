@@ -12,7 +12,8 @@ use Rattle.rb_rules.specs.Rounds.{moment, steps_of, records_of}
 use Rattle.rb_rules.specs.WorldStep.{Site, World, Choice, Due, EventsAreRounds, IsPrefix, choose, due_of, first_world, go_on, needs_no_event, take, world_after}
 use Rattle.rb_rules.specs.WorldStep.Choice.{Take, GoOn, Hand}
 
--- the records of a scenario are those of the moment after all steps: that the run stops at its end changes nothing
+-- the records of a scenario are those of the moment after all steps: that the run stops at its end
+-- changes nothing
 abbrev pub RecordsAreOfAllSteps : Type 0
 RecordsAreOfAllSteps = (sc : Scenario) (hands : List HandIn) → records_of sc hands ≡ (moment sc hands (steps_of sc)).book.given
 
@@ -23,7 +24,7 @@ RoundsOnlyAdd =
     → IsPrefix (moment sc hands n).book.given (moment sc hands (n + k)).book.given
     × ((moment sc hands n).book.ended ≡ true → (moment sc hands (n + k)).book ≡ (moment sc hands n).book)
 
--- a state that is handed in at a frame's begin changes no moment before that frame
+-- a state that is handed in at a frame's start changes no moment before that frame
 abbrev pub HandInsComeLate : Type 0
 HandInsComeLate =
     (sc : Scenario) (hands : List HandIn) (h : HandIn) (n : ℕ) → (moment sc hands n).frame < h.frame
@@ -41,21 +42,24 @@ QuietTicksCount =
     (sizes : Sizes) (plan : Plan) (me : Side) (index n : ℕ) (c : Core) (k : ℕ) → c.had ≤ 2 ^ 31
     → next_tick sizes plan me index c ≡ Some k → c.had + n ≤ k → ticks sizes plan me index n c ≡ record c { had = c.had + n }
 
--- a call gave no record, and then the turn is none; or it gave the next record of the rounds, and then the turn is that record
+-- a call gave no record, and then the turn is none; or it gave the next record of the rounds, and
+-- then the turn is that record
 abbrev pub IsNextTurn : Scenario → World → World → Type 0
 IsNextTurn sc before after =
     ((after.turn ≡ None) × (after.book.given ≡ before.book.given))
     ⊎ ((r : Record) × (after.turn ≡ Some r) × (after.book.given ≡ before.book.given ++ r ∷ [])
     × (slice_get (records_of sc after.hands) (length before.book.given) ≡ Some r))
 
--- whatever was chosen before, a due event that is taken, and what is given without an event, gives no record or the next of the rounds
+-- whatever was chosen before, a due event that is taken, and what is given without an event, gives
+-- no record or the next of the rounds
 abbrev pub OneTurnARecord : Scenario → Type 0
 OneTurnARecord sc =
     (choices : List Choice)
     → ((i : ℕ) (d : Due) → slice_get (due_of sc (world_after sc choices)) i ≡ Some d → IsNextTurn sc (world_after sc choices) (take sc (world_after sc choices) i))
     × ((world_after sc choices).book.ended ≡ false → IsNextTurn sc (world_after sc choices) (go_on sc (world_after sc choices)))
 
--- whatever was chosen: as long as the run has not ended, and where its next record needs an event, some event is due
+-- whatever was chosen: as long as the run has not ended, and where its next record needs an event,
+-- some event is due
 abbrev pub SomethingIsDue : Scenario → Type 0
 SomethingIsDue sc =
     (choices : List Choice) → (world_after sc choices).book.ended ≡ false → needs_no_event sc (world_after sc choices).book.upcoming ≡ false
@@ -75,7 +79,8 @@ takes_from sc w (c ∷ cs) = taken_by sc w c + takes_from sc (choose sc w c) cs
 abbrev pub nodes_of : Sizes → ℕ
 nodes_of sizes = sizes.bius + sizes.rmus
 
--- what a tick may make pending at most: a message at each node, and all that is said to its node in a window
+-- what a tick may make pending at most: a message at each node, and all that is said to its node in
+-- a window
 abbrev pub most_at_once : Scenario → ℕ
 most_at_once sc = nodes_of sc.sizes + nodes_of sc.sizes * length sc.says
 
@@ -83,8 +88,8 @@ most_at_once sc = nodes_of sc.sizes + nodes_of sc.sizes * length sc.says
 abbrev pub most_takes : Scenario → ℕ
 most_takes sc = nodes_of sc.sizes * (2 ^ 31 * (most_at_once sc + 1) + most_at_once sc)
 
--- Whatever is chosen, only so many events are taken, and no node that runs has had 2^31 ticks. As something is due until the run has ended,
--- every run ends
+-- Whatever is chosen, at most `most_takes sc` events are taken, and no node that runs has had 2^31
+-- ticks. As something is due until the run has ended, every run ends
 pub record EveryRunEnds (sc : Scenario) : Type 0 where
   pub few : (choices : List Choice) → takes_from sc (first_world sc) choices ≤ most_takes sc
   pub room : (choices : List Choice) (me : Side) (i : ℕ) (s : Site) → slice_get (of_kind me (world_after sc choices).sites) i ≡ Some s → s.runs ≡ true → s.core.had < 2 ^ 31

@@ -1,4 +1,5 @@
--- The cores and the ports of a run event by event hold what the rounds hold, each at a moment of its own.
+-- The cores and the ports of a run event by event hold what the rounds hold, each at a moment of
+-- its own.
 use Rattle.std.specs.Prelude.{ℕ, ◌≡◌, ◌+◌, ◌⊎◌, true, false, Some, List, slice_get, is_some}
 use Rattle.rb_base.specs.Nodes.{Side}
 use Rattle.rb_base.specs.Nodes.Side.{Biu}
@@ -20,7 +21,8 @@ use Rattle.rb_rules.specs.WorldStep.{Choice, Site, Timed, World, world_after}
 
 -- Where a core stands.
 
--- the state in which a core takes its next tick: where that is the first of its next frame, it has turned
+-- the state in which a core takes its next tick: where that is the first of its next frame, it has
+-- turned
 abbrev pub ready_state : Scenario → Side → Core → NodeState
 ready_state sc me c = state_at sc.sizes sc.plan me c.state c.had
 
@@ -28,20 +30,23 @@ ready_state sc me c = state_at sc.sizes sc.plan me c.state c.had
 abbrev pub open_window : Scenario → Side → Core → Window
 open_window sc me c = window_here sc.sizes sc.plan me (ready_state sc me c) c.had
 
--- a core's own moment of the rounds: the one before the stage of its own frame and window, the tail being stage 4 of the sync slot
+-- a core's own moment of the rounds: the one before the stage of its own frame and window, the tail
+-- being stage 4 of the sync slot
 abbrev pub own_moment : Scenario → List HandIn → Side → Core → Moment
 own_moment sc hands me c =
     before_stage sc hands (ready_state sc me c).frame (open_window sc me c).slot (open_window sc me c).stage
 
 -- What it holds there.
 
--- the state is that of the node in the rounds before the window, or that with what the node has said in the window by now
+-- the state is that of the node in the rounds before the window, or that with what the node has
+-- said in the window by now
 abbrev pub IsStateOf : Scenario → Moment → Side → ℕ → NodeState → NodeState → Type 0
 IsStateOf sc m me i st now =
     let w : Window = window_in sc m me st in
     (now ≡ st) ⊎ (now ≡ keep_sent sc.sizes me i st w.slot w.stage (word_for_window sc m i w))
 
--- core i of kind me stands in the moment's frame and in its window, is good there, and holds the state of its node
+-- core i of kind me stands in the moment's frame and in its window, is good there, and holds the
+-- state of its node
 pub record HoldsTheState (sc : Scenario) (m : Moment) (me : Side) (i : ℕ) (c : Core) : Type 0 where
   pub st : NodeState
   pub there : slice_get (of_kind me m.nodes) i ≡ Some st
@@ -79,7 +84,8 @@ HasItsPort {w} sc node = port_at sc w.ports node.index ≡ port_at sc (moment_of
 
 -- The laws.
 
--- the world is before the breaking stage: the first stage that is not settled in it is none of a sync slot with which the run ends
+-- the world is before the breaking stage: the first stage that is not settled in it is none of a
+-- sync slot with which the run ends
 abbrev pub IsBeforeTheBreak : Scenario → World → Type 0
 IsBeforeTheBreak sc w =
     (place : Place) → w.book.upcoming ≡ Stage place → place.slot ≡ sync_slot_of sc.sizes
@@ -89,7 +95,8 @@ IsBeforeTheBreak sc w =
 pub record HoldsTheRounds (sc : Scenario) (w : World) : Type 0 where
   pub cores : (me : Side) (node : RunningNode w me) → HoldsItsState sc node
   pub ports : (node : RunningNode w Biu) → HasItsPort sc node
-  -- a node that runs has a tick to come, and one that has stopped stands in a slot in which it is not good
+  -- a node that runs has a tick to come, and one that has stopped stands in a slot in which it is
+  -- not good
   pub pending : (me : Side) (i : ℕ) (s : Site) → slice_get (of_kind me w.sites) i ≡ Some s
       → s.runs ≡ true → is_some s.ahead ≡ true
   pub stopped : (me : Side) (i : ℕ) (s : Site) → slice_get (of_kind me w.sites) i ≡ Some s

@@ -10,8 +10,9 @@ use Rattle.rb_rules.specs.Slots.{count_of}
 use Rattle.rb_rules.specs.WorldStep.{Choice, Site, World, after_act, due_of, pass_and_tick, times_of, world_after}
 use Rattle.rb_rules.specs.WorldStep.Pending.{Tick}
 
--- what comes to a node of this kind: of each node of the other kind a message for the window in which the node stands and one for the
--- next, and where the run breaks off in a sync slot two more until it has ended; and besides these what is said to it in three windows
+-- what comes to a node of this kind: of each node of the other kind a message for the window in
+-- which the node stands and one for the next, and where the run breaks off in a sync slot two more
+-- until it has ended; and besides these what is said to it in three windows
 abbrev pub most_coming : Scenario → Side → ℕ
 most_coming sc me = 4 * count_of (other me) sc.sizes + 3 * length sc.says
 
@@ -26,10 +27,12 @@ pub record TakesTick (sc : Scenario) (w : World) (me : Side) (i k : ℕ) (s : Si
   pub is_due : slice_get (due_of sc w) place ≡ Some (record { side = me; node = i; pending = Tick k })
   pub does : x ≡ pass_and_tick sc w.ports me i k s.core
 
--- room for so many at each node is enough now, and for what the next event makes pending. Only a tick makes anything pending
+-- room for `most_pending` events at each node is enough now, and for what the next event makes
+-- pending. Only a tick makes anything pending
 pub record EventsFit (sc : Scenario) (w : World) : Type 0 where
   pub now : (me : Side) (i : ℕ) (s : Site) → slice_get (of_kind me w.sites) i ≡ Some s → length (times_of s) ≤ most_pending sc me
-  -- at the node that takes its tick: its next tick, what was pending there, and what it is told in a window that it enters
+  -- at the node that takes its tick: its next tick, what was pending there, and what it is told in
+  -- a window that it enters
   pub own : (me : Side) (i k : ℕ) (s : Site) (x : Act) → TakesTick sc w me i k s x → length (times_of (after_act sc w.ports me i x s)) ≤ most_pending sc me
   -- at each node to which the message goes that it sends then
   pub message : (me : Side) (i k : ℕ) (s : Site) (x : Act) (m : Message) → TakesTick sc w me i k s x → x.message ≡ Some m → (j : ℕ) (receiver : Site)

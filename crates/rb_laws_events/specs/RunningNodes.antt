@@ -1,4 +1,5 @@
--- What running nodes of one world have in common: when they begin a slot, their schedule, whom they hold convicted, their votes and ports.
+-- What running nodes of one world have in common: when they begin a slot, their schedule, whom they
+-- hold convicted, their votes and ports.
 use Rattle.std.specs.Prelude.{ℕ, ◌≡◌, ◌+◌, ◌*◌, ◌<◌, ◌≤◌, ◌⊎◌, true, false, List}
 use Rattle.rb_base.specs.Nodes.{Side, has}
 use Rattle.rb_base.specs.Nodes.Side.{Biu}
@@ -35,23 +36,23 @@ begin_of_slot {w} {me} sc slot node = time_in_frame sc me node.index (state_of s
 abbrev pub convicted_by : {w : World} → {me : Side} → Scenario → Side → RunningNode w me → ℕ
 convicted_by {w} {me} sc kind node = convicted_of sc.sizes kind me (state_of sc node)
 
--- it stands in the slot, in one of its stages or, in the sync slot, in the tail; and the slot is complete in the rounds, or its frame
--- begins with it and the node is in the first stage
+-- it stands in the slot, in one of its stages or, in the sync slot, in the tail; and the slot is
+-- complete in the rounds, or its frame begins with it and the node is in the first stage
 pub record StandsInSlot {w : World} {me : Side} (sc : Scenario) (frame slot : ℕ) (node : RunningNode w me) : Type 0 where
   pub frame_is : (state_of sc node).frame ≡ frame
   pub slot_is : (window_of sc node).slot ≡ slot
   pub stage : (window_of sc node).stage ≤ 4
   pub settled : IsComplete sc w.hands frame slot ⊎ (BeginsFrame sc w.hands frame slot × ((window_of sc node).stage ≡ 1))
 
--- a node in the window stands between the delivery of a slot and that of the next: in the slot's last stage or the tail, or in one of
--- the first two stages of the next slot
+-- a node in the window stands between the delivery of a slot and that of the next: in the slot's
+-- last stage or the tail, or in one of the first two stages of the next slot
 abbrev pub IsAfterDelivery : ℕ → Window → Type 0
 IsAfterDelivery slot window =
     ((window.slot ≡ slot) × ((3 ≤ window.stage) × (window.stage ≤ 4)))
     ⊎ ((window.slot ≡ slot + 1) × ((1 ≤ window.stage) × (window.stage ≤ 2)))
 
--- the BIU stands there, and the slot is complete in the rounds; and no stage of a sync slot has ended the run, or the run goes on at the
--- BIU's own moment
+-- the BIU stands there, and the slot is complete in the rounds; and no stage of a sync slot has
+-- ended the run, or the run goes on at the BIU's own moment
 pub record StandsAfterSlot {w : World} (sc : Scenario) (frame slot : ℕ) (node : RunningNode w Biu) : Type 0 where
   pub frame_is : (state_of sc node).frame ≡ frame
   pub place : IsAfterDelivery slot (window_of sc node)
@@ -104,7 +105,8 @@ pub record RunningNodesAgree (sc : Scenario) (w : World) : Type 0 where
   pub good_nodes_stay : NodesConvictNoGoodNode sc w
   pub votes : NodesVoteAlike sc w
 
--- after the same slot two BIUs with one application, one first word and equal hand-ins have equal ports
+-- after the same slot two BIUs with one application, one first word and equal hand-ins have equal
+-- ports
 abbrev pub RunningPortsAgree : Scenario → World → Type 0
 RunningPortsAgree sc w =
     (frame slot : ℕ) (mine yours : RunningNode w Biu)

@@ -26,7 +26,7 @@ pub fn events_only_add()
     ensures { EventsOnlyAdd }
 {}
 
-/// What is handed in at the begin of a frame changes nothing before it.
+/// What is handed in at the start of a frame changes nothing before it.
 pub fn hand_ins_come_late()
     ensures { HandInsComeLate }
 {}
@@ -69,9 +69,10 @@ pub fn one_turn_a_record()
     ensures { OneTurnARecordInLawful }
 {}
 
-/// Every run ends in every lawful scenario: whatever is chosen, at most so many events are taken as
-/// the nodes, the number of their ticks and what is said allow (`most_takes`), and no node that
-/// runs has had 2^31 ticks. Until then some event is due, or the next record is given without one.
+/// Every run ends in every lawful scenario: whatever is chosen, the number of events that are taken
+/// is at most `most_takes`, which follows from the nodes, the number of their ticks and what is
+/// said, and no node that runs has had 2^31 ticks. Until then some event is due, or the next record
+/// is given without one.
 pub fn every_run_ends()
     ensures { EveryRunEndsInLawful }
 {}
@@ -105,7 +106,7 @@ pub fn cores_follow_the_rounds()
 /// Any two running nodes of a world that stand in one slot begin it at most the stated skew apart,
 /// and hold the same convicted nodes, no good one among them, the same votes on the earlier slots
 /// of the frame on which both vote, and from the first data slot on one schedule: in each slot that
-/// is complete in the rounds, and at the begin of each frame.
+/// is complete in the rounds, and at the start of each frame.
 pub fn running_nodes_agree()
     ensures { RunningNodesAgreeInLawful }
 {}

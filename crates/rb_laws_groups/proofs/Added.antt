@@ -1,5 +1,5 @@
--- What a step adds to the records of a run: nothing, a record that is not of a slot, or the record of a slot that the step completes; and what it adds to
--- the deliveries of a port.
+-- What a step adds to the records of a run: nothing, a record that is not of a slot, or the record
+-- of a slot that the step completes; and what it adds to the deliveries of a port.
 use Rattle.std.specs.Prelude.{⊤}
 use Rattle.std.proofs.Common.{◌≡◌, ℕ, ◌+◌, ◌-◌, ◌*◌, ◌/◌, ◌%◌, ◌<◌, ◌==◌, ◌&&◌, nat_lt, Bool, true, false, ◌⊎◌, inl, inr, Option, Some, None, List, [], ◌∷◌, ◌++◌, if◌then◌else◌, refl, ◌∙◌, ap, arith}
 use Rattle.std.proofs.lemmas.Bool.{and_from, and_right, cases_lt, eqb-true, ltb-true}
@@ -82,7 +82,8 @@ stage-adds sc place rows b = by b.ended (verdict_of stages)
 
 -- A window, a frame, the end.
 
--- with `b` as the book after it, the window of moment `m` is the last stage of a slot and gives its record
+-- with `b` as the book after it, the window of moment `m` is the last stage of a slot and gives its
+-- record
 pub record AddsSlot (sc : Scenario) (m : Moment) (b : Book) : Type 0 where
   pub slot : ℕ
   pub below : slot < sync_slot_of sc.sizes

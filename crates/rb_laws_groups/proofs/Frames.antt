@@ -46,7 +46,7 @@ less-apart size f w g h small =
     let le : (f + 1) * size ≤ g * size = mul-le-mul_right size (omega arith) in
     omega arith
 
--- a number of steps is the begin of one frame alone
+-- a number of steps is the start of one frame alone
 same-frame : (size f w g : ℕ) → f * size + w ≡ g * size → w < size → f ≡ g
 same-frame size f w g e small =
     elim (cases_order f g) [
@@ -77,7 +77,7 @@ none-early sc hands law frame port =
     early : (a q slot bius : ℕ) → q < 0 + (a + 3 * bius + 1 - 1) → suc q ≡ a + 3 * slot + 3 → slot < bius
     early a q slot bius high at = omega (arith, high, at)
 
--- after so many data slots what is delivered of each BIU goes by its first among them
+-- after n data slots what is delivered from each BIU is by its first slot among them
 abbrev pub AreDelivered : Scenario → List HandIn → ℕ → ℕ → (ℕ → Option ℕ) → ℕ → Type 0
 AreDelivered sc hands frame port owner n =
     (i : ℕ) → IsDeliveredOf sc hands frame i (first_among owner i (range_with_len sc.sizes.bius n)) (first_of i (told_in frame port (before_slot sc hands frame (sc.sizes.bius + n)).book))

@@ -1,4 +1,5 @@
--- What a port delivers of each BIU: nothing of one that owns no data slot, something of one that does, and of a good one its word.
+-- What a port delivers of each BIU: nothing of one that owns no data slot, something of one that
+-- does, and of a good one its word.
 use Rattle.std.proofs.Common.{◌≡◌, ℕ, zero, suc, ◌+◌, ◌*◌, ◌<◌, ◌≤◌, ◌==◌, ◌⊎◌, Bool, true, false, inl, inr, Option, Some, None, is_some, slice_get, List, [], ◌∷◌, ◌++◌, if◌then◌else◌, refl, sym, ◌∙◌, ap, subst, arith}
 use Rattle.std.proofs.lemmas.Bool.{eqb-true}
 use Rattle.std.proofs.lemmas.List.{append-nil}
@@ -96,7 +97,8 @@ first_among-append owner i (x ∷ xs) ys =
 
 -- What is delivered of a BIU.
 
--- by its first slot: nothing without one, else something, and the word that it offers there if it is good
+-- by its first slot: nothing without one, else something, and the word that it offers there if it
+-- is good
 abbrev pub IsDeliveredOf : Scenario → List HandIn → ℕ → ℕ → Option ℕ → Option Heard → Type 0
 IsDeliveredOf sc hands frame i None o = o ≡ None
 IsDeliveredOf sc hands frame i (Some slot) o = (is_some o ≡ true) × (is_good sc Biu i frame slot ≡ true → o ≡ Some (Word (offered_in sc hands frame slot i)))

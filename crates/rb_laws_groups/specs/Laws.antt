@@ -36,7 +36,7 @@ IsSchedule sc hands frame owner =
     (slot : ℕ) → sc.sizes.bius ≤ slot → slot ≤ last_data_slot sc.sizes
     → (me : Side) (i : ℕ) (st : NodeState) → IsGoodBefore sc hands frame slot me i st → owner_at sc.sizes st slot ≡ owner slot
 
--- Those who own a slot.
+-- The owners of slots.
 
 -- the answer is this number
 abbrev pub is_number : ℕ → Option ℕ → Bool
@@ -95,8 +95,9 @@ FramesHaveASchedule =
     (sc : Scenario) (hands : List HandIn) → IsLawful sc → (frame : ℕ) → AreServed sc hands frame → (port : ℕ) → IsGoodPort sc frame port
     → (owner : ℕ → Option ℕ) × IsSchedule sc hands frame owner
 
--- In each frame whose data slots are served, with the owners of these slots: if the members that offer a word as good owners outnumber the other
--- members that own a slot, every good port finds this word for the group
+-- In each frame whose data slots are served, with the owners of these slots: if the members that
+-- offer a word as good owners outnumber the other members that own a slot, every good port finds
+-- this word for the group
 abbrev pub FindsTheirWord : Scenario → List HandIn → ℕ → Type 0
 FindsTheirWord sc hands members =
     (frame : ℕ) → AreServed sc hands frame
@@ -112,8 +113,9 @@ abbrev pub OffersAreWithin : Scenario → List HandIn → ℕ → (ℕ → Optio
 OffersAreWithin sc hands frame owner members low high =
     (i word : ℕ) → has members i ≡ true → offer_of sc hands frame owner i ≡ Some word → (low ≤ word) × (word ≤ high)
 
--- In each frame whose data slots are served, with the owners of these slots: if the good owners among the members outnumber the other members that
--- own a slot, every good port finds a word for the group that lies between those of the good owners
+-- In each frame whose data slots are served, with the owners of these slots: if the good owners
+-- among the members outnumber the other members that own a slot, every good port finds a word for
+-- the group that lies between those of the good owners
 abbrev pub StaysBetweenThem : Scenario → List HandIn → ℕ → Type 0
 StaysBetweenThem sc hands members =
     (frame : ℕ) → AreServed sc hands frame

@@ -12,8 +12,9 @@ use Rattle.rb_rules.specs.Ports.{HandIn}
 use Rattle.rb_rules.specs.Rounds.{records_of}
 use Rattle.rb_laws_agreement.specs.Held.{state_held}
 
--- the lines are of one sender: each BIU that is good in the slot has one line, and all lines have one value. If the sender is good in the slot and
--- has a table, the value is the state that its table holds, as a word
+-- the lines are of one sender: each BIU that is good in the slot has one line, and all lines have
+-- one value. If the sender is good in the slot and has a table, the value is the state that its
+-- table holds, as a word
 pub record AreOfSender (sc : Scenario) (hands : List HandIn) (frame slot : ℕ) (lines : List SlotLine) : Type 0 where
   pub sender : ℕ
   pub value : Heard

@@ -13,7 +13,8 @@ use Rattle.rb_laws_letters.specs.Sent.{Call, IsFirstPart, IsLetter, Sent, after_
 
 -- Words.
 
--- the words of a letter, where none is open before them, give this letter alone, and leave none open
+-- the words of a letter, where none is open before them, give this letter alone, and leave none
+-- open
 pub record IsRead (letter : List ℕ) : Type 0 where
   pub given : given_with None (heard_words (spelling_of letter)) ≡ letter ∷ []
   pub after : open_after None (heard_words (spelling_of letter)) ≡ None
@@ -21,8 +22,9 @@ pub record IsRead (letter : List ℕ) : Type 0 where
 abbrev pub LettersAreRead : Type 0
 LettersAreRead = (letter : List ℕ) → IsLetter letter → IsRead letter
 
--- Of words that are, but for zeros anywhere between them, the first of these letters' words: the letters that they give are the first of
--- these, each whole and once, and all of these where all their words are there
+-- Of words that are, but for zeros anywhere between them, the first of these letters' words: the
+-- letters that they give are the first of these, each whole and once, and all of these where all
+-- their words are there
 pub record GivesTheFirst (letters : List (List ℕ)) (words : List ℕ) : Type 0 where
   pub first : IsFirstPart (given_with None (heard_words words)) letters
   pub all : without_zeros words ≡ words_of letters → given_with None (heard_words words) ≡ letters
@@ -31,7 +33,8 @@ abbrev pub WordsGiveTheirLetters : Type 0
 WordsGiveTheirLetters =
     (letters : List (List ℕ)) (words : List ℕ) → All IsLetter letters → IsFirstPart (without_zeros words) (words_of letters) → GivesTheFirst letters words
 
--- Of such words is what a sender gives, whatever is pushed and whenever it is asked. All the words are there once nothing waits
+-- Of such words is what a sender gives, whatever is pushed and whenever it is asked. All the words
+-- are there once nothing waits
 pub record SendsItsLetters (s : Sent) : Type 0 where
   pub first : IsFirstPart (without_zeros s.words) (words_of s.taken)
   pub all : s.waiting ≡ [] → without_zeros s.words ≡ words_of s.taken
@@ -52,8 +55,9 @@ pub record ReceiveAlike (i j sender : ℕ) (records : List Record) : Type 0 wher
   pub letters : letters_of i sender (deliveries_in records) ≡ letters_of j sender (deliveries_in records)
   pub left_open : open_at i sender (deliveries_in records) ≡ open_at j sender (deliveries_in records)
 
--- After each record of the run, two BIUs that are good in every slot recorded so far have received the same from each sender: the same letters in
--- the same slots. A breach is no slot: all that is recorded was delivered before it
+-- After each record of the run, two BIUs that are good in every slot recorded so far have received
+-- the same from each sender: the same letters in the same slots. A breach is no slot: all that is
+-- recorded was delivered before it
 abbrev pub PortsReceiveAlike : Scenario → List HandIn → Type 0
 PortsReceiveAlike sc hands =
     (records : List Record) → AreFirst sc hands records
@@ -62,9 +66,10 @@ PortsReceiveAlike sc hands =
 abbrev pub GoodPortsReceiveAlike : Type 0
 GoodPortsReceiveAlike = (sc : Scenario) (hands : List HandIn) → IsLawful sc → PortsReceiveAlike sc hands
 
--- The values that the port has received are the words that the sender offered, in order, with none left out and none lost. If these words without
--- their zeros are the first of some letters' words, the letters that the port receives are the first of these letters, each whole and once, and
--- all of these letters if all their words were delivered
+-- The values that the port has received are the words that the sender offered, in order, with none
+-- left out and none lost. If these words without their zeros are the first of some letters' words,
+-- the letters that the port receives are the first of these letters, each whole and once, and all
+-- of these letters if all their words were delivered
 pub record ReceivesFrom (sc : Scenario) (hands : List HandIn) (records : List Record) (receiver sender : ℕ) : Type 0 where
   pub values : values_of receiver sender (deliveries_in records) ≡ heard_words (offered_by sc hands sender records)
   pub first : (letters : List (List ℕ)) → All IsLetter letters → IsFirstPart (without_zeros (offered_by sc hands sender records)) (words_of letters)
@@ -72,7 +77,8 @@ pub record ReceivesFrom (sc : Scenario) (hands : List HandIn) (records : List Re
   pub all : (letters : List (List ℕ)) → All IsLetter letters → without_zeros (offered_by sc hands sender records) ≡ words_of letters
       → letters_of receiver sender (deliveries_in records) ≡ letters
 
--- after each record of the run, a BIU has so received from a sender, if both are good in every slot recorded so far
+-- after each record of the run, a BIU has so received from a sender, if both are good in every slot
+-- recorded so far
 abbrev pub PortsReceiveGoodSenders : Scenario → List HandIn → Type 0
 PortsReceiveGoodSenders sc hands =
     (records : List Record) → AreFirst sc hands records
@@ -81,9 +87,9 @@ PortsReceiveGoodSenders sc hands =
 abbrev pub GoodSendersAreReceived : Type 0
 GoodSendersAreReceived = (sc : Scenario) (hands : List HandIn) → IsLawful sc → PortsReceiveGoodSenders sc hands
 
--- So a port receives the letters that were pushed: where the words that a good sender offers are those that it was given by what it keeps
--- its letters in, its letters arrive at a good port, the first of those that were taken, each whole and once; and all of them where none
--- waits any more
+-- A port receives the letters that were pushed: if the words that a good sender offers are those
+-- that it was given by what it keeps its letters in, its letters arrive at a good port, the first
+-- of those that were taken, each whole and once; and all of them if none waits any more
 pub record ReceivesTheLetters (records : List Record) (receiver sender : ℕ) (s : Sent) : Type 0 where
   pub first : IsFirstPart (letters_of receiver sender (deliveries_in records)) s.taken
   pub all : s.waiting ≡ [] → letters_of receiver sender (deliveries_in records) ≡ s.taken

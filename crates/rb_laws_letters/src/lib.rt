@@ -35,9 +35,9 @@ pub fn good_senders_are_received()
     ensures { GoodSendersAreReceived }
 {}
 
-/// So letters arrive: where the words that a good sender offers are what the calls to a sender of
-/// letters gave, zeros among them, a good port receives the first of the letters that this had
-/// taken, each whole and once, and all of them where none waits any more.
+/// Letters arrive: if the words that a good sender offers are what the calls to a sender of letters
+/// gave, zeros among them, a good port receives the first of the letters that this sender had
+/// taken, each whole and once, and all of them if none waits any more.
 pub fn letters_arrive()
     ensures { LettersArrive }
 {}

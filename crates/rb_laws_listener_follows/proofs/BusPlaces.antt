@@ -1,4 +1,4 @@
--- After so many steps of the abstract bus it stands before the slot of that number.
+-- After n steps the abstract bus is before the slot of that number.
 use Rattle.std.proofs.Common.{◌≡◌, ℕ, zero, suc, ◌+◌, ◌*◌, ◌<◌, ◌≤◌, nat_lt, Bool, true, false, refl, sym, ◌∙◌, ap, arith, inl, inr}
 use Rattle.std.proofs.lemmas.Bool.{cases_lt, cases_order, lt-ltb, ltb-true}
 use Rattle.std.proofs.Math.Nat.{mul-le-mul_right}

@@ -1,4 +1,5 @@
--- When the calls came that a listener takes in stage 2 of the sync slot: the last call of the frame by that RMU with that stamp.
+-- When the calls came that a listener takes in stage 2 of the sync slot: the last call of the frame
+-- by that RMU with that stamp.
 use Rattle.std.proofs.Common.{◌≡◌, ℕ, zero, suc, ◌+◌, ◌%◌, ◌<◌, ◌≤◌, ◌==◌, ◌&&◌, not, nat_lt, Bool, true, false, Option, Some, None, if◌then◌else◌, List, [], ◌∷◌, ◌++◌, slice_get, refl, sym, ◌∙◌, ap, subst, arith}
 use Rattle.std.proofs.lemmas.Bool.{and_from, eq-eqb, eqb-true}
 use Rattle.std.proofs.lemmas.Option.{same_Some}
@@ -78,7 +79,7 @@ came_with sizes k (c ∷ cs) j x xs h = go (nat_lt c.from sizes.rmus) h (λ e. c
     go true h rest = by (c.from == j) refl h rest
     go false h rest = later (rest h)
 
--- and of all that came with the stamps of so many ticks
+-- x came from source j with the stamp `first + i`, one of the n stamps from `first` on
 record IsIn (heard : ℕ → List Coming) (first n j : ℕ) (x : Arrival) : Type 0 where
   pub i : ℕ
   pub within : i < n

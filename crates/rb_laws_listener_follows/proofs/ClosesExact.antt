@@ -41,7 +41,8 @@ use Rattle.rb_laws_listener_follows.proofs.BusPlaces.{slot_there}
 
 -- What it delivers.
 
--- a delivery of a BIU is that of the bus, where in data slots its sender and in stage 2 its vote are the bus's
+-- a delivery of a BIU is that of the bus, where in data slots its sender and in stage 2 its vote
+-- are the bus's
 delivers-by : (st : NodeState) (slot stage : ℕ) (role : Role) (mine bus : Sender) (vote value : Heard) → ((n : ℕ) → role ≡ Data n → mine ≡ bus) → ((n : ℕ) → role ≡ Data n → stage ≡ 2 → vote ≡ value)
     → delivery_of Biu st slot role mine stage vote ≡ delivery_by st.frame slot stage role bus value
 delivers-by st slot stage (Schedule i) mine bus vote value sender votes = refl

@@ -1,4 +1,5 @@
--- A listener delivers in a slot of a frame with the last tick of the slot's stage 2, and with no other tick.
+-- A listener delivers in a slot of a frame with the last tick of the slot's stage 2, and with no
+-- other tick.
 use Rattle.std.proofs.Common.{◌≡◌, ◌⊎◌, ℕ, zero, suc, ◌+◌, ◌-◌, ◌*◌, ◌/◌, ◌%◌, ◌<◌, ◌≤◌, ◌==◌, Bool, true, false, [], Option, Some, None, if◌then◌else◌, unwrap_or, inl, inr, refl, sym, ◌∙◌, ap, subst, arith}
 use Rattle.std.specs.Option.{option_and_then}
 use Rattle.std.proofs.lemmas.Bool.{cases_lt, eqb-true}

@@ -1,4 +1,5 @@
--- A listener comes to know its next epoch with the last tick of stage 2 of the sync slot, and with no other tick.
+-- A listener comes to know its next epoch with the last tick of stage 2 of the sync slot, and with
+-- no other tick.
 use Rattle.std.proofs.Common.{◌≡◌, ◌⊎◌, ℕ, zero, suc, ◌+◌, ◌-◌, ◌*◌, ◌/◌, ◌<◌, ◌==◌, ◌&&◌, Bool, true, false, List, [], ◌∷◌, length, find, cond, Option, Some, None, if◌then◌else◌, option_map, unwrap_or, slice_get, inl, inr, refl, sym, ◌∙◌, ap, subst, arith}
 use Rattle.std.proofs.lemmas.Bool.{cases_lt, eqb-true}
 use Rattle.rb_base.specs.Nodes.Side.{Biu}
@@ -28,7 +29,7 @@ use Rattle.rb_laws_listener_near.proofs.SyncTracks.{turns_with}
 use Rattle.rb_laws_listener_follows.proofs.ExactSteps.{exact_keeps}
 use Rattle.rb_laws_listener_follows.proofs.TurnSteps.{turned-unknown}
 
--- how many ticks after the begin of its frame it has the middle
+-- how many ticks after the start of its frame it has the middle
 abbrev pub second_end : Sizes → Plan → ℕ
 second_end sizes plan = f0_of sizes plan + plan.l + plan.v
 

@@ -1,4 +1,5 @@
--- A listener tells one frame after another: each with one tick, and not before the end of stage 2 of the sync slot of the one before.
+-- A listener tells one frame after another: each with one tick, and not before the end of stage 2
+-- of the sync slot of the one before.
 use Rattle.std.proofs.Common.{◌≡◌, ◌⊎◌, ℕ, zero, suc, ◌+◌, ◌-◌, ◌^◌, ◌<◌, ◌≤◌, ◌==◌, Bool, true, false, ◌++◌, Option, Some, None, inl, inr, refl, sym, ◌∙◌, ap, subst, arith}
 use Rattle.std.proofs.lemmas.Bool.{cases_lt, eqb-true}
 use Rattle.std.proofs.lemmas.Bool.Decides.{nat_tests}
@@ -24,8 +25,9 @@ use Rattle.rb_laws_listener_follows.proofs.Tellings.{tells_epoch}
 
 -- ---- what it told before a tick
 
--- Before tick k the listener follows a frame whose begin it told with an earlier tick. All frames that it told before are of no higher number.
--- Its next epoch is not known before the end of stage 2 of the sync slot, and stays from then on
+-- Before tick k the listener follows a frame whose start it told with an earlier tick. All frames
+-- that it told before are of no higher number. Its next epoch is not known before the end of stage
+-- 2 of the sync slot, and stays from then on
 pub record IsSince (sc : Scenario) (ear : Ear) (k : ℕ) : Type 0 where
   pub core : Core
   pub here : listening_at sc ear k ≡ now.Following core
@@ -344,7 +346,8 @@ at_tick sc ear tick s first w k from in_time = elim (cases_lt first.epoch k) [
 
 -- ---- what it tells
 
--- with a later tick than the first epoch it tells the frame after the one that it told last, having known that tick
+-- with a later tick than the first epoch it tells the frame after the one that it told last, having
+-- known that tick
 record TellsNext (sc : Scenario) (ear : Ear) (k : ℕ) (e : Epoch) (x : IsSince sc ear k) : Type 0 where
   pub frame : e.frame ≡ x.core.state.frame + 1
   pub known : new_epoch_of sc.plan Biu x.core.state ≡ Some k
@@ -421,8 +424,8 @@ none_earlier sc ear tick s first w k e in_time told = elim (cases_lt first.epoch
         past_epoch sc (first_core sc.sizes first).state first.epoch e (sym (first_told sc ear tick s first w (omega (arith, same, in_time))) ∙ ap (λ n. (told_at sc ear n).epoch) (sym same) ∙ told) in
         omega (arith, p.1)
 
--- The frame after one that it told with this tick alone it tells not before the end of stage 2 of the sync slot, and with the tick that is
--- known then
+-- The frame after one that it told with this tick alone it tells not before the end of stage 2 of
+-- the sync slot, and with the tick that is known then
 pub record TellsAfter (sc : Scenario) (ear : Ear) (epoch k : ℕ) : Type 0 where
   pub far : epoch + second_end sc.sizes sc.plan ≤ k
   pub known : (c : Core) → listening_at sc ear (epoch + second_end sc.sizes sc.plan) ≡ now.Following c → new_epoch_of sc.plan Biu c.state ≡ Some k

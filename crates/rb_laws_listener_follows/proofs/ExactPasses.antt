@@ -24,8 +24,8 @@ use Rattle.rb_laws_listener_follows.proofs.SeenPremise.{holds_following, most_st
 use Rattle.rb_laws_listener_follows.proofs.SeenWindows.{IsPlaceOf, NoneSeen, SeesWindow, seen_stays, sees_window}
 use Rattle.rb_laws_listener_follows.proofs.TurnSets.{HoldsSets}
 
--- The listener stands before window w of the frame, and has closed neither this window nor a later one. Before the first one it holds the
--- trusted nodes of all
+-- The listener stands before window w of the frame, and has closed neither this window nor a later
+-- one. Before the first one it holds the trusted nodes of all
 pub record StandsAt (sc : Scenario) (hands : List HandIn) (ear : Ear) (frame w epoch low : ℕ) : Type 0 where
   pub shared : Shared
   pub before : NodeState
@@ -35,7 +35,8 @@ pub record StandsAt (sc : Scenario) (hands : List HandIn) (ear : Ear) (frame w e
   pub none : NoneSeen sc ear frame w (epoch + w * sc.plan.l)
   pub sets : w ≡ 0 → HoldsSets shared frame st
 
--- the premise with the listener holds up to moment `last`, and the frame is one after the learned one
+-- the premise with the listener holds up to moment `last`, and the frame is one after the learned
+-- one
 pub record IsHeldTo (sc : Scenario) (hands : List HandIn) (ear : Ear) (learned : ℕ) (records : List Sense) (f last : ℕ) : Type 0 where
   pub holds : HoldsTo sc hands ear learned records last
   pub later : learned < suc f

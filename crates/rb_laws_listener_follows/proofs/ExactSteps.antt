@@ -1,4 +1,5 @@
--- A listener goes through a window below the sync slot: it closes it as the good BIUs do, and stands before the next.
+-- A listener goes through a window below the sync slot: it closes it as the good BIUs do, and
+-- stands before the next.
 use Rattle.std.proofs.Common.{◌≡◌, ℕ, suc, ◌+◌, ◌-◌, ◌*◌, ◌^◌, ◌<◌, ◌≤◌, ◌==◌, Bool, true, false, List, Option, Some, None, refl, sym, ◌∙◌, ap, subst, arith}
 use Rattle.rb_base.specs.Nodes.Side.{Biu}
 use Rattle.rb_base.specs.Sizes.{Sizes, sync_slot_of}
@@ -154,7 +155,8 @@ keeps_middle sizes plan st slot stage first sense below =
 
 -- ---- the step
 
--- with the last tick it closes the window, keeps up with the bus, and stands before the tick after it
+-- with the last tick it closes the window, keeps up with the bus, and stands before the tick after
+-- it
 pub record GoesThrough (sc : Scenario) (hands : List HandIn) (ear : Ear) (n epoch : ℕ) (before st : NodeState) (slot q : ℕ) : Type 0 where
   pub core : Core
   pub here : listening_at sc ear (epoch + (moment sc hands n).window * sc.plan.l + (sc.plan.l - 1)) ≡ now.Following core

@@ -1,4 +1,5 @@
--- A listener that has learned and waited begins its first frame beside the run, and holds what the good BIUs hold.
+-- A listener that has learned and waited begins its first frame beside the run, and holds what the
+-- good BIUs hold.
 use Rattle.std.proofs.Common.{◌≡◌, ℕ, suc, ◌+◌, List, [], Some, None, replicate, refl, sym, ◌∙◌, ap, subst, arith}
 use Rattle.rb_base.specs.Nodes.{Side}
 use Rattle.rb_base.specs.Nodes.Side.{Biu}

@@ -1,4 +1,5 @@
--- A listener goes through stage 1 of the sync slot, in which the RMUs listen: nothing of good RMUs comes, and it keeps up with the bus.
+-- A listener goes through stage 1 of the sync slot, in which the RMUs listen: nothing of good RMUs
+-- comes, and it keeps up with the bus.
 use Rattle.std.proofs.Common.{◌≡◌, ℕ, suc, ◌+◌, ◌-◌, ◌*◌, ◌^◌, ◌≤◌, true, false, List, [], Some, None, slice_get, refl, sym, ◌∙◌, ap, subst, arith}
 use Rattle.rb_base.specs.Nodes.Side.{Biu, Rmu}
 use Rattle.rb_base.specs.Sizes.{Sizes, sync_slot_of}
@@ -44,7 +45,7 @@ use Rattle.rb_laws_listener_follows.proofs.HeardSync.{nothing_first}
 
 -- ---- windows of the sync slot at the listener
 
--- window w of its frame begins with offset a and has so many ticks
+-- window w of its frame begins with offset a and has `ticks` ticks
 pub record IsSpan (sc : Scenario) (st : NodeState) (w slot stage a ticks : ℕ) : Type 0 where
   pub window : window_numbered sc.sizes sc.plan Biu st w ≡ window_of slot stage a ticks
   pub in_frame : w ≤ stages_in sc.sizes

@@ -120,7 +120,8 @@ most-good sc hands ear law run frame running =
     has-set_of j (λ j. is_good sc Rmu j frame (sync_slot_of sc.sizes)) below ∙ always-good-in sc hands law j frame (sync_slot_of sc.sizes) running (sym (has-set_of j (is_always_good sc hands) below) ∙ h)) in
     omega (arith, most, fewer)
 
--- before stage 2 of the sync slot of a frame after the first all windows of the frame before it were judged
+-- before stage 2 of the sync slot of a frame after the first all windows of the frame before it
+-- were judged
 long-stages : (sc : Scenario) (hands : List HandIn) → IsLawful sc → (f : ℕ) → IsRunning (before_stage sc hands (suc f) (sync_slot_of sc.sizes) 2)
     → length (before_stage sc hands (suc f) (sync_slot_of sc.sizes) 2).book.stages ≡ 3 * sync_slot_of sc.sizes + 1
 long-stages sc hands law f running =

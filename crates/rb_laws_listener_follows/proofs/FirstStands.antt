@@ -1,4 +1,5 @@
--- After the first window of its first frame a listener stands beside the run as in each later window.
+-- After the first window of its first frame a listener stands beside the run as in each later
+-- window.
 use Rattle.std.proofs.Common.{◌≡◌, ℕ, suc, ◌+◌, ◌/◌, ◌%◌, ◌≤◌, List, Some, None, sym, ◌∙◌, ap, subst, arith}
 use Rattle.rb_base.specs.Sizes.{sync_slot_of}
 use Rattle.rb_rules.specs.Goodness.{Scenario}

@@ -1,4 +1,5 @@
--- A listener goes through the first window of its first frame. What comes with the stamp of the frame's first tick it does not keep.
+-- A listener goes through the first window of its first frame. What comes with the stamp of the
+-- frame's first tick it does not keep.
 use Rattle.std.proofs.Common.{◌≡◌, ℕ, zero, suc, ◌+◌, ◌-◌, ◌*◌, ◌^◌, ◌<◌, ◌≤◌, ◌==◌, ◌&&◌, not, Bool, true, false, List, [], Option, Some, None, option_and_then, option_map, refl, sym, ◌∙◌, ap, subst, arith}
 use Rattle.std.proofs.lemmas.Bool.{lt-ltb}
 use Rattle.std.proofs.lemmas.Bool.Decides.{nat_tests}
@@ -56,7 +57,8 @@ use Rattle.rb_laws_listener_follows.proofs.HeardExact.{Beside, IsOwn, only_own}
 use Rattle.rb_laws_listener_follows.proofs.SeenPremise.{most_stay, place_closed}
 use Rattle.rb_laws_listener_follows.proofs.SeenWindows.{NoneSeen, sees_window}
 
--- with its first tick it has turned to following, and stands beside the run before the frame's first window
+-- with its first tick it has turned to following, and stands beside the run before the frame's
+-- first window
 pub record BeginsFirst (sc : Scenario) (hands : List HandIn) (ear : Ear) (n epoch low : ℕ) (s : Shared) (st : NodeState) : Type 0 where
   pub beside : Beside sc hands ear n epoch low s
   pub window : (moment sc hands n).window ≡ 0

@@ -49,8 +49,8 @@ abbrev pub AllBegin : Scenario → List HandIn → ℕ → ℕ → Type 0
 AllBegin sc hands frame low =
     (me : Side) (i : ℕ) (st : NodeState) → IsGoodNode sc (moment sc hands (0 + first_of_frame sc frame)) me i st → IsBetween low (low + sc.plan.p) (time_of (clock_of sc me i) st.epoch)
 
--- The listener begins the frame near the good nodes with this tick, and tells that. If it has ticks so far, it stands before the frame's first window, or
--- before its second one
+-- The listener begins the frame near the good nodes with this tick, and tells that. If it has ticks
+-- so far, it stands before the frame's first window, or before its second one
 pub record IsFollowed (sc : Scenario) (hands : List HandIn) (ear : Ear) (frame : ℕ) : Type 0 where
   pub epoch : ℕ
   pub low : ℕ
@@ -66,7 +66,7 @@ pub record IsBegun (sc : Scenario) (hands : List HandIn) (ear : Ear) (frame : �
   pub followed : IsFollowed sc hands ear frame
   pub whole : followed.from ≡ 0
 
--- ---- a frame that begins when the listener's ticks are over
+-- ---- a frame that starts when the listener's ticks are over
 
 too_late : (low p f h l v z u d most t x : ℕ) → 1 ≤ u → p + d * (f + h) + 3 * most + 2 * (u + d) + d * (l + v) + (1 + h) * u ≤ z * u → x ≤ low + p + (f + l + v) * (u + d)
     → low + (f + l + v + z) * u ≤ t → t ≤ x → ⊥
@@ -260,7 +260,8 @@ followed_step sc hands law ear is learned records tick s first w first_is last h
     subst (λ k. IsBegun sc hands ear (suc k)) g
     (followed_next sc hands law ear is learned records tick s first w first_is (d + learned) last (record { holds = holds; later = omega arith; complete = frame_before sc hands d learned complete }) here (omega (arith, more, bound)) x)
 
--- it follows each frame after the learned one that is reached before the first breach of the premise with it
+-- it follows each frame after the learned one that is reached before the first breach of the
+-- premise with it
 pub followed_at : (sc : Scenario) (hands : List HandIn) → IsLawful sc → (ear : Ear) → IsEar sc ear → (learned : ℕ) (records : List Sense) (tick : ℕ) (s : Search) (first : First)
     → WaitsFirst sc ear tick s first → first.frame ≡ suc learned → (last : ℕ) → HoldsTo sc hands ear learned records last
     → IsFollowed sc hands ear (suc learned) → (d : ℕ) → IsComplete sc hands (d + learned) (sync_slot_of sc.sizes) → suc (d + learned) * (windows_in sc.sizes + 1) ≤ last

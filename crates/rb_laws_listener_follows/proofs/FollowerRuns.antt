@@ -1,4 +1,5 @@
--- A listener that follows goes through a window tick by tick: at its last tick it has all that came with the stamps of its ticks, and closes.
+-- A listener that follows goes through a window tick by tick: at its last tick it has all that came
+-- with the stamps of its ticks, and closes.
 use Rattle.std.proofs.Common.{◌≡◌, ℕ, zero, suc, ◌+◌, ◌^◌, ◌<◌, ◌≤◌, nat_lt, ◌&&◌, not, Bool, true, false, List, [], ◌∷◌, ◌++◌, Some, None, refl, sym, ◌∙◌, ap, subst, arith}
 use Rattle.std.proofs.lemmas.List.{append-nil, append_assoc}
 use Rattle.rb_base.specs.Nodes.Side.{Biu}
@@ -26,7 +27,7 @@ arrivals sizes k (c ∷ cs) = elim (nat_lt c.from sizes.rmus) [
   | false ↦ arrivals sizes k cs
 ]
 
--- those with so many stamps from the first on
+-- the arrivals with the n stamps from `first` on
 unfoldable pub collected : Sizes → (ℕ → List Coming) → ℕ → ℕ → List (ℕ × Arrival)
 collected sizes heard first zero = []
 collected sizes heard first (suc n) = collected sizes heard first n ++ arrivals sizes (first + n) (heard (first + n))
@@ -131,7 +132,8 @@ closes_it sizes plan c st last = by (is_last sizes plan Biu st c.had) last
 
 -- A window.
 
--- the ticks of a window: with the first the node comes to this state, and with the one that is n later it closes
+-- the ticks of a window: with the first the node comes to this state, and with the one that is n
+-- later it closes
 pub record IsWindow (sizes : Sizes) (plan : Plan) (before st : NodeState) (first n : ℕ) : Type 0 where
   pub turns : state_at sizes plan Biu before first ≡ st
   pub stays : (k : ℕ) → first < k → k ≤ first + n → state_at sizes plan Biu st k ≡ st

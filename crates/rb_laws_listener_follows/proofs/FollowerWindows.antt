@@ -24,7 +24,8 @@ stays-in sizes plan st k before = go (new_epoch_of plan Biu st) refl
     go None e = no-next sizes plan Biu st k e
     go (Some x) e = not-yet sizes plan Biu st x k e (before x e)
 
--- window n of the frame of a follower in this state. Before its first tick it may have been in another, which turns into this one
+-- window n of the frame of a follower in this state. Before its first tick it may have been in
+-- another, which turns into this one
 pub is_window : (sizes : Sizes) (plan : Plan) (before st : NodeState) (n : ℕ) → HasTicks plan → n ≤ stages_in sizes → first_of sizes plan Biu st n ≤ last_of sizes plan Biu st n
     → state_at sizes plan Biu before (st.epoch + first_of sizes plan Biu st n) ≡ st
     → ((x : ℕ) → new_epoch_of plan Biu st ≡ Some x → st.epoch + last_of sizes plan Biu st n < x) → st.epoch + last_of sizes plan Biu st n < 2 ^ 31

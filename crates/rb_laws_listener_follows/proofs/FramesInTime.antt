@@ -1,4 +1,5 @@
--- A listener that begins a frame near the good nodes stands beside the run in all its windows below the sync slot.
+-- A listener that starts a frame near the good nodes stands beside the run in all its windows below
+-- the sync slot.
 use Rattle.std.proofs.Common.{◌≡◌, ℕ, zero, suc, ◌+◌, ◌-◌, ◌*◌, ◌/◌, ◌<◌, ◌≤◌, true, List, slice_get, ◌⊎◌, inl, inr, sym, ◌∙◌, ap, subst, arith}
 use Rattle.std.proofs.lemmas.Bool.{cases_lt}
 use Rattle.rb_base.specs.Nodes.{Side}

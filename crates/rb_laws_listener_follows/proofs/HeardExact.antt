@@ -1,4 +1,5 @@
--- What a listener hears of good RMUs in a window below the sync slot: what they send in it, and nothing else.
+-- What a listener hears of good RMUs in a window below the sync slot: what they send in it, and
+-- nothing else.
 use Rattle.std.proofs.Common.{◌≡◌, ℕ, ◌+◌, ◌-◌, ◌*◌, ◌/◌, ◌%◌, ◌<◌, ◌≤◌, ◌==◌, ◌&&◌, ◌||◌, nat_lt, true, false, List, Some, None, get_or, ◌⊎◌, inl, inr, refl, sym, ◌∙◌, ap, subst, arith}
 use Rattle.std.proofs.lemmas.Bool.{cases_lt, cases_order, eqb-true, ltb-true, or_cases}
 use Rattle.std.proofs.lemmas.Option.{same_Some}
@@ -46,7 +47,8 @@ use Rattle.rb_laws_listener_learns.proofs.Together.{steady-ear}
 
 -- ---- when an RMU sends
 
--- the tick of what it sends in a window, by its frame's first tick: at the window's offset below the sync slot, and else in stage 2
+-- the tick of what it sends in a window, by its frame's first tick: at the window's offset below
+-- the sync slot, and else in stage 2
 pub record SendsThen (sc : Scenario) (m : Moment) (j : ℕ) (st : NodeState) (s : Sending) : Type 0 where
   pub node : IsGoodNode sc m Rmu j st
   pub tick : ((m.window < 3 * sync_slot_of sc.sizes) × (s.tick ≡ st.epoch + (m.window * sc.plan.l + sc.plan.h)))
@@ -105,7 +107,8 @@ sends_then sc hands law n j s sent =
 
 -- ---- the numbers
 
--- a message of a later window comes after the last tick of window a to a + l, wherever it was sent from a + l + h on
+-- a message of a later window comes after the last tick of window a to a + l, wherever it was sent
+-- from a + l + h on
 too_late : (low p a f h l u d least x t k : ℕ) → a + l ≤ f → p + d * (f + h) ≤ h * u + least → 1 ≤ u → low + (a + l + h) * u + least ≤ x → x ≤ t
     → t ≤ k → k + (u + d) ≤ low + p + (a + l) * (u + d) → ⊥
 too_late low p a f h l u d least x t k le c1 some sent reached at last =
@@ -124,7 +127,8 @@ too_soon low p a f h l u d least most skew x t k le delays fits c2 sent reached 
 
 -- ---- a listener beside the run
 
--- the run has come to moment n. The listener began the moment's frame with this tick, with the good nodes
+-- the run has come to moment n. The listener began the moment's frame with this tick, with the good
+-- nodes
 pub record Beside (sc : Scenario) (hands : List HandIn) (ear : Ear) (n epoch low : ℕ) (s : Shared) : Type 0 where
   pub law : IsLawful sc
   pub is : IsEar sc ear
@@ -253,8 +257,8 @@ last_time sc hands ear n epoch low s b a k le some =
     let up : time_of ear.clock k ≤ time_of ear.clock (epoch + o) = times_rise_to ear.clock k (epoch + o) (omega (arith, le, e)) in
     omega (arith, up, (ear_time sc hands ear n epoch low s b o).most, one_more o (a + sc.plan.l) (tick_of sc.plan) e)
 
--- a message of an earlier window, with a stamp before the tick after that window's last, if it is of this frame, and before the frame's
--- first tick, if it is of an earlier one
+-- a message of an earlier window, with a stamp before the tick after that window's last, if it is
+-- of this frame, and before the frame's first tick, if it is of an earlier one
 pub record IsEarlier (sc : Scenario) (hands : List HandIn) (n q epoch k : ℕ) : Type 0 where
   pub kind : (((moment sc hands q).frame ≡ (moment sc hands n).frame) × ((moment sc hands q).window < (moment sc hands n).window)
       × ((((moment sc hands q).window < 3 * sync_slot_of sc.sizes) × (k + 1 ≤ epoch + (moment sc hands q).window * sc.plan.l + sc.plan.l))

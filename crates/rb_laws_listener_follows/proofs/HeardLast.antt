@@ -1,4 +1,5 @@
--- What a listener hears of RMUs that are good in the next frame, too, in stage 3 of the sync slot and in the tail: nothing.
+-- What a listener hears of RMUs that are good in the next frame, too, in stage 3 of the sync slot
+-- and in the tail: nothing.
 use Rattle.std.proofs.Common.{◌≡◌, ℕ, ◌+◌, ◌-◌, ◌*◌, ◌<◌, ◌≤◌, nat_lt, true, List, None, get_or, ◌⊎◌, inl, inr, refl, sym, ◌∙◌, ap, subst, arith}
 use Rattle.std.proofs.lemmas.Bool.{cases_order, ltb-true}
 use Rattle.std.proofs.Math.Nat.{mul-le-mul_right}
@@ -44,7 +45,8 @@ same_place size f w g e small =
       ]
     ]
 
--- where the good nodes and the listener would begin the next frame: all that are good at its first moment, from this time on and within p
+-- where the good nodes and the listener would begin the next frame: all that are good at its first
+-- moment, from this time on and within p
 pub record NextBegins (sc : Scenario) (hands : List HandIn) (ear : Ear) (frame next_epoch later : ℕ) : Type 0 where
   pub good : (n : ℕ) → (moment sc hands n).frame ≡ frame + 1 → (moment sc hands n).window ≡ 0 → IsRunning (moment sc hands n) → (me : Side) (i : ℕ) (st : NodeState)
       → IsGoodNode sc (moment sc hands n) me i st → IsBetween later (later + sc.plan.p) (time_of (clock_of sc me i) st.epoch)

@@ -1,4 +1,5 @@
--- What a listener hears of good RMUs in the first two stages of the sync slot: nothing in stage 1, and in stage 2 their calls.
+-- What a listener hears of good RMUs in the first two stages of the sync slot: nothing in stage 1,
+-- and in stage 2 their calls.
 use Rattle.std.proofs.Common.{◌≡◌, ℕ, suc, ◌+◌, ◌-◌, ◌*◌, ◌<◌, ◌≤◌, nat_lt, true, List, None, get_or, inl, inr, refl, sym, ◌∙◌, ap, subst, arith}
 use Rattle.std.proofs.lemmas.Bool.{cases_order, ltb-true}
 use Rattle.std.proofs.Math.Nat.{mul-le-mul_right}

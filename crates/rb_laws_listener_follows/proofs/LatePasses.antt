@@ -1,4 +1,5 @@
--- From stage 2 of the sync slot a listener goes through stage 3 and the tail to the first window of the next frame.
+-- From stage 2 of the sync slot a listener goes through stage 3 and the tail to the first window of
+-- the next frame.
 use Rattle.std.proofs.Common.{◌≡◌, ℕ, suc, ◌+◌, ◌-◌, ◌*◌, ◌≤◌, true, List, slice_get, refl, sym, ◌∙◌, ap, subst, arith}
 use Rattle.std.proofs.lemmas.Option.{same_Some}
 use Rattle.rb_base.specs.Nodes.{has}

@@ -46,7 +46,8 @@ CallsAreOver sc hands ear n epoch =
     (j q : ℕ) (x : Sending) → SendsIn sc hands q j x → (moment sc hands q).frame ≡ (moment sc hands n).frame → (moment sc hands q).window ≡ 3 * sync_slot_of sc.sizes + 1
     → (k : ℕ) → IsStamp ear.clock (coming_to sc ear j (moment sc hands q).frame x).time k → k + 1 ≤ epoch + f0_of sc.sizes sc.plan + sc.plan.l + sc.plan.v
 
--- the listener stands with offset a before a window after stage 2, and knows when its next frame begins
+-- the listener stands with offset a before a window after stage 2, and knows when its next frame
+-- begins
 pub record StandsLate (sc : Scenario) (hands : List HandIn) (ear : Ear) (n epoch low : ℕ) (s : Shared) (st : NodeState) (a next_epoch later : ℕ) : Type 0 where
   pub beside : Beside sc hands ear n epoch low s
   pub next : NextBegins sc hands ear (moment sc hands n).frame next_epoch later

@@ -1,4 +1,5 @@
--- A listener that follows a frame of the bus comes from any window of it up to the sync slot to each later one, and to its next frame.
+-- A listener that follows a frame of the bus comes from any window of it up to the sync slot to
+-- each later one, and to its next frame.
 use Rattle.std.proofs.Common.{◌≡◌, ℕ, zero, suc, ◌+◌, ◌-◌, ◌*◌, ◌≤◌, List, Some, sym, ap, subst, arith}
 use Rattle.rb_base.specs.Nodes.Side.{Biu}
 use Rattle.rb_base.specs.Sizes.{sync_slot_of}
@@ -43,7 +44,8 @@ to_window sc hands ear learned records f last w epoch low h x (suc d) few runnin
 
 -- ---- to the next frame
 
--- when the next frame begins at the listener and at the good nodes. Before stage 3 of the sync slot the listener knows that. If the listener has ticks so far, it stands before its first window
+-- when the next frame begins at the listener and at the good nodes. Before stage 3 of the sync slot
+-- the listener knows that. If the listener has ticks so far, it stands before its first window
 pub record NextFrame (sc : Scenario) (hands : List HandIn) (ear : Ear) (frame epoch : ℕ) : Type 0 where
   pub next_epoch : ℕ
   pub low : ℕ

@@ -1,4 +1,5 @@
--- A listener goes through stage 2 of the sync slot: it keeps the middle of the calls, from which its next frame begins near the good nodes.
+-- A listener goes through stage 2 of the sync slot: it keeps the middle of the calls, from which
+-- its next frame begins near the good nodes.
 use Rattle.std.proofs.Common.{◌≡◌, ℕ, suc, ◌+◌, ◌-◌, ◌*◌, ◌<◌, ◌≤◌, ◌&&◌, not, Bool, true, false, List, Option, Some, None, is_some, option_map, unwrap_or, if◌then◌else◌, refl, sym, ◌∙◌, ap, subst, arith}
 use Rattle.rb_base.specs.Nodes.{has}
 use Rattle.rb_base.specs.Nodes.Side.{Biu, Rmu}
@@ -115,7 +116,8 @@ keeps_second : (sizes : Sizes) (st : NodeState) (first middle : ℕ) (sense : �
 unfolding close_sync sync_outcome_of
 keeps_second sizes st first middle sense found = ap (λ o. Some (unwrap_or o first)) found
 
--- with the last tick of stage 2 it knows when its next frame begins, and its middle is near those of the good BIUs
+-- with the last tick of stage 2 it knows when its next frame begins, and its middle is near those
+-- of the good BIUs
 pub record PassesSecond (sc : Scenario) (hands : List HandIn) (ear : Ear) (n epoch : ℕ) (st : NodeState) : Type 0 where
   pub closes : ClosesWindow sc ear st st (epoch + (f0_of sc.sizes sc.plan + sc.plan.l)) (sc.plan.v - 1)
   pub now : NodeState

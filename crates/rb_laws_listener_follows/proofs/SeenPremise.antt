@@ -1,4 +1,5 @@
--- In a frame after the one that it learned, a listener sees what it takes, and the premise with it is that of its windows.
+-- In a frame after the one that it learned, a listener sees what it takes, and the premise with it
+-- is that of its windows.
 use Rattle.std.proofs.Common.{◌≡◌, ℕ, suc, ◌+◌, ◌*◌, ◌<◌, ◌≤◌, ◌==◌, if◌then◌else◌, Bool, true, false, List, Option, None, get_or, refl, sym, ◌∙◌, ap, subst, arith}
 use Rattle.std.proofs.lemmas.Bool.{ltb-true}
 use Rattle.std.proofs.lemmas.List.FromFn.{get_or-map-range_with_len}
@@ -45,7 +46,8 @@ following_verdict sc ear learned frame records stages later h =
     subst (λ (b : Bool). verdict_with (λ window s. if b then seen_learned sc ear learned records window s else seen_closed sc ear frame (seen_by sc ear frame window ear.ticks)) stages ≡ None)
     (more-differs frame learned later) h
 
--- where it holds up to a moment after the first of a frame, it holds there of what the listener closed
+-- where it holds up to a moment after the first of a frame, it holds there of what the listener
+-- closed
 pub holds_following : (sc : Scenario) (hands : List HandIn) (ear : Ear) (learned : ℕ) (records : List Sense) (last : ℕ) → HoldsTo sc hands ear learned records last
     → (k frame : ℕ) → k ≤ last → (moment sc hands k).frame ≡ frame → learned < frame → 1 ≤ (moment sc hands k).window
     → verdict_with (seen_following sc ear frame) (moment sc hands k).book.stages ≡ None

@@ -1,4 +1,5 @@
--- In the first two stages of the sync slot of a frame that it follows, a listener goes from one to the next, and keeps the middle of the calls.
+-- In the first two stages of the sync slot of a frame that it follows, a listener goes from one to
+-- the next, and keeps the middle of the calls.
 use Rattle.std.proofs.Common.{◌≡◌, ℕ, suc, ◌+◌, ◌-◌, ◌*◌, ◌/◌, ◌%◌, ◌<◌, ◌≤◌, List, length, map, Some, None, get_or, refl, sym, ◌∙◌, ap, subst, arith}
 use Rattle.rb_base.specs.Nodes.Side.{Biu}
 use Rattle.rb_base.specs.Sizes.{Sizes, sync_slot_of}

@@ -23,7 +23,7 @@ use Rattle.rb_laws_listener_learns.specs.Ears.{Ear, listening_at, told_at}
 use Rattle.rb_laws_listener_follows.specs.Following.{epoch_with}
 use Rattle.rb_laws_listener_follows.proofs.FollowerRuns.{acts_by}
 
--- the begin of a frame, where this is its tick
+-- the start of a frame, where this is its tick
 act-epoch : (sizes : Sizes) (plan : Plan) (c : Core) (st : NodeState) → (act_on sizes plan Biu 16 c st None st).epoch ≡ epoch_at sizes Biu st c.had
 unfolding act_on
 act-epoch sizes plan c st = by (is_last sizes plan Biu st c.had)
@@ -51,7 +51,8 @@ unfolding heed
 tells_close sc ear k core x is closed =
     ap (λ l. (heed sc.sizes sc.plan l).heed.delivered) is ∙ ap (option_and_then (λ (c : Closed). c.delivered)) closed
 
--- where it begins the frame in a state with the trusted nodes of another one, it tells what a node in that state does
+-- where it begins the frame in a state with the trusted nodes of another one, it tells what a node
+-- in that state does
 pub tells_frame : (sc : Scenario) (ear : Ear) (frame tick : ℕ) (st : NodeState) → (told_at sc ear tick).epoch ≡ epoch_at sc.sizes Biu st tick → st.frame ≡ frame → st.epoch ≡ tick
     → (me : Side) (b : NodeState) → st.near ≡ trusted_of Biu me b → st.far.trusted ≡ trusted_of Rmu me b → (told_at sc ear tick).epoch ≡ Some (epoch_with sc frame tick me b)
 tells_frame sc ear frame tick st told frame_is epoch_is me b near far =

@@ -1,4 +1,5 @@
--- A listener that stands before the first window of a frame tells the frame's begin as the good nodes do.
+-- A listener that stands before the first window of a frame tells the frame's start as the good
+-- nodes do.
 use Rattle.std.proofs.Common.{◌≡◌, ℕ, suc, ◌+◌, ◌-◌, ◌*◌, ◌^◌, ◌<◌, List, [], ◌++◌, Some, refl, sym, ◌∙◌, ap, subst, arith}
 use Rattle.rb_base.specs.Nodes.{Side}
 use Rattle.rb_base.specs.Nodes.Side.{Biu, Rmu}

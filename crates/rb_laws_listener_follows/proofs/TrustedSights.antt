@@ -1,4 +1,5 @@
--- Of what a listener saw only that of a set of RMUs matters to the verdict, where all RMUs that are suspect are in the set.
+-- Of what a listener saw only that of a set of RMUs matters to the verdict, where all RMUs that are
+-- suspect are in the set.
 use Rattle.std.proofs.Common.{◌≡◌, ℕ, ◌&&◌, ◌||◌, not, Bool, true, false, List, [], ◌∷◌, Option, Some, None, length, if◌then◌else◌, refl, ◌∙◌, ap}
 use Rattle.std.specs.List.{list_any}
 use Rattle.rb_base.specs.Nodes.{Side, has, set_of}

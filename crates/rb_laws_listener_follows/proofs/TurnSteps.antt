@@ -1,4 +1,5 @@
--- With the first tick of its next frame a listener turns as the good BIUs do, and stands before the frame's first window.
+-- With the first tick of its next frame a listener turns as the good BIUs do, and stands before the
+-- frame's first window.
 use Rattle.std.proofs.Common.{◌≡◌, ℕ, suc, ◌+◌, ◌*◌, true, List, None, refl, sym, ◌∙◌, ap, subst, arith}
 use Rattle.rb_base.specs.Nodes.Side.{Biu, Rmu}
 use Rattle.rb_base.specs.Sizes.{Sizes}

@@ -46,8 +46,8 @@ abbrev pub epoch_with : Scenario → ℕ → ℕ → Side → NodeState → Epoc
 epoch_with sc frame tick me st =
     record { frame = frame; tick = tick; biu = convicted_of sc.sizes Biu me st; rmu = convicted_of sc.sizes Rmu me st }
 
--- Where this tick is among those that are spoken of, it tells with it that the frame begins, and convicts whom all good nodes do. With no
--- other tick it tells that the frame begins
+-- Where this tick is among those that are spoken of, it tells with it that the frame begins, and
+-- convicts whom all good nodes do. With no other tick it tells that the frame begins
 pub record TellsFrame (sc : Scenario) (hands : List HandIn) (ear : Ear) (frame tick : ℕ) : Type 0 where
   pub tells : (me : Side) (i : ℕ) (st : NodeState) → IsGoodBefore sc hands frame 0 me i st → tick < ear.ticks → (told_at sc ear tick).epoch ≡ Some (epoch_with sc frame tick me st)
   pub only : (k : ℕ) (e : Epoch) → k < ear.ticks → (told_at sc ear k).epoch ≡ Some e → e.frame ≡ frame → k ≡ tick
@@ -65,7 +65,8 @@ delivery_by frame slot stage (Data n) (Node owner) value =
     if stage == 2 then Some (record { frame = frame; slot = slot; sender = owner; value = value }) else None
 delivery_by frame slot stage role sender value = None
 
--- at the close of a window it holds the schedule and the convictions of the bus, and delivers what the bus does
+-- at the close of a window it holds the schedule and the convictions of the bus, and delivers what
+-- the bus does
 pub record ClosesAsTheBus (sc : Scenario) (bus next : AbstractBus) (st : NodeState) (x : Closed) : Type 0 where
   pub trusted : HoldsTrusted bus Biu st
   pub owners : HoldsOwners sc bus st
@@ -91,9 +92,10 @@ pub record IsItsTick (sizes : Sizes) (plan : Plan) (frame begin k : ℕ) (x : Cl
 
 -- The whole.
 
--- It begins the frame with this tick, near all good nodes, and tells that. What it tells is of frames after the learned one. Each window of
--- a slot that comes before the first breach it closes as the bus does, with the window's last tick. With no other ticks it closes stages of
--- the frame, and delivers in it
+-- It begins the frame with this tick, near all good nodes, and tells that. What it tells is of
+-- frames after the learned one. Each window of a slot that comes before the first breach it closes
+-- as the bus does, with the window's last tick. With no other ticks it closes stages of the frame,
+-- and delivers in it
 pub record FollowsFrame (sc : Scenario) (hands : List HandIn) (bus : ℕ → AbstractBus) (ear : Ear) (learned : ℕ) (records : List Sense) (frame tick : ℕ) : Type 0 where
   pub near : (me : Side) (i : ℕ) (st : NodeState) → IsGoodBefore sc hands frame 0 me i st → LieWithin sc.plan.p (time_of ear.clock tick) (time_in_frame sc me i st 0)
   pub epochs : TellsFrame sc hands ear frame tick
@@ -105,8 +107,9 @@ pub record FollowsFrame (sc : Scenario) (hands : List HandIn) (bus : ℕ → Abs
   pub deliveries : (k : ℕ) (d : Delivery) → k < ear.ticks → (told_at sc ear k).delivered ≡ Some d → d.frame ≡ frame
       → (d.slot < sync_slot_of sc.sizes) × (k ≡ tick + (3 * d.slot + 2) * sc.plan.l - 1)
 
--- Whatever the listener hears of RMUs that are not good: where it decides by a frame that comes to its end before the first breach of the
--- premise with the listener, it follows the bus in each later frame that begins before that breach
+-- Whatever the listener hears of RMUs that are not good: where it decides by a frame that comes to
+-- its end before the first breach of the premise with the listener, it follows the bus in each
+-- later frame that starts before that breach
 abbrev pub ListenersFollowTheBus : Type 0
 ListenersFollowTheBus =
     (sc : Scenario) (hands : List HandIn) → IsLawful sc → (stands : StandsFor sc hands) (ear : Ear) → IsEar sc ear → HearsTheRun sc hands ear

@@ -21,7 +21,8 @@ pub record BeginsNear (sc : Scenario) (hands : List HandIn) (ear : Ear) (frame e
 abbrev pub moment_before : Scenario → ℕ → ℕ → ℕ → ℕ
 moment_before sc frame slot stage = frame * (windows_in sc.sizes + 1) + 3 * slot + stage - 1
 
--- the tick is one of the stage's window below the sync slot, where the frame begins with tick `epoch`
+-- the tick is one of the stage's window below the sync slot, where the frame begins with tick
+-- `epoch`
 pub record IsTickIn (sc : Scenario) (epoch slot stage tick : ℕ) : Type 0 where
   pub from : epoch + (3 * slot + (stage - 1)) * sc.plan.l ≤ tick
   pub to : tick < epoch + (3 * slot + (stage - 1)) * sc.plan.l + sc.plan.l
@@ -32,8 +33,8 @@ pub record IsSentIn (sc : Scenario) (hands : List HandIn) (ear : Ear) (frame slo
   pub sent : SendsIn sc hands (moment_before sc frame slot stage) c.from sending
   pub is : c ≡ coming_to sc ear c.from frame sending
 
--- what good RMUs send in the stage comes with stamps of the listener's window, and nothing else comes then of those that are good in the
--- next stage, too
+-- what good RMUs send in the stage comes with stamps of the listener's window, and nothing else
+-- comes then of those that are good in the next stage, too
 pub record HearsTheStage (sc : Scenario) (hands : List HandIn) (ear : Ear) (frame slot stage epoch : ℕ) : Type 0 where
   pub own : (j : ℕ) (s : Sending) → SendsIn sc hands (moment_before sc frame slot stage) j s → (tick : ℕ) → IsStamp ear.clock (coming_to sc ear j frame s).time tick
       → IsTickIn sc epoch slot stage tick

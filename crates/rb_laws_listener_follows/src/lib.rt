@@ -15,7 +15,7 @@ pub fn a_frame_after_the_learned_one()
     ensures { IsReachedWell two_frames [] ear 1 decided.lesson.records 2 }
 {}
 
-/// A listener that begins a frame at most `p` reference units from each good node hears in its
+/// A listener that starts a frame at most `p` reference units from each good node hears in its
 /// window of each stage below the sync slot what good RMUs send in that stage, and nothing else of
 /// them.
 pub fn rmus_are_heard_in_time()
@@ -30,7 +30,7 @@ pub fn first_frames_begin_near()
 {}
 
 /// Where the learned frame comes to its end before the first breach of the premise with the
-/// listener, the listener follows the bus in each later frame that begins before that breach: it
+/// listener, the listener follows the bus in each later frame that starts before that breach: it
 /// begins the frame at most `p` reference units from each good node, and tells with that tick, and
 /// with no other, that it begins and whom the good nodes convict. In each slot that comes before
 /// the breach it closes its windows, with their last ticks and with no others, with the schedule

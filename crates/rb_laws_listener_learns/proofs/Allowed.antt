@@ -1,4 +1,5 @@
--- What an RMU says from when the slot of its onset begins by a clock beside the bus is what a faulty one may say.
+-- What an RMU says from when the slot of its onset begins by a clock beside the bus is what a
+-- faulty one may say.
 use Rattle.std.proofs.Common.{◌≡◌, ℕ, ◌+◌, ◌-◌, ◌*◌, ◌≤◌, ◌&&◌, true, List, sym, ◌∙◌, ap, subst, arith}
 use Rattle.rb_base.specs.Nodes.{has, set_of}
 use Rattle.rb_base.specs.Nodes.Side.{Rmu}

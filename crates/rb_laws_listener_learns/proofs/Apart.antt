@@ -37,7 +37,8 @@ use Rattle.rb_laws_listener_learns.proofs.Together.{call-time, steady-ear}
 
 -- Epochs along a run.
 
--- the good node was good at moment n. In a later frame its epoch is later by all ticks of a frame's windows
+-- the good node was good at moment n. In a later frame its epoch is later by all ticks of a frame's
+-- windows
 pub record WasAt (sc : Scenario) (hands : List HandIn) (n : ℕ) (m : Moment) (me : Side) (i : ℕ) (now : NodeState) : Type 0 where
   pub st : NodeState
   pub was : IsGoodNode sc (moment sc hands n) me i st

@@ -33,7 +33,7 @@ use Rattle.rb_laws_synchrony.proofs.TimelyWindows.{good_here}
 use Rattle.rb_laws_synchrony.proofs.Times.{Steady, lawful_fits, plan_fits}
 use Rattle.rb_laws_listener_learns.proofs.SyncStages.{StageIs, TurnsAt, stage_is, turns_at}
 
--- the skew stated at the begin of a slot is no more than the ticks before a call make up
+-- the skew stated at the start of a slot is no more than the ticks before a call make up
 pub skew-fits : (sc : Scenario) → IsLawful sc → (slot : ℕ) → slot ≤ sync_slot_of sc.sizes
     → stated_skew sc.plan (3 * slot * sc.plan.l) + drift_of sc.plan * sc.plan.h ≤ sc.plan.h * shortest_of sc.plan + sc.plan.dmin
 skew-fits sc law slot le =
@@ -41,7 +41,8 @@ skew-fits sc law slot le =
     let offsets : 3 * slot * sc.plan.l ≤ f0_of sc.sizes sc.plan = mul-le-mul_right sc.plan.l (omega (arith, le)) in
     omega (arith, fit.before_1, mul-le-mul_left (drift_of sc.plan) offsets)
 
--- the next frame begins from here on, where the frame's first ticks come from `low` on: the calls of stage 2 are heard, and the two windows pass
+-- the next frame begins from here on, where the frame's first ticks come from `low` on: the calls
+-- of stage 2 are heard, and the two windows pass
 abbrev pub begins_from : Scenario → ℕ → ℕ
 begins_from sc low = heard_from sc (from_2 sc low) + (sc.plan.v + sc.plan.z) * shortest_of sc.plan
 
@@ -91,7 +92,8 @@ after-third sc hands n m s low c sync = by_kind
           from = omega (arith, k.not_early, clock.not_early k.tick sc.plan.z);
         }
 
--- where moment n is before stage 2 of the sync slot, all that are good at the next frame's first moment begin it so late
+-- where moment n is before stage 2 of the sync slot, all that are good at the next frame's first
+-- moment begin it so late
 pub begins-later : (sc : Scenario) (hands : List HandIn) → IsLawful sc → (n : ℕ) (first : IsSynchronous sc hands n) → (moment sc hands n).window ≡ 3 * sync_slot_of sc.sizes + 1
     → IsRunning (moment sc hands (suc (suc (suc (suc n))))) → (me : Side) (i : ℕ) (now : NodeState) → IsGoodNode sc (moment sc hands (suc (suc (suc (suc n))))) me i now
     → begins_from sc first.low ≤ time_of (clock_of sc me i) now.epoch

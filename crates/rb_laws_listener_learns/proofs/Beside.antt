@@ -319,7 +319,7 @@ by-tests a b o h k e =
     go : (o : Option Cause) → (not true || (not (nat_le 1 b) || is_none o)) ≡ true → nat_le 1 b ≡ true → o ≡ None
     go o e second = last o (ap (λ (c : Bool). not c || is_none o) (sym second) ∙ e)
 
--- it holds to the begin of frame 2
+-- it holds to the start of frame 2
 pub holds-on : HoldsTo two_frames [] ear 1 decided.lesson.records 34
 holds-on n le frame window =
     by-tests (moment two_frames [] n).frame (moment two_frames [] n).window

@@ -1,4 +1,5 @@
--- A decision comes as many ticks after a pass as calls of good RMUs may lie apart, and in a pass there is such a call.
+-- A decision comes as many ticks after a pass as calls of good RMUs may lie apart, and in a pass
+-- there is such a call.
 use Rattle.std.proofs.Common.{◌≡◌, ℕ, zero, suc, ◌+◌, ◌*◌, ◌%◌, ◌^◌, ◌<◌, ◌≤◌, ◌==◌, ◌&&◌, nat_lt, Bool, true, false, Option, Some, None, is_some, List, get_or, slice_get, if◌then◌else◌, inl, inr, refl, sym, ◌∙◌, ap, subst, arith}
 use Rattle.std.proofs.lemmas.Bool.{cases_lt, eqb-true, ltb-true}
 use Rattle.std.proofs.lemmas.Option.{same_Some}

@@ -1,5 +1,6 @@
--- A search learns soon after calls of good RMUs: what it has recorded it has from soon after some such call on, and it decides so many
--- ticks after a tick at which not all such calls of the learned frame had come.
+-- A search learns soon after calls of good RMUs: what it has recorded it has from soon after some
+-- such call on, and it decides `reach_of` ticks after a tick at which not all such calls of the
+-- learned frame had come.
 use Rattle.std.proofs.Common.{◌≡◌, ◌⊎◌, ℕ, ◌+◌, ◌-◌, ◌*◌, ◌%◌, ◌<◌, ◌≤◌, ◌==◌, ◌&&◌, ◌||◌, not, nat_lt, Bool, true, false, Option, Some, None, List, length, get_or, slice_set, inl, inr, refl, sym, ◌∙◌, ap, subst, arith}
 use Rattle.std.specs.List.{list_any}
 use Rattle.std.proofs.lemmas.Bool.{and_from, cases_lt, cases_order, eq-eqb, eqb-true, false_from_ne_true, not-false, not-true}

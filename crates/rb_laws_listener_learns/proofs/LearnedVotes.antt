@@ -51,7 +51,8 @@ use Rattle.rb_laws_listener_learns.proofs.TrustedSets.{GoodThere, IsIn, all-trus
 use Rattle.rb_laws_listener_learns.proofs.Turning.{EndOf}
 use Rattle.rb_laws_listener_learns.proofs.Within.{IsExactAt}
 
--- What a listener knows where it decides by a frame after the first, and what the premise with it says when that frame is over.
+-- What a listener knows where it decides by a frame after the first, and what the premise with it
+-- says when that frame is over.
 pub record Learner (sc : Scenario) (hands : List HandIn) (ear : Ear) (f : ℕ) (records : List Sense) : Type 0 where
   pub law : IsLawful sc
   pub most_good : are_most sc.sizes (set_of (is_always_good sc hands)) ≡ true
@@ -116,7 +117,8 @@ if-none : (b : Bool) (o : Option Heard) → is_some (if b then o else None) ≡ 
 if-none true o h = refl
 if-none false o h = cc
 
--- where the RMUs that are good in the whole run are recorded with one value, the listener votes for it
+-- where the RMUs that are good in the whole run are recorded with one value, the listener votes for
+-- it
 pub votes-for : (sc : Scenario) (hands : List HandIn) → IsLawful sc → are_most sc.sizes (set_of (is_always_good sc hands)) ≡ true → (records : List Sense) (slot : ℕ) (value : Heard)
     → ((j : ℕ) → is_always_good sc hands j ≡ true → has (trusted_rmus sc.sizes records) j ≡ true) → ((j : ℕ) → is_always_good sc hands j ≡ true → value_in (record_of records slot j) ≡ Some value)
     → vote_on records (trusted_rmus sc.sizes records) slot ≡ value

@@ -1,4 +1,5 @@
--- What holds of a search at each tick: what it has recorded it has since soon after calls of good RMUs, and when it decides.
+-- What holds of a search at each tick: what it has recorded it has since soon after calls of good
+-- RMUs, and when it decides.
 use Rattle.std.proofs.Common.{◌≡◌, ◌⊎◌, ℕ, suc, ◌+◌, ◌*◌, ◌<◌, ◌≤◌, ◌==◌, ◌&&◌, Bool, true, false, Option, Some, None, is_some, List, length, get_or, replicate, slice_get, if◌then◌else◌, inl, inr, refl, sym, ◌∙◌, ap, subst, arith}
 use Rattle.std.proofs.lemmas.Bool.{eq-eqb, eqb-true}
 use Rattle.std.proofs.lemmas.List.{length-replicate, length-set}
@@ -36,7 +37,8 @@ use Rattle.rb_laws_listener_learns.proofs.Walks.{HoldsAt, IsKept, always-at}
 
 -- What holds.
 
--- the tick of the decision comes so many ticks after one at which not all good calls of the frame had come
+-- the tick of the decision comes `reach_of` ticks after one at which not all good calls of the
+-- frame had come
 pub record IsFixed (sc : Scenario) (hands : List HandIn) (ear : Ear) (number tick : ℕ) : Type 0 where
   pub first : ℕ
   pub tick_is : tick ≡ first + reach_of sc.plan
@@ -54,7 +56,8 @@ pub record LearnsFrom (sc : Scenario) (hands : List HandIn) (ear : Ear) (k n : �
   pub noted : AreNotedBy sc ear since k n lesson
   pub fixed : (tick : ℕ) → lesson.decides ≡ Some tick → IsFixed sc hands ear lesson.frame tick
 
--- where there is a pass the search learns its frame and has fixed when it decides, or it learns the frame after
+-- where there is a pass the search learns its frame and has fixed when it decides, or it learns the
+-- frame after
 abbrev pub IsPassKnown : Scenario → Search → Type 0
 IsPassKnown sc s =
     (q : ℕ) → pass_of sc.sizes sc.plan s.newest ≡ Some q

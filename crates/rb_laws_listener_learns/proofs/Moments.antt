@@ -1,4 +1,5 @@
--- A good RMU's message tells the window in which it was sent, so no two of its messages have one place.
+-- A good RMU's message tells the window in which it was sent, so no two of its messages have one
+-- place.
 use Rattle.std.proofs.Common.{◌≡◌, ℕ, ◌+◌, ◌*◌, ◌%◌, ◌≤◌, List, sym, ◌∙◌, ap, subst, arith}
 use Rattle.std.proofs.lemmas.Option.{same_Some}
 use Rattle.rb_base.specs.Nodes.Side.{Rmu}

@@ -59,7 +59,7 @@ IsNotedBy sc ear since k n frame slot j Bad = IsSpoilt sc ear k n frame slot j
 abbrev pub AreNotedBy : Scenario → Ear → ℕ → ℕ → ℕ → Lesson → Type 0
 AreNotedBy sc ear since k n lesson = (j : ℕ) → j < sc.sizes.rmus → (slot : ℕ) → slot ≤ sync_slot_of sc.sizes → IsNotedBy sc ear since k n lesson.frame slot j (record_of lesson.records slot j)
 
--- A lesson that begins has nothing.
+-- A lesson that starts has nothing.
 
 pub begun-noted : (sc : Scenario) (ear : Ear) (since k n : ℕ) (lesson : Lesson) → lesson.records ≡ nothing_recorded → ((at i : ℕ) → IsEarlier at i k n → at ≤ since)
     → AreNotedBy sc ear since k n lesson

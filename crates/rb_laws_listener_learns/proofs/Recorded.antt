@@ -22,7 +22,8 @@ use Rattle.rb_laws_listener_learns.specs.Records.{IsOfPlace}
 use Rattle.rb_laws_listener_learns.proofs.Moments.{same-coming}
 use Rattle.rb_laws_listener_learns.proofs.Sendings.{in-place}
 
--- the message came at that place among those of that stamp, which are heard before place n of stamp k
+-- the message came at that place among those of that stamp, which are heard before place n of stamp
+-- k
 abbrev pub IsEarlier : ℕ → ℕ → ℕ → ℕ → Type 0
 IsEarlier at nth k n = (at < k) ⊎ ((at ≡ k) × (nth < n))
 
@@ -95,7 +96,7 @@ all-next sc hands ear k n lesson h j below good slot = next-true sc hands ear k 
 pub all-tick : (sc : Scenario) (hands : List HandIn) (ear : Ear) (k n : ℕ) (lesson : Lesson) → AreTrueBy sc hands ear k n lesson → AreTrueBy sc hands ear (suc k) 0 lesson
 all-tick sc hands ear k n lesson h j below good slot = tick-true sc hands ear k n lesson.frame slot j (record_of lesson.records slot j) (h j below good slot)
 
--- A lesson that begins has nothing.
+-- A lesson that starts has nothing.
 
 pub begun-true : (sc : Scenario) (hands : List HandIn) (ear : Ear) (k n : ℕ) (lesson : Lesson) → lesson.records ≡ nothing_recorded → AreTrueBy sc hands ear k n lesson
 begun-true sc hands ear k n lesson none j below good slot =

@@ -1,4 +1,5 @@
--- The votes of a listener on the vectors of BIUs, which the RMUs relay in stage 2, are those of the bus.
+-- The votes of a listener on the vectors of BIUs, which the RMUs relay in stage 2, are those of the
+-- bus.
 use Rattle.std.proofs.Common.{◌≡◌, ◌⊎◌, ℕ, zero, suc, ◌+◌, ◌-◌, ◌*◌, ◌/◌, ◌%◌, ◌<◌, ◌==◌, true, false, Option, Some, None, unwrap_or, if◌then◌else◌, List, [], ◌∷◌, length, map, get_or, slice_get, inl, inr, refl, sym, ◌∙◌, ap, subst, arith}
 use Rattle.std.specs.List.{list_any, range_with_len}
 use Rattle.std.proofs.lemmas.Bool.{false_from_ne_true}
@@ -59,7 +60,8 @@ same-map x y from (suc n) same =
 
 -- The verdict of the frame's last stage.
 
--- of a trusted node that is not good when the RMUs have called the verdict tells of each stage that it was seen alike
+-- of a trusted node that is not good when the RMUs have called the verdict tells of each stage that
+-- it was seen alike
 alike-in-stage : (sc : Scenario) (hands : List HandIn) (ear : Ear) (f : ℕ) (records : List Sense) (c : Learner sc hands ear f records)
     → (a : SideAlike (seen_learned sc ear (suc f) records) (moment sc hands (3 * sync_slot_of sc.sizes + 3 + first_of_frame sc (suc f))).book.stages) → (j : ℕ) → j < 16
     → has (c.end.shared.trusted a.side) j ≡ true → is_good sc a.side j (suc f) (sync_slot_of sc.sizes) ≡ false → (slot : ℕ) (s : AtStage sc hands f slot 1)

@@ -1,4 +1,5 @@
--- What a listener learns is the frame after one in which the RMUs called: most of all RMUs are good, so one of them is in each pass.
+-- What a listener learns is the frame after one in which the RMUs called: most of all RMUs are
+-- good, so one of them is in each pass.
 use Rattle.std.proofs.Common.{◌≡◌, ◌⊎◌, ℕ, zero, suc, ◌+◌, ◌-◌, ◌^◌, ◌<◌, ◌≤◌, ◌==◌, ◌&&◌, not, nat_lt, nat_le, Bool, true, false, Option, Some, None, is_some, List, [], ◌∷◌, get_or, slice_get, slice_set, replicate, if◌then◌else◌, inl, inr, refl, sym, ◌∙◌, ap, subst, arith}
 use Rattle.std.proofs.lemmas.Bool.{cases_lt, eqb-true, ltb-true, not-true}
 use Rattle.rb_base.specs.Nodes.{has, set_of}

@@ -51,7 +51,8 @@ call-time sc hands law n j s at sent synced = (second_calls sc law (moment sc ha
     called : call_tick_of sc.sizes sc.plan sent.state 2 ≡ Some s.tick
     called = (call_sent sc.sizes sc.plan Rmu j sent.state 2 (word_at sc (moment sc hands n) (sync_slot_of sc.sizes) j) s sends).0
 
--- times at most `most` apart have stamps at most so many ticks apart as take that long
+-- times at most `most` apart have stamps at most `reach` ticks apart, if `reach` ticks take at
+-- least `most`
 pub near-stamps : (u d : ℕ) (clock : Timeline) → Steady u d clock → (x y a b reach most : ℕ) → IsStamp clock x a → IsStamp clock y b → 1 ≤ a → y ≤ x + most → most ≤ reach * u → b ≤ a + reach
 near-stamps u d clock steady x y a b reach most is_a is_b some near enough =
     elim (cases_lt (a + reach) b) [

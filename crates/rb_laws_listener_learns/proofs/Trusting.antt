@@ -1,4 +1,5 @@
--- Whom a listener trusts by its records a good RMU trusts on the bus: it sent something in that node's slot.
+-- Whom a listener trusts by its records a good RMU trusts on the bus: it sent something in that
+-- node's slot.
 use Rattle.std.proofs.Common.{◌≡◌, ℕ, ◌+◌, ◌-◌, ◌*◌, ◌<◌, ◌≤◌, ◌==◌, ◌&&◌, nat_lt, Bool, true, false, Option, Some, None, option_map, List, slice_get, if◌then◌else◌, inl, inr, refl, sym, ◌∙◌, ap, subst, arith}
 use Rattle.std.proofs.lemmas.Bool.{cases_lt, ltb-true}
 use Rattle.std.proofs.lemmas.Bool.Decides.{nat_tests}
@@ -115,7 +116,7 @@ one-of-most sc hands law ear is run k in_time s at learns slot most =
         one-at c.at below (and_second (has (set_of (is_always_good sc hands)) c.at) (has (ones_in s.lesson.records slot) c.at) c.passes) in
         one-true sc hands ear s.lesson.frame slot c.at (record_of s.lesson.records slot c.at) one (records-true sc hands law ear is run k in_time s at learns c.at good slot)
 
--- So the RMU was in that slot and stage, and trusted the slot's node.
+-- The RMU was in that slot and stage, and trusted the slot's node.
 
 trusted-in : (sc : Scenario) (hands : List HandIn) → IsLawful sc → (ear : Ear) (frame slot stage i : ℕ) (kind : Side) → slot < sync_slot_of sc.sizes → 1 ≤ stage → stage ≤ 3
     → stage_recorded (role_of sc.sizes slot) ≡ stage

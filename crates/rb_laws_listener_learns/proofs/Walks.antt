@@ -9,7 +9,8 @@ use Rattle.rb_listen.specs.declared.lesson.First.{First}
 use Rattle.rb_listen.specs.declared.search.Search.{Search}
 use Rattle.rb_laws_listener_learns.specs.Ears.{Ear, hears, listening_at}
 
--- it holds before message n of stamp k is heard, or after the last one before tick k. At the tick no message of its stamp is left
+-- it holds before message n of stamp k is heard, or after the last one before tick k. At the tick
+-- no message of its stamp is left
 pub record IsKept (sc : Scenario) (ear : Ear) (P : ℕ → ℕ → Search → Type 0) : Type 0 where
   pub first : P 0 0 first_search
   pub heard : (k n : ℕ) (c : Coming) → k < ear.ticks → slice_get (ear.heard k) n ≡ Some c → (s : Search) → P k n s

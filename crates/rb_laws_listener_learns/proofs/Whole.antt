@@ -1,4 +1,5 @@
--- At a decision all is recorded that the RMUs sent which were good up to the calls of the learned frame.
+-- At a decision all is recorded that the RMUs sent which were good up to the calls of the learned
+-- frame.
 use Rattle.std.proofs.Common.{◌≡◌, ℕ, zero, suc, ◌+◌, ◌-◌, ◌*◌, ◌%◌, ◌<◌, ◌≤◌, ◌==◌, ◌&&◌, ◌||◌, nat_lt, true, false, Some, None, List, get_or, slice_get, inl, inr, refl, sym, ◌∙◌, ap, subst, arith}
 use Rattle.std.proofs.lemmas.Bool.{cases_lt, eq-eqb, le-leb, ltb-true, or_cases}
 use Rattle.std.proofs.lemmas.Option.{same_Some}
@@ -61,7 +62,7 @@ use Rattle.rb_laws_listener_learns.proofs.Within.{IsExactAt, after-calls, before
 
 -- What an RMU sends that turns faulty in a later frame comes after the decision.
 
--- a later frame begins later, by the skew too, than so many ticks of a pass after the calls
+-- a later frame begins later, by the skew too, than z ticks of a pass after the calls
 begins-late : (low p f h l v z u d least most eps w skew : ℕ) → most ≡ least + eps → skew + d * h ≤ h * u + least
     → p + d * (f + h) + 3 * most + 2 * (u + d) + d * (l + v) + (1 + h) * u ≤ z * u → w * u ≤ v * u → w * d ≤ v * d
     → low + p + (f + h) * (u + d) + most + (u + d) + l * (u + d) + most + (u + d) + w * (u + d) + u + skew ≤ low + (f + h) * u + least + l * u + least + (v + z) * u
@@ -185,8 +186,8 @@ not-faulty sc hands law ear is i number b c j good k soon x from at le stamped f
 
 -- The decision.
 
--- what is known where a listener decides: it has what came since soon after the calls of the frame before, and until the calls of the learned frame
--- had come
+-- what is known where a listener decides: it has what came since soon after the calls of the frame
+-- before, and until the calls of the learned frame had come
 pub record HasLesson (sc : Scenario) (hands : List HandIn) (ear : Ear) (learned k n : ℕ) (s : Search) : Type 0 where
   pub whole : slice_get (ear.heard k) n ≡ None
   pub from : LearnsFrom sc hands ear k n s.lesson

@@ -1,4 +1,5 @@
--- What good RMUs send in a frame below the sync slot comes between the calls of the frame before and their own calls.
+-- What good RMUs send in a frame below the sync slot comes between the calls of the frame before
+-- and their own calls.
 use Rattle.std.proofs.Common.{◌≡◌, ℕ, ◌+◌, ◌-◌, ◌*◌, ◌<◌, ◌≤◌, ◌==◌, false, Some, option_map, List, refl, sym, ◌∙◌, ap, subst, arith}
 use Rattle.std.proofs.lemmas.Bool.Decides.{nat_tests}
 use Rattle.std.proofs.lemmas.Option.{same_Some}
@@ -171,7 +172,7 @@ after-calls sc hands law ear is i number a c m j slot q s e some sent less b sta
 
 -- Before their own calls.
 
--- so many ticks take longer than delays differ
+-- n ticks take longer than delays differ
 long-enough : (p f h l u d least most eps n : ℕ) → most ≡ least + eps → p + d * (f + h) + most + (1 + h) * u ≤ l * u → l ≤ n → eps ≤ n * u
 long-enough p f h l u d least most eps n e c2 le = let more : l * u ≤ n * u = mul-le-mul_right u le in omega (arith, e, c2, more)
 

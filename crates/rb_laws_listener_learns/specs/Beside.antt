@@ -1,4 +1,5 @@
--- A listener beside a run, computed: of the bus with one BIU, one RMU and one data slot, over two frames. It meets all that the laws ask.
+-- A listener beside a run, computed: of the bus with one BIU, one RMU and one data slot, over two
+-- frames. It meets all that the laws ask.
 use Rattle.std.specs.Prelude.{ℕ, suc, ◌+◌, ◌*◌, ◌/◌, ◌%◌, ◌==◌, ◌||◌, not, nat_lt, Bool, true, false, Option, Some, None, List, [], ◌∷◌, if◌then◌else◌, replicate, slice_get}
 use Rattle.std.specs.List.{list_any}
 use Rattle.rb_base.specs.Nodes.Side.{Rmu}
@@ -15,7 +16,8 @@ use Rattle.rb_listen.specs.Listening as now
 use Rattle.rb_listen.specs.declared.search.Search.{Search}
 use Rattle.rb_laws_listener_learns.specs.Ears.{Ear, listening_at}
 
--- ticks of 10000 units, give or take one; calls are sent at offset 6 of windows of 15, 18 and 20 ticks
+-- ticks of 10000 units, give or take one; calls are sent at offset 6 of windows of 15, 18 and 20
+-- ticks
 abbrev pub plan : Plan
 plan = record {
   u = 10000;
@@ -68,7 +70,8 @@ sends_at n =
 abbrev pub comes : Sending → Coming
 comes s = record { time = time_of steady s.tick + 10000; from = 0; bytes = spelling_of plan.version s.message }
 
--- with these ticks after the first of a frame messages come: four relays and votes, a vector, a call
+-- with these ticks after the first of a frame messages come: four relays and votes, a vector, a
+-- call
 abbrev pub is_offset : ℕ → Bool
 is_offset k = list_any (λ offset. offset == k % 242) (22 ∷ 67 ∷ 112 ∷ 142 ∷ 172 ∷ 203 ∷ [])
 

@@ -11,7 +11,8 @@ use Rattle.rb_rules.specs.Rounds.{moment}
 use Rattle.rb_listen.specs.Passes.{is_call}
 use Rattle.rb_laws_listener_learns.specs.Ears.{Ear, IsHeard, SendsIn, coming_to}
 
--- RMU j sends a call in window n of the run, and the listener hears it with the stamp of its time, if that is one of its ticks
+-- RMU j sends a call in window n of the run, and the listener hears it with the stamp of its time,
+-- if that is one of its ticks
 pub record IsHeardToCall (sc : Scenario) (hands : List HandIn) (ear : Ear) (n j : ℕ) : Type 0 where
   pub sending : Sending
   pub sent : SendsIn sc hands n j sending

@@ -1,4 +1,5 @@
--- A listener beside a run of the bus: a clock of its own, links on which the RMUs reach it, and what it hears on them.
+-- A listener beside a run of the bus: a clock of its own, links on which the RMUs reach it, and
+-- what it hears on them.
 use Rattle.std.specs.Prelude.{ℕ, zero, suc, ◌≡◌, ◌⊎◌, ◌+◌, ◌*◌, ◌^◌, ◌<◌, ◌≤◌, nat_lt, ◌&&◌, not, Bool, true, false, Option, Some, None, List, [], ◌∷◌, get_or, slice_get}
 use Rattle.rb_base.specs.Nodes.{Side, set_of}
 use Rattle.rb_base.specs.Nodes.Side.{Rmu}
@@ -19,8 +20,8 @@ use Rattle.rb_listen.specs.Listening as now
 use Rattle.rb_listen.specs.Passes.{are_most}
 use Rattle.rb_listen.specs.declared.heed.Heed.{Heed}
 
--- a listener's clock, how long a message of a place is on its way to it from each RMU, and what comes to it with each stamp, in order. So
--- many of its ticks are spoken of
+-- a listener's clock, how long a message of a place is on its way to it from each RMU, and what
+-- comes to it with each stamp, in order. So many of its ticks are spoken of
 pub record Ear : Type 0 where
   pub clock : Timeline
   pub delay : ℕ → Place → ℕ
@@ -32,7 +33,8 @@ pub record IsHeard (ear : Ear) (k : ℕ) (c : Coming) : Type 0 where
   pub nth : ℕ
   pub there : slice_get (ear.heard k) nth ≡ Some c
 
--- Clock and delays are as a node's may be, but that it starts at any time. Nothing of what came before its first tick is heard
+-- Clock and delays are as a node's may be, but that it starts at any time. Nothing of what came
+-- before its first tick is heard
 pub record IsEar (sc : Scenario) (ear : Ear) : Type 0 where
   pub clock : IsClock (shortest_of sc.plan) (longest_of sc.plan) ear.clock
   pub delays : (j : ℕ) (place : Place) → IsDelay sc.plan (ear.delay j place)
@@ -65,8 +67,9 @@ pub record IsOfGood (sc : Scenario) (hands : List HandIn) (ear : Ear) (c : Comin
   pub sent : SendsIn sc hands n c.from sending
   pub is : c ≡ coming_to sc ear c.from (moment sc hands n).frame sending
 
--- the RMU that sent this is not good from some slot on, to which the run comes before its end. It comes less than a tick and the stated skew
--- before some good node begins that slot, or later: so it may come from when the RMU itself begins the slot by its own clock, or the listener
+-- the RMU that sent this is not good from some slot on, to which the run comes before its end. It
+-- comes less than a tick and the stated skew before some good node begins that slot, or later: so
+-- it may come from when the RMU itself begins the slot by its own clock, or the listener
 pub record IsOfFaulty (sc : Scenario) (hands : List HandIn) (c : Coming) : Type 0 where
   pub frame : ℕ
   pub slot : ℕ
@@ -89,8 +92,9 @@ comes_to sc hands (Some onset) = not (before_slot sc hands onset.0 onset.1).book
 abbrev pub is_always_good : Scenario → List HandIn → ℕ → Bool
 is_always_good sc hands j = nat_lt j sc.sizes.rmus && not (comes_to sc hands (get_or sc.rmu_onsets j None))
 
--- More than half of all RMUs are good in the whole run. While an RMU is good the listener hears what it sends: each message with the stamp
--- of its time, once, and nothing else. What it hears of an RMU that is good no more is anything
+-- More than half of all RMUs are good in the whole run. While an RMU is good the listener hears
+-- what it sends: each message with the stamp of its time, once, and nothing else. What it hears of
+-- an RMU that is good no more is anything
 pub record HearsTheRun (sc : Scenario) (hands : List HandIn) (ear : Ear) : Type 0 where
   pub most_good : are_most sc.sizes (set_of (is_always_good sc hands)) ≡ true
   pub each : (n j : ℕ) (s : Sending) → SendsIn sc hands n j s → (k : ℕ) → 1 ≤ k → k < ear.ticks

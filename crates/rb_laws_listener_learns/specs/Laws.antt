@@ -33,8 +33,8 @@ AlwaysGoodIsGoodInEachSlot =
     (sc : Scenario) (hands : List HandIn) → IsLawful sc → (j : ℕ) → j < sc.sizes.rmus
     → (is_always_good sc hands j ≡ true) ↔ IsGoodThroughout sc hands j
 
--- an RMU may say anything from less than a tick before the slot of its onset begins by a clock that begins the frame at most p from each good
--- node, as the listener's or its own
+-- an RMU may say anything from less than a tick before the slot of its onset begins by a clock that
+-- starts the frame at most p from each good node, as the listener's or its own
 abbrev pub FaultyRmusMaySpeakByAnyClock : Type 0
 FaultyRmusMaySpeakByAnyClock =
     (sc : Scenario) (hands : List HandIn) → IsLawful sc → are_most sc.sizes (set_of (is_always_good sc hands)) ≡ true
@@ -43,13 +43,15 @@ FaultyRmusMaySpeakByAnyClock =
     → (c : Coming) → get_or sc.rmu_onsets c.from None ≡ Some (frame, slot)
     → time_of clock (epoch + 3 * slot * sc.plan.l) < c.time + shortest_of sc.plan → IsOfFaulty sc hands c
 
--- what a listener tells beside a run is what it tells where it is given these events one after another
+-- what a listener tells beside a run is what it tells where it is given these events one after
+-- another
 abbrev pub EarsAreFedEvents : Type 0
 EarsAreFedEvents =
     (sc : Scenario) (ear : Ear) (word : ℕ → ℕ) (n : ℕ)
     → told_of sc.sizes sc.plan (now.Searching first_search) (events_from ear word 0 n) ≡ told_from sc ear 0 n
 
--- the frame sought is a frame of the bus. For this no premise on faults is needed but that most RMUs are good
+-- the frame sought is a frame of the bus. For this no premise on faults is needed but that most
+-- RMUs are good
 abbrev pub TheFrameSoughtIsReal : Type 0
 TheFrameSoughtIsReal =
     (sc : Scenario) (hands : List HandIn) → IsLawful sc → (ear : Ear) → HearsTheRun sc hands ear
@@ -92,7 +94,7 @@ RecordsOfTheGoodAreWhole =
     (sc : Scenario) (hands : List HandIn) → IsLawful sc → (ear : Ear) → IsEar sc ear → HearsTheRun sc hands ear
     → (learned tick : ℕ) (s : Search) → DecidesBy sc hands ear learned tick s → RecordsAreWhole sc hands ear learned s.lesson.records
 
--- So it trusts in the learned frame just whom the bus trusts
+-- In the learned frame a listener trusts exactly the nodes that the bus trusts
 abbrev pub ListenersTrustAsTheBus : Type 0
 ListenersTrustAsTheBus =
     (sc : Scenario) (hands : List HandIn) → IsLawful sc → (ear : Ear) → IsEar sc ear → HearsTheRun sc hands ear
@@ -106,15 +108,16 @@ DecisionsComeInTime =
     → (learned tick : ℕ) (s : Search) → DecidesBy sc hands ear learned tick s
     → (first : First) × ((first_of sc.sizes sc.plan s.lesson ≡ Some first) × (tick < first.epoch))
 
--- Where the learned frame comes to its end before the first breach of the premise with the listener, it convicts as the bus does, too: it has
--- learned all that it needs to follow
+-- Where the learned frame comes to its end before the first breach of the premise with the
+-- listener, it convicts as the bus does, too: it has learned all that it needs to follow
 abbrev pub ListenersLearn : Type 0
 ListenersLearn =
     (sc : Scenario) (hands : List HandIn) → IsLawful sc → (ear : Ear) → IsEar sc ear → HearsTheRun sc hands ear
     → (learned tick : ℕ) (s : Search) → DecidesBy sc hands ear learned tick s → IsCalm sc hands ear learned s.lesson.records learned (sync_slot_of sc.sizes)
     → (first : First) × ((first_of sc.sizes sc.plan s.lesson ≡ Some first) × HasLearned sc hands ear learned tick s.lesson.records first)
 
--- From the decision it waits up to the first tick of its first frame, and with that it begins to follow
+-- From the decision it waits up to the first tick of its first frame, and with that it begins to
+-- follow
 abbrev pub ListenersWait : Type 0
 ListenersWait =
     (sc : Scenario) (hands : List HandIn) → IsLawful sc → (ear : Ear) → IsEar sc ear → HearsTheRun sc hands ear

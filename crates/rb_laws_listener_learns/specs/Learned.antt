@@ -21,8 +21,8 @@ use Rattle.rb_listen.specs.declared.search.Search.{Search}
 use Rattle.rb_laws_listener_learns.specs.Ears.{Ear, SendsIn, coming_to, listening_at}
 use Rattle.rb_laws_listener_learns.specs.Receivers.{call_time}
 
--- in a frame of this number in messages the run comes to this stage of the slot before its end, some RMU is good there, and all good nodes
--- hold node i of a kind trusted
+-- in a frame of this number in messages the run comes to this stage of the slot before its end,
+-- some RMU is good there, and all good nodes hold node i of a kind trusted
 pub record IsTrustedIn (sc : Scenario) (hands : List HandIn) (number slot stage : ℕ) (kind : Side) (i : ℕ) : Type 0 where
   pub frame : ℕ
   pub number_is : number ≡ frame % 65536
@@ -31,8 +31,8 @@ pub record IsTrustedIn (sc : Scenario) (hands : List HandIn) (number slot stage 
   pub trust : (me : Side) (j : ℕ) (st : NodeState) → is_good sc me j frame slot ≡ true
       → slice_get (of_kind me (before_stage sc hands frame slot stage).nodes) j ≡ Some st → has (trusted_of kind me st) i ≡ true
 
--- by the lesson of each tick the listener trusts only nodes that the bus trusts in the frame of the lesson: a BIU by its schedule slot, an
--- RMU by its diagnosis slot
+-- by the lesson of each tick the listener trusts only nodes that the bus trusts in the frame of the
+-- lesson: a BIU by its schedule slot, an RMU by its diagnosis slot
 abbrev pub TrustsTheTrusted : Scenario → List HandIn → Ear → ℕ → Type 0
 TrustsTheTrusted sc hands ear k =
     (s : Search) → listening_at sc ear k ≡ now.Searching s → s.learns ≡ true → (i : ℕ)
@@ -55,9 +55,9 @@ pub record AreTrusted (sc : Scenario) (hands : List HandIn) (frame slot bius rmu
   pub biu : (me : Side) (i : ℕ) (st : NodeState) → IsGoodBefore sc hands frame slot me i st → trusted_of Biu me st ≡ bius
   pub rmu : (me : Side) (i : ℕ) (st : NodeState) → IsGoodBefore sc hands frame slot me i st → trusted_of Rmu me st ≡ rmus
 
--- A listener that decides at this tick has whole what it learns from this frame. It knows whom the bus trusts in that frame and in the next,
--- has the calls of the good RMUs, and takes the first tick of the next frame, which is still to come, from the middle of the calls of the
--- trusted RMUs
+-- A listener that decides at this tick has whole what it learns from this frame. It knows whom the
+-- bus trusts in that frame and in the next, has the calls of the good RMUs, and takes the first
+-- tick of the next frame, which is still to come, from the middle of the calls of the trusted RMUs
 pub record HasLearned (sc : Scenario) (hands : List HandIn) (ear : Ear) (learned tick : ℕ) (records : List Sense) (first : First) : Type 0 where
   pub frame : first.frame ≡ learned + 1
   pub ahead : tick < first.epoch

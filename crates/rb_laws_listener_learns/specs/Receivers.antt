@@ -1,4 +1,5 @@
--- What a listener sees of the RMUs as one more good receiver, and how far the premise on faults holds with it.
+-- What a listener sees of the RMUs as one more good receiver, and how far the premise on faults
+-- holds with it.
 use Rattle.std.specs.Prelude.{ℕ, zero, suc, ◌≡◌, ◌+◌, ◌*◌, ◌/◌, ◌%◌, ◌≤◌, ◌==◌, ◌&&◌, if◌then◌else◌, Bool, true, false, Option, Some, None, List, [], ◌∷◌, filter, get_or}
 use Rattle.std.specs.Option.{option_or}
 use Rattle.rb_base.specs.Nodes.Side.{Biu, Rmu}
@@ -55,7 +56,8 @@ stamp_seen (Time stamp) = stamp
 abbrev pub timed_see : Scenario → Ear → ℕ → ℕ → See → See
 timed_see sc ear frame j s = judged_see (call_time sc ear frame j (stamp_seen s)) s
 
--- While it learns the frame it sees in each place that it records what is recorded, unless the slot is idle on the bus.
+-- While it learns the frame it sees in each place that it records what is recorded, unless the slot
+-- is idle on the bus.
 
 abbrev pub is_nobody : Sender → Bool
 is_nobody Nobody = true
@@ -97,7 +99,7 @@ is_window frame window (Some c) = (c.place.frame == frame) && (c.place.slot == w
 abbrev pub if_window : ℕ → ℕ → Option Closed → Option Closed
 if_window frame window c = elim (is_window frame window c) [ true ↦ c | false ↦ None ]
 
--- what it saw where it closed that window, in the first so many ticks
+-- what the receiver saw when it closed that window, if it did so in its first k ticks
 abbrev pub seen_by : Scenario → Ear → ℕ → ℕ → ℕ → Option Closed
 seen_by sc ear frame window zero = None
 seen_by sc ear frame window (suc k) = option_or (seen_by sc ear frame window k) (if_window frame window (closing_at sc ear k))
@@ -113,7 +115,8 @@ seen_in sc ear learned records frame window s =
 
 -- The premise.
 
--- it holds up to moment n: on each stage of the run from the learned frame on, the verdict with the listener tells no breach
+-- it holds up to moment n: on each stage of the run from the learned frame on, the verdict with the
+-- listener tells no breach
 abbrev pub HoldsTo : Scenario → List HandIn → Ear → ℕ → List Sense → ℕ → Type 0
 HoldsTo sc hands ear learned records n =
     (i : ℕ) → i ≤ n → learned ≤ (moment sc hands i).frame → 1 ≤ (moment sc hands i).window

@@ -24,13 +24,15 @@ pub record CameOf (sc : Scenario) (hands : List HandIn) (ear : Ear) (j at : ℕ)
   pub good : IsOfGood sc hands ear coming
   pub is : good.sending.message ≡ m
 
--- the message is of the place in which the lesson on a frame, by its number in messages, has a record of the slot
+-- the message is of the place in which the lesson on a frame, by its number in messages, has a
+-- record of the slot
 pub record IsOfPlace (sc : Scenario) (frame slot : ℕ) (m : Message) : Type 0 where
   pub frame_is : m.frame ≡ frame
   pub slot_is : m.slot ≡ slot
   pub stage_is : m.stage ≡ stage_recorded (role_of sc.sizes slot)
 
--- a record of RMU j in a slot is the one message of the place that it sent, or none; it is never bad
+-- a record of RMU j in a slot is the one message of the place that it sent, or none; it is never
+-- bad
 abbrev pub IsTrueRecord : Scenario → List HandIn → Ear → ℕ → ℕ → ℕ → Sense → Type 0
 IsTrueRecord sc hands ear frame slot j Silent = ⊤
 IsTrueRecord sc hands ear frame slot j (One at m) = CameOf sc hands ear j at m × IsOfPlace sc frame slot m
@@ -49,7 +51,8 @@ pub record IsRecorded (sc : Scenario) (hands : List HandIn) (ear : Ear) (records
   pub stamped : IsStamp ear.clock (coming_to sc ear j (moment sc hands n).frame s).time stamp
   pub is : record_of records s.message.slot j ≡ One stamp s.message
 
--- all is recorded that an RMU, good in this frame up to its sync slot, sent in it in the places that are recorded
+-- all is recorded that an RMU, good in this frame up to its sync slot, sent in it in the places
+-- that are recorded
 abbrev pub RecordsAreWhole : Scenario → List HandIn → Ear → ℕ → List Sense → Type 0
 RecordsAreWhole sc hands ear frame records =
     (j : ℕ) → is_good sc Rmu j frame (sync_slot_of sc.sizes) ≡ true → (n : ℕ) (s : Sending) → SendsIn sc hands n j s → (moment sc hands n).frame ≡ frame

@@ -9,8 +9,8 @@ use Rattle.rb_rules.specs.Rounds.{moment}
 use Rattle.rb_listen.specs.Passes.{reach_of}
 use Rattle.rb_laws_listener_learns.specs.Ears.{Ear, SendsIn, coming_to}
 
--- the calls of good RMUs in one frame come with stamps that lie at most the reach of a pass apart, those of before the listener's first tick
--- left out
+-- the calls of good RMUs in one frame come with stamps that lie at most the reach of a pass apart,
+-- those of before the listener's first tick left out
 abbrev pub CallsComeTogether : Scenario → List HandIn → Ear → Type 0
 CallsComeTogether sc hands ear =
     (n i j : ℕ) (s t : Sending) → (moment sc hands n).window ≡ 3 * sync_slot_of sc.sizes + 1 → SendsIn sc hands n i s → SendsIn sc hands n j t

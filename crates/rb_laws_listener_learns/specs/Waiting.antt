@@ -7,7 +7,8 @@ use Rattle.rb_listen.specs.Listening as now
 use Rattle.rb_listen.specs.declared.lesson.First.{First}
 use Rattle.rb_laws_listener_learns.specs.Ears.{Ear, listening_at}
 
--- having decided at this tick it waits up to the first tick of its first frame, whatever it hears, and with that it begins to follow
+-- having decided at this tick it waits up to the first tick of its first frame, whatever it hears,
+-- and with that it begins to follow
 pub record WaitsFor (sc : Scenario) (ear : Ear) (tick : ℕ) (first : First) : Type 0 where
   pub waits : (k : ℕ) → tick < k → k ≤ first.epoch → k < ear.ticks → listening_at sc ear k ≡ now.Waiting k first
   pub begins : first.epoch < ear.ticks → heed sc.sizes sc.plan (listening_at sc ear first.epoch) ≡ followed (follow sc.sizes sc.plan (first_core sc.sizes first))

@@ -27,7 +27,7 @@ pub fn always_good_is_good_in_each_slot()
 {}
 
 /// An RMU may be heard to say anything from less than a tick before the slot of its onset begins by
-/// a clock that begins the frame near the good nodes.
+/// a clock that starts the frame near the good nodes.
 pub fn faulty_rmus_may_speak_by_any_clock()
     ensures { FaultyRmusMaySpeakByAnyClock }
 {}

@@ -1,4 +1,5 @@
--- The middle that a listener makes of the calls of RMUs in stage 2 of the sync slot: near that of each good BIU.
+-- The middle that a listener makes of the calls of RMUs in stage 2 of the sync slot: near that of
+-- each good BIU.
 use Rattle.std.proofs.Common.{◌≡◌, ℕ, zero, suc, ◌+◌, ◌*◌, ◌≤◌, ◌<◌, ◌&&◌, not, nat_le, nat_lt, Bool, true, false, List, [], ◌∷◌, map, Option, Some, None, is_some, refl, sym, ◌∙◌, ap, subst, arith, inl, inr}
 use Rattle.std.specs.Prelude.{All}
 use Rattle.std.specs.List.{cons_option}
@@ -150,7 +151,8 @@ middle_past f (suc tick) late is = omega arith
 apart : (eps least most t x y : ℕ) → most ≡ least + eps → IsBetween (t + least) (t + most) x → IsBetween (t + least) (t + most) y → AreNear eps x y
 apart eps least most t x y e p q = record { above = omega (arith, e, p.most, q.least); under = omega (arith, e, p.least, q.most) }
 
--- what a listener and a good BIU took of an RMU that is not good came at near times, or neither took anything
+-- what a listener and a good BIU took of an RMU that is not good came at near times, or neither
+-- took anything
 abbrev pub TakesAlike : (sc : Scenario) (m : Moment) (s : Shared) → Windows sc m (sync_slot_of sc.sizes) 2 → (ℕ → Option ℕ) → (ℕ → ℕ) → Type 0
 TakesAlike sc m s ws taken time =
     (j : ℕ) → j < 16 → has (s.trusted Rmu) j ≡ true → is_good sc Rmu j m.frame (sync_slot_of sc.sizes) ≡ false → (i : ℕ) (b : NodeState) → IsGoodNode sc m Biu i b

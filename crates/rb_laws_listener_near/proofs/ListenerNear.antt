@@ -1,4 +1,5 @@
--- Under the premise with the listener its middle of the calls of stage 2 is near that of each good BIU.
+-- Under the premise with the listener its middle of the calls of stage 2 is near that of each good
+-- BIU.
 use Rattle.std.proofs.Common.{◌≡◌, ℕ, ◌+◌, ◌≤◌, ◌<◌, not, nat_le, true, false, List, [], ◌∷◌, length, Option, Some, None, refl, sym, ◌∙◌, ap, subst, arith}
 use Rattle.std.proofs.lemmas.Bool.{and_from, leb-true, not_from_false}
 use Rattle.std.proofs.lemmas.Option.{same_Some}

@@ -1,5 +1,5 @@
--- Where the third stage of the sync slot passes, a listener whose middle is near those of the good BIUs begins the next frame near all good
--- nodes.
+-- Where the third stage of the sync slot passes, a listener whose middle is near those of the good
+-- BIUs begins the next frame near all good nodes.
 use Rattle.std.proofs.Common.{◌≡◌, ℕ, ◌+◌, ◌*◌, ◌≤◌, ◌<◌, min, max, true, false, List, Some, option_and_then, option_map, unwrap_or, slice_get, ◌⊎◌, inl, inr, refl, sym, ◌∙◌, ap, subst, arith}
 use Rattle.std.proofs.lemmas.Bool.{cases_lt}
 use Rattle.rb_base.specs.Nodes.{Side, has}
@@ -133,7 +133,8 @@ call_together sc hands n m s low c sync clock steady_clock l near = go found.hel
 
 -- The next frame.
 
--- all good nodes know when it begins, from this time on and within p, and so would a node with this middle
+-- all good nodes know when it begins, from this time on and within p, and so would a node with this
+-- middle
 pub record BeginTogether (sc : Scenario) (m : Moment) (clock : Timeline) (epoch : ℕ) : Type 0 where
   pub later : ℕ
   pub good : (me : Side) (i : ℕ) (st : NodeState) → IsGoodNode sc m me i st → KnowsEpoch sc me i st later

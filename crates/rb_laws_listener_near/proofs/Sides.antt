@@ -1,4 +1,5 @@
--- What the premise with a listener says where it holds: of one kind no node that is not good was seen unlike, by the listener neither.
+-- What the premise with a listener says where it holds: of one kind no node that is not good was
+-- seen unlike, by the listener neither.
 use Rattle.std.proofs.Common.{◌≡◌, ℕ, ◌<◌, ◌&&◌, ◌⊎◌, inl, inr, not, Bool, true, false, if◌then◌else◌, List, [], ◌∷◌, length, Option, Some, None, refl, sym, ◌∙◌, ap, arith}
 use Rattle.std.specs.List.{list_any}
 use Rattle.std.proofs.lemmas.Bool.{and_from, not_from_false, or_from}

@@ -1,4 +1,5 @@
--- A listener keeps track of the bus in the windows of the sync slot, and at its turn to the next frame.
+-- A listener keeps track of the bus in the windows of the sync slot, and at its turn to the next
+-- frame.
 use Rattle.std.proofs.Common.{◌≡◌, ℕ, ◌+◌, ◌-◌, ◌*◌, ◌<◌, ◌&&◌, not, true, false, List, Option, Some, None, is_some, option_map, get_or, refl, sym, ◌∙◌, ap, subst, arith}
 use Rattle.std.proofs.lemmas.Bool.{lt-ltb}
 use Rattle.rb_base.specs.Nodes.{has}
@@ -128,7 +129,8 @@ direct_turned sizes probation epoch st j below clear =
     let s : Standing = record st.far { trusted = without st.far.trusted (convicted_at sizes Biu st Rmu) } in
     has-set_of j (λ j. has s.direct j && not (lapses probation s j)) below ∙ ap (λ b. b && not (lapses probation s j)) clear
 
--- at the end of a frame a listener turns as the good BIUs do, if it accuses no RMU that is good in the next one
+-- at the end of a frame a listener turns as the good BIUs do, if it accuses no RMU that is good in
+-- the next one
 pub tracks_turn : (sc : Scenario) (hands : List HandIn) (n : ℕ) (m : Moment) (s : Shared) → AtEnd sc hands n m s → (st : NodeState) → IsLike sc m st
     → ((j : ℕ) → is_good_now sc (next_frame sc hands m) Rmu j ≡ true → has st.far.direct j ≡ false) → (epoch : ℕ)
     → Tracks sc (next_frame sc hands m) (turn sc.sizes sc.plan.probation Biu epoch st)

@@ -1,5 +1,5 @@
--- A listener before a window below the sync slot, beside nodes that agree: what it takes of good RMUs, and what it votes where they say one
--- value.
+-- A listener before a window below the sync slot, beside nodes that agree: what it takes of good
+-- RMUs, and what it votes where they say one value.
 use Rattle.std.proofs.Common.{◌≡◌, ℕ, ◌+◌, ◌*◌, ◌<◌, ◌≤◌, ◌&&◌, not, nat_lt, Bool, true, false, List, Option, Some, is_some, length, slice_get, sym, ◌∙◌, ap, arith}
 use Rattle.std.proofs.lemmas.Bool.{lt-ltb, not-true}
 use Rattle.rb_base.specs.Counting.{count_if, numbers}

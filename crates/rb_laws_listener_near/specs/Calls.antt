@@ -1,4 +1,5 @@
--- A receiver of the RMUs' calls beside the BIUs: what it takes of them in stage 2 of the sync slot, by its own clock.
+-- A receiver of the RMUs' calls beside the BIUs: what it takes of them in stage 2 of the sync slot,
+-- by its own clock.
 use Rattle.std.specs.Prelude.{ℕ, ◌≡◌, ◌+◌, ◌*◌, ◌≤◌, ◌<◌, true, Option, Some, is_some, List, ◌∷◌, length, slice_get}
 use Rattle.rb_base.specs.Nodes.{Side, has, set_of, size}
 use Rattle.rb_base.specs.Nodes.Side.{Rmu}
@@ -24,8 +25,8 @@ pub record ComesAfter (sc : Scenario) (sent time : ℕ) : Type 0 where
   pub least : sent + sc.plan.dmin ≤ time
   pub most : time ≤ sent + sc.plan.dmax
 
--- it takes something only of RMUs that good nodes trust, each stamp is that of the time, none is 0, and of each good RMU it takes the call,
--- which comes in the delays
+-- it takes something only of RMUs that good nodes trust, each stamp is that of the time, none is 0,
+-- and of each good RMU it takes the call, which comes in the delays
 pub record TakesTheCalls (sc : Scenario) (hands : List HandIn) (frame : ℕ) (clock : Timeline) (taken : ℕ → Option ℕ) (time : ℕ → ℕ) : Type 0 where
   pub trusts : (j : ℕ) → is_some (taken j) ≡ true → (me : Side) (i : ℕ) (st : NodeState) → IsGoodInSync sc hands frame me i st → has (trusted_of Rmu me st) j ≡ true
   pub stamped : (j k : ℕ) → taken j ≡ Some k → (1 ≤ k) × (stamp_of clock (time j) ≡ k)

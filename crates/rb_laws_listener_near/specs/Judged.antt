@@ -1,4 +1,5 @@
--- The premise on faults with a listener as one more good receiver of the RMUs. It is no BIU, and is not counted among the good.
+-- The premise on faults with a listener as one more good receiver of the RMUs. It is no BIU, and is
+-- not counted among the good.
 use Rattle.std.specs.Prelude.{ℕ, ◌&&◌, ◌||◌, not, Bool, false, Option, Some, None, List, [], ◌∷◌, length}
 use Rattle.std.specs.List.{list_any}
 use Rattle.rb_base.specs.Nodes.{Side, has, set_of}
@@ -7,7 +8,8 @@ use Rattle.rb_base.specs.declared.values.See.{See}
 use Rattle.rb_rules.specs.declared.cause.Cause.{Cause}
 use Rattle.rb_rules.specs.Judging.{ClassSets, JudgedStage, are_alike, cause_of, good_now, is_something, is_suspect, some_receiver, trusted_now, was_taken, was_unlike}
 
--- a stage as it is judged, and what the listener saw in it of each RMU, where it is a receiver in that stage
+-- a stage as it is judged, and what the listener saw in it of each RMU, where it is a receiver in
+-- that stage
 pub record HeardStage : Type 0 where
   pub stage : JudgedStage
   pub seen : Option (ℕ → See)
@@ -30,8 +32,8 @@ was_taken_with kind j h = was_taken kind j h.stage || took_of kind j h.seen
 abbrev pub was_unlike_with : Side → ℕ → HeardStage → Bool
 was_unlike_with kind j h = was_unlike kind j h.stage || unlike_some kind j h.stage h.seen
 
--- the stages of the frame so far, the newest first, with what the listener saw in each window of the frame. It may depend on whom the bus
--- trusted there
+-- the stages of the frame so far, the newest first, with what the listener saw in each window of
+-- the frame. It may depend on whom the bus trusted there
 abbrev pub heard_stages : (ℕ → JudgedStage → Option (ℕ → See)) → List JudgedStage → List HeardStage
 heard_stages seen [] = []
 heard_stages seen (s ∷ earlier) = record { stage = s; seen = seen (length earlier) s } ∷ heard_stages seen earlier

@@ -1,4 +1,5 @@
--- For the law of record and replay: events that come to a core one after another, and the quiet ticks among them.
+-- For the law of record and replay: events that come to a core one after another, and the quiet
+-- ticks among them.
 use Rattle.std.proofs.Common.{◌≡◌, ℕ, zero, suc, ◌+◌, ◌-◌, ◌^◌, ◌<◌, ◌≤◌, max, List, [], ◌∷◌, ◌++◌, refl, ap, sym, ◌∙◌, subst, arith}
 use Rattle.std.specs.Prelude.{flat_map}
 use Rattle.std.proofs.Math.ListN.{replicate}

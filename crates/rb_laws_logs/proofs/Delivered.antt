@@ -1,4 +1,5 @@
--- For the law of record and replay: what a close delivers: something in stage 2 of a slot below the sync slot alone, at a BIU.
+-- For the law of record and replay: what a close delivers: something in stage 2 of a slot below the
+-- sync slot alone, at a BIU.
 use Rattle.std.proofs.Common.{◌≡◌, ℕ, ◌+◌, ◌==◌, ◌&&◌, nat_le, Bool, true, false, refl, Option, Some, None, option_map, if◌then◌else◌}
 use Rattle.rb_base.specs.Nodes.{Side}
 use Rattle.rb_base.specs.Nodes.Side.{Biu, Rmu}

@@ -1,5 +1,5 @@
--- For the law of record and replay: what a text takes of the items of a list, each with its number, where it takes something of one
--- alone.
+-- For the law of record and replay: what a text takes of the items of a list, each with its number,
+-- where it takes something of one alone.
 use Rattle.std.proofs.Common.{◌≡◌, ℕ, zero, suc, ◌+◌, ◌≤◌, ◌==◌, false, List, [], ◌∷◌, ◌++◌, refl, ap, ◌∙◌, arith, Option, Some, None, slice_get}
 use Rattle.std.specs.List.{cons_option}
 use Rattle.std.specs.Prelude.{flat_map, filter_map, map}

@@ -1,5 +1,5 @@
--- For the law of record and replay: a run without a breach goes on up to the begin of the frame after the last, and there it ends. So
--- in each of its worlds all nodes stand in the rounds.
+-- For the law of record and replay: a run without a breach goes on up to the start of the frame
+-- after the last, and there it ends. So in each of its worlds all nodes stand in the rounds.
 use Rattle.std.proofs.Common.{◌≡◌, ℕ, zero, suc, ◌+◌, ◌*◌, ◌<◌, ◌≤◌, ◌==◌, ◌||◌, nat_lt, Bool, true, false, List, [], ◌∷◌, ◌++◌, refl, ap, sym, ◌∙◌, subst, arith, inl, inr, Option, Some, None}
 use Rattle.std.specs.List.{list_any}
 use Rattle.std.proofs.lemmas.Bool.{cases_lt}

@@ -1,5 +1,5 @@
--- For the law of record and replay: what a node tells in each moment of the rounds, as lines, and the lines of the records that
--- those moments give.
+-- For the law of record and replay: what a node tells in each moment of the rounds, as lines, and
+-- the lines of the records that those moments give.
 use Rattle.std.proofs.Common.{◌≡◌, ℕ, zero, suc, ◌==◌, ◌&&◌, nat_lt, not, Bool, true, false, List, [], ◌∷◌, ◌++◌, append_assoc, refl, ap, sym, ◌∙◌, arith, Option, Some, None, slice_get, if◌then◌else◌}
 use Rattle.std.specs.Prelude.{flat_map, filter_map, map}
 use Rattle.std.proofs.lemmas.Grind.{flat_map-append}
@@ -57,7 +57,7 @@ block_text sc name m = if_there (λ st. epoch_lines name (Some (epoch_of sc.size
 abbrev pub step_text : Scenario → NodeName → Moment → Moment → List ℕ
 step_text sc name m next = if nat_lt m.window (windows_in sc.sizes) then window_text sc name m else block_text sc name next
 
--- all that it tells up to the begin of a moment's window
+-- all that it tells up to the start of a moment's window
 abbrev pub told_up_to : Scenario → NodeName → ℕ → List ℕ
 told_up_to sc name zero = block_text sc name (moment sc [] 0)
 told_up_to sc name (suc p) = told_up_to sc name p ++ step_text sc name (moment sc [] p) (moment sc [] (suc p))
@@ -154,7 +154,7 @@ silent-window sc m name st there silent =
 
 -- A frame.
 
--- the node's own among what all tell of the begin of a frame
+-- the node's own among what all tell of the start of a frame
 pub of-one : (sc : Scenario) (frame : ℕ) (ports : List PortState) (nodes : Each NodeState) (name : NodeName) (st : NodeState) (take : Begun → List ℕ)
     → slice_get (of_kind (kind_of name) nodes) (index_of name) ≡ Some st → is_good sc (kind_of name) (index_of name) frame 0 ≡ true
     → ((side : Side) (k : ℕ) (z : NodeState) → is_node (kind_of name) (index_of name) side k ≡ false → take (begun_of sc ports side k (epoch_of sc.sizes side z)) ≡ [])

@@ -1,5 +1,5 @@
--- For the law of record and replay: step by step, the events that a node is given make of a core what the node's own is, and their lines
--- are all that the node has told where it stands.
+-- For the law of record and replay: step by step, the events that a node is given make of a core
+-- what the node's own is, and their lines are all that the node has told where it stands.
 use Rattle.std.proofs.Common.{◌≡◌, ℕ, suc, ◌+◌, ◌-◌, ◌<◌, ◌≤◌, ◌&&◌, ◌⊎◌, Bool, true, false, List, [], ◌∷◌, ◌++◌, refl, ap, sym, ◌∙◌, subst, arith, Some, None, slice_get, option_and_then, option_map, if◌then◌else◌}
 use Rattle.std.specs.Prelude.{flat_map}
 use Rattle.std.proofs.Math.ListN.{replicate}

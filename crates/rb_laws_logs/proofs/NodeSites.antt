@@ -1,4 +1,5 @@
--- For the law of record and replay: the site of one node after an event, wherever it happens. Its frame never falls.
+-- For the law of record and replay: the site of one node after an event, wherever it happens. Its
+-- frame never falls.
 use Rattle.std.proofs.Common.{◌≡◌, ℕ, ◌+◌, ◌≤◌, ◌==◌, ◌&&◌, ◌⊎◌, Bool, true, false, List, [], ◌∷◌, ◌++◌, refl, ap, sym, ◌∙◌, arith, inl, inr, Option, Some, None, slice_get, option_map}
 use Rattle.rb_base.specs.Nodes.{Side, other}
 use Rattle.rb_base.specs.Sizes.{Sizes}

@@ -1,4 +1,5 @@
--- The law of a recorded log: what is given to a node can happen, so that its log is read as the same events.
+-- The law of a recorded log: what is given to a node can happen, so that its log is read as the
+-- same events.
 use Rattle.std.proofs.Common.{◌≡◌, ℕ, zero, suc, ◌+◌, ◌^◌, ◌<◌, ◌≤◌, ◌&&◌, ◌⊎◌, nat_le, Bool, true, false, All, List, [], ◌∷◌, ◌++◌, refl, ap, sym, ◌∙◌, subst, arith, inl, inr, Option, Some, None, is_some, slice_get, if◌then◌else◌}
 use Rattle.std.specs.Prelude.{flat_map}
 use Rattle.std.proofs.Math.ListN.{replicate}

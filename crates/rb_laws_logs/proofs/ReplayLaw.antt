@@ -1,4 +1,5 @@
--- The law of record and replay: the node at the begin of the run, at its end, and the text that comes of both.
+-- The law of record and replay: the node at the start of the run, at its end, and the text that
+-- comes of both.
 use Rattle.std.proofs.Common.{◌≡◌, ℕ, zero, suc, ◌+◌, ◌*◌, ◌-◌, ◌%◌, ◌<◌, ◌≤◌, ◌==◌, ◌&&◌, ◌||◌, ◌⊎◌, not, nat_lt, Bool, true, false, List, [], ◌∷◌, ◌++◌, length, refl, ap, sym, ◌∙◌, subst, arith, inl, inr, Option, Some, None, is_some, slice_get, option_map, if◌then◌else◌}
 use Rattle.std.specs.Prelude.{flat_map}
 use Rattle.std.proofs.lemmas.Bool.{cases_lt, eqb-true, lt-ltb}
@@ -138,7 +139,7 @@ stage-end place e = cc
 begin-end : (frame : ℕ) → Begin frame ≡ End → ⊥
 begin-end frame e = cc
 
--- the end comes next only after the begin of the frame after the last
+-- the end comes next only after the start of the frame after the last
 after-stage-not : (sc : Scenario) (place : Place) → after_stage sc.sizes place ≡ End → ⊥
 after-stage-not sc place = by (nat_lt place.stage 3) (place.slot == sync_slot_of sc.sizes)
   where
@@ -174,7 +175,7 @@ frame-end sc frame begun b up = by b.ended (frame == sc.frames) refl
     by false true is h = eqb-true frame sc.frames is
     by false false is h = absurd (stage-end _ h)
 
--- the end comes next before, or all have told of the begin of the frame after the last
+-- the end comes next before, or all have told of the start of the frame after the last
 abbrev EndsNext : Scenario → World → Type 0
 EndsNext sc w = (w.book.upcoming ≡ End) ⊎ (is_complete sc w.sites (Begin sc.frames) ≡ true)
 
@@ -222,7 +223,7 @@ take-end : (sc : Scenario) (w : World) (d : Due) → slice_get (due_of sc w) 0 �
 unfolding take
 take-end sc w d first h = settle-end sc ByAnEvent 2 (happens sc w d) (ap (λ o. (take_if_due sc w o).book.upcoming) (sym first) ∙ h)
 
--- in a world where all good nodes have told of that begin the node is in the frame
+-- in a world where all good nodes have told of that start the node is in the frame
 told-in : (sc : Scenario) (name : NodeName) (n : ℕ) → IsLawful sc → EndsWithoutBreach sc → IsGoodThroughout sc name → (node : NodeAt sc name n)
     → is_complete sc (first_run sc n).sites (Begin sc.frames) ≡ true → sc.frames ≤ node.s.core.state.frame
 told-in sc name n lawful none good node complete = by node.how

@@ -1,5 +1,5 @@
--- For the law of record and replay: up to a moment the records of the rounds have the lines of all that a node tells, but for those of
--- a slot whose record is still to come.
+-- For the law of record and replay: up to a moment the records of the rounds have the lines of all
+-- that a node tells, but for those of a slot whose record is still to come.
 use Rattle.std.proofs.Common.{◌≡◌, ℕ, zero, suc, ◌+◌, ◌*◌, ◌/◌, ◌%◌, ◌<◌, ◌≤◌, ◌==◌, ◌&&◌, min, nat_lt, not, Bool, true, false, List, [], ◌∷◌, ◌++◌, append_assoc, refl, ap, sym, ◌∙◌, subst, arith, inl, inr, Option, Some, None, slice_get, if◌then◌else◌}
 use Rattle.std.specs.Prelude.{flat_map, filter_map, map}
 use Rattle.std.proofs.lemmas.Bool.{and_from, and_left, and_right, cases_lt, cond-false, cond-true, eq-eqb, le-ltb, lt-ltb, ne_eqb}

@@ -1,4 +1,5 @@
--- For the law of record and replay: in each world of the run what comes to a node has 1 to 32 bytes.
+-- For the law of record and replay: in each world of the run what comes to a node has 1 to 32
+-- bytes.
 use Rattle.std.proofs.Common.{◌≡◌, ℕ, zero, suc, ◌+◌, ◌<◌, ◌≤◌, ◌==◌, ◌&&◌, Bool, true, false, All, List, [], ◌∷◌, ◌++◌, length, refl, sym, ◌∙◌, subst, arith, cond, Option, Some, None, slice_get, map, filter}
 use Rattle.std.specs.Prelude.{flat_map}
 use Rattle.std.specs.List.{range_with_len}

@@ -1,5 +1,6 @@
--- For the law of record and replay: what a tick of a node in the run has for lines, and what it moves: with them the node has told all up
--- to where it then stands, but for the begin of a frame whose first tick pends.
+-- For the law of record and replay: what a tick of a node in the run has for lines, and what it
+-- moves: with them the node has told all up to where it then stands, but for the start of a frame
+-- whose first tick pends.
 use Rattle.std.proofs.Common.{◌≡◌, ℕ, suc, ◌+◌, ◌*◌, ◌-◌, ◌<◌, ◌≤◌, ◌%◌, ◌==◌, ◌&&◌, ◌⊎◌, nat_lt, Bool, true, false, List, [], ◌++◌, append_assoc, refl, ap, sym, ◌∙◌, subst, arith, inl, inr, Option, Some, None, slice_get, option_and_then, option_map, if◌then◌else◌}
 use Rattle.std.proofs.lemmas.Bool.{cases_lt, cond-false, cond-true, eq-eqb, le-ltb, lt-ltb}
 use Rattle.std.proofs.lemmas.Bool.Decides.{nat_tests}
@@ -95,7 +96,8 @@ none-begins sizes me st k h = ap (λ b. elim b as (λ _. Option Epoch) [ true �
 pub now-begins : (sizes : Sizes) (me : Side) (st : NodeState) (k : ℕ) → st.epoch ≡ k → epoch_at sizes me st k ≡ Some (epoch_of sizes me st)
 now-begins sizes me st k h = ap (λ b. elim b as (λ _. Option Epoch) [ true ↦ Some (epoch_of sizes me st) | false ↦ None ]) (eq-eqb st.epoch k h)
 
--- a node that is not in a frame yet whose moment it is in turns with its pending tick, which is the frame's first
+-- a node that is not in a frame yet whose moment it is in turns with its pending tick, which is the
+-- frame's first
 pub record Turns (sc : Scenario) (p frame : ℕ) (st : NodeState) (a : Timed) : Type 0 where
   pub first : st.epoch ≡ a.tick
   pub window : (moment sc [] p).window ≡ 0
@@ -221,7 +223,8 @@ frame-step sc name p h =
     ap (λ l. told_up_to sc name p ++ l) (cond-false (nat_lt (moment sc [] p).window (windows_in sc.sizes)) (window_text sc name (moment sc [] p)) (block_text sc name (moment sc [] (suc p)))
     (le-ltb (moment sc [] p).window (windows_in sc.sizes) h))
 
--- where a node stands after it has closed a window: in the next window of the frame, or at the begin of the next frame
+-- where a node stands after it has closed a window: in the next window of the frame, or at the
+-- start of the next frame
 pub data Place (sc : Scenario) (name : NodeName) (p q : ℕ) : Type 0 where
   Inside : (same : (moment sc [] q).frame ≡ (moment sc [] p).frame) (some : 1 ≤ (moment sc [] q).window) (within : (moment sc [] q).window ≤ stages_in sc.sizes)
       (told : told_up_to sc name q ≡ told_up_to sc name p ++ window_text sc name (moment sc [] p)) → Place sc name p q

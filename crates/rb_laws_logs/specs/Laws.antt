@@ -34,8 +34,8 @@ convicted_by name frame n = if same_node n.node name then convicted_text frame n
 abbrev pub delivered_by : NodeName → ℕ → ℕ → SlotLine → List ℕ
 delivered_by name frame slot l = if same_node (Biu l.receiver) name then delivery_text frame slot l.receiver l.sender l.value else []
 
--- the report of records, the newest block before them being that of frame `newest`, with all lines of other nodes, all times
--- and all lines of ports left out
+-- the report of records, the newest block before them being that of frame `newest`, with all lines
+-- of other nodes, all times and all lines of ports left out
 abbrev pub lines_after : NodeName → ℕ → List Record → List ℕ
 lines_after name newest [] = []
 lines_after name newest (Frame frame nodes ports ∷ records) =
@@ -69,15 +69,16 @@ OneListIsGiven =
     (sc : Scenario) → IsLawful sc → (name : NodeName)
     → (events : List Event) × (AreGiven sc name events × ((others : List Event) → AreGiven sc name others → others ≡ events))
 
--- a node that is good throughout a run without a breach, and is given once more what it was given, says once more what the
--- report says of it
+-- a node that is good throughout a run without a breach, and is given once more what it was given,
+-- says once more what the report says of it
 abbrev pub ReplayIsTheReport : Type 0
 ReplayIsTheReport =
     (sc : Scenario) → IsLawful sc → EndsWithoutBreach sc → (name : NodeName) → IsGoodThroughout sc name
     → (events : List Event) → AreGiven sc name events
     → replay_text sc.sizes sc.plan name (flat_map given events) ≡ report_of_node name (records_of sc [])
 
--- what the recorder writes of its events is a log, and what a replay tells of that log is this report
+-- what the recorder writes of its events is a log, and what a replay tells of that log is this
+-- report
 abbrev pub ALogTellsTheReport : Type 0
 ALogTellsTheReport =
     (sc : Scenario) → IsLawful sc → EndsWithoutBreach sc → (name : NodeName) → IsGoodThroughout sc name

@@ -11,7 +11,8 @@ use Rattle.rb_rules.specs.Lawful.{kind_of}
 use Rattle.rb_report.specs.Report.{convicted_text, delivery_text, end_text, epoch_text}
 use Rattle.rb_laws_logs.specs.Given.{index_of}
 
--- the lines of a frame that the node begins: its first tick, without a time, and whom the node holds convicted
+-- the lines of a frame that the node begins: its first tick, without a time, and whom the node
+-- holds convicted
 abbrev pub epoch_lines : NodeName → Option Epoch → List ℕ
 epoch_lines name None = []
 epoch_lines name (Some e) = epoch_text e.frame name e.tick None ++ convicted_text e.frame name e.biu e.rmu
@@ -40,6 +41,7 @@ acts_from sizes plan name events = acts_of sizes plan (kind_of name) (index_of n
 abbrev pub acts_text : NodeName → List Act → List ℕ
 acts_text name acts = flat_map (act_lines name) acts ++ end_text (frames_in acts)
 
--- the text of a replay: the lines of all acts in order, and the end with the number of frames completed
+-- the text of a replay: the lines of all acts in order, and the end with the number of frames
+-- completed
 unfoldable pub replay_text : Sizes → Plan → NodeName → List CoreEvent → List ℕ
 replay_text sizes plan name events = acts_text name (acts_from sizes plan name events)

@@ -18,8 +18,9 @@ pub fn replay_is_the_report()
     ensures { ReplayIsTheReport }
 {}
 
-/// The same for its log: the header and what the writer gives of these events are a log that a
-/// reader takes, and a replay of what it says tells once more what the report tells of the node.
+/// The log of the node is right too: the header and what the writer gives of these events are a log
+/// that a reader accepts, and a replay of what it says tells once more what the report tells of the
+/// node.
 pub fn a_log_tells_the_report()
     ensures { ALogTellsTheReport }
 {}

@@ -51,7 +51,8 @@ found-once t i passes from (suc n) low high =
 
 -- Passes.
 
--- `m` passes of at most `n` slots each, which fit into `d` slots, give at least `m` slots to a BIU for which each of them has one
+-- `m` passes of at most `n` slots each, which fit into `d` slots, give at least `m` slots to a BIU
+-- for which each of them has one
 least : (f : ℕ → List ℕ) (p : ℕ → Bool) (n : ℕ) → ((k : ℕ) → length (f k) ≤ n) → (m rest from d : ℕ)
     → ((k : ℕ) → from ≤ k → k < from + m → 1 ≤ count_if p (f k)) → m * n ≤ d
     → m ≤ count_if p (take d (flat_map f (range_with_len from (m + rest))))

@@ -1,4 +1,5 @@
--- Each good BIU gets its share: the schedule of the abstract bus gives it, and good nodes hold that schedule.
+-- Each good BIU gets its share: the schedule of the abstract bus gives it, and good nodes hold that
+-- schedule.
 use Rattle.std.proofs.Common.{◌≡◌, ℕ, zero, suc, ◌+◌, ◌*◌, ◌<◌, ◌≤◌, ◌==◌, nat_lt, Bool, true, false, inl, inr, List, [], ◌∷◌, ◌++◌, length, get_or, if◌then◌else◌, refl, sym, ◌∙◌, ap, subst, arith}
 use Rattle.std.proofs.lemmas.Bool.{cases_lt, cases_order, ltb-true}
 use Rattle.std.proofs.lemmas.Bool.Decides.{nat_tests}
@@ -31,7 +32,8 @@ use Rattle.rb_laws_promise.proofs.Promise.{stands}
 
 -- Where the bus is.
 
--- after n steps the bus is in its frame before its slot, and it has a value for each slot of the frame before that
+-- after n steps the bus is in its frame before its slot, and it has a value for each slot of the
+-- frame before that
 record IsAt (sc : Scenario) (n : ℕ) (b : AbstractBus) : Type 0 where
   place : n ≡ steps_to sc.sizes b.frame b.slot
   within : b.slot ≤ sync_slot_of sc.sizes

@@ -10,7 +10,8 @@ use Rattle.rb_laws_events.specs.Promise.{RunningNodesKeepThePromise}
 use Rattle.rb_laws_groups.specs.Lines.{IsRight}
 use Rattle.rb_laws_promise.specs.Shares.{GetTheirShare}
 
--- The run of a scenario with these hand-ins keeps the promise up to its first breach of the fault premise
+-- The run of a scenario with these hand-ins keeps the promise up to its first breach of the fault
+-- premise
 pub record KeepsThePromise (sc : Scenario) (hands : List HandIn) : Type 0 where
   pub headline : Headline sc hands  -- good nodes begin slots near each other, deliver alike, hold one schedule, and convict the same nodes
   pub machine : StandsFor sc hands  -- all good nodes together are one machine, the abstract bus

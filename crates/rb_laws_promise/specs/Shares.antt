@@ -14,12 +14,13 @@ use Rattle.rb_rules.specs.Ports.{HandIn}
 abbrev pub slots_of : ℕ → List ℕ → ℕ
 slots_of i owners = count_if (λ owner. owner == i) owners
 
--- the number of slots that BIU i is sure of: as many as it asks for, but at most an equal share of the data slots, rounded down
+-- the number of slots that BIU i is sure of: as many as it asks for, but at most an equal share of
+-- the data slots, rounded down
 abbrev pub share_of : Scenario → ℕ → ℕ
 share_of sc i = min (get_or sc.requests i 0) (sc.sizes.data_slots / sc.sizes.bius)
 
--- from the first data slot of a frame on, in the schedule of each good node, each good BIU owns at least as many data slots as it is sure of,
--- whatever the other BIUs ask for
+-- from the first data slot of a frame on, in the schedule of each good node, each good BIU owns at
+-- least as many data slots as it is sure of, whatever the other BIUs ask for
 abbrev pub GetTheirShare : Scenario → List HandIn → Type 0
 GetTheirShare sc hands =
     (frame slot : ℕ) → sc.sizes.bius ≤ slot → slot ≤ sync_slot_of sc.sizes → IsComplete sc hands frame slot

@@ -7,7 +7,7 @@ ghost use Rattle.rb_laws_promise.specs.Promise.{RunsKeepThePromise};
 ghost use Rattle.rb_laws_promise.specs.Shares.{GoodBiusGetTheirShare};
 
 /// Up to the first breach of the fault premise the rounds stand for a run of the abstract bus: at
-/// each begin of a frame and in each slot all good nodes hold what it holds.
+/// each start of a frame and in each slot all good nodes hold what it holds.
 pub fn rounds_stand_for_the_bus()
     ensures { RoundsStandForTheBus }
 {}
@@ -19,9 +19,9 @@ pub fn the_promise_is_kept()
     ensures { ThePromiseIsKept }
 {}
 
-/// Up to the first breach of the fault premise, a good BIU that asks for `r` slots owns at least `r`
-/// data slots in each frame, or an equal share of them (their number by that of the BIUs, rounded
-/// down) if `r` is more, whatever the other BIUs ask for.
+/// Up to the first breach of the fault premise, a good BIU that asks for `r` slots owns at least
+/// `r` data slots in each frame, or an equal share of them (their number by that of the BIUs,
+/// rounded down) if `r` is more, whatever the other BIUs ask for.
 pub fn good_bius_get_their_share()
     ensures { GoodBiusGetTheirShare }
 {}

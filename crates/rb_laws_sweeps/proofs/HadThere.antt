@@ -1,4 +1,5 @@
--- What came to a node for its open window and what is pending there are few together, where the nodes stand in the rounds.
+-- What came to a node for its open window and what is pending there are few together, where the
+-- nodes stand in the rounds.
 use Rattle.std.proofs.Common.{◌≡◌, ℕ, zero, suc, ◌+◌, ◌*◌, ◌≤◌, ◌==◌, nat_lt, Bool, true, false, List, [], ◌∷◌, cond, filter, length, refl, ap, sym, subst, arith}
 use Rattle.std.proofs.lemmas.Bool.{ltb-true}
 use Rattle.std.proofs.lemmas.Bool.Decides.{nat_tests}

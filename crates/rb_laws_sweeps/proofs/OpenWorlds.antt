@@ -1,4 +1,5 @@
--- What comes next in a world that was reached, and needs an event, still waits for a node. So an arrival settles nothing.
+-- What comes next in a world that was reached, and needs an event, still waits for a node. So an
+-- arrival settles nothing.
 use Rattle.std.proofs.Common.{◌≡◌, ℕ, ◌+◌, ◌<◌, ◌==◌, Bool, true, false, List, refl, ap, sym, ◌∙◌, arith, inl, inr, Some, None, slice_get, if◌then◌else◌}
 use Rattle.std.proofs.lemmas.Bool.{and_right, lt-ltb}
 use Rattle.rb_base.specs.Nodes.{Side}

@@ -1,4 +1,5 @@
--- What is settled depends on nothing but what the nodes have told. So a change of nodes that leaves this may come before or after it.
+-- What is settled depends on nothing but what the nodes have told. So a change of nodes that leaves
+-- this may come before or after it.
 use Rattle.std.proofs.Common.{◌≡◌, ℕ, zero, suc, ◌+◌, ◌&&◌, ◌||◌, not, Bool, true, false, List, [], ◌∷◌, refl, ap, ◌∙◌, Option, Some, None, is_some}
 use Rattle.std.specs.List.{list_all}
 use Rattle.rb_base.specs.Nodes.{Side}

@@ -1,4 +1,5 @@
--- For the law that stamps make no difference: what a close below the sync slot makes of what came needs only the bytes of each source.
+-- For the law that stamps make no difference: what a close below the sync slot makes of what came
+-- needs only the bytes of each source.
 use Rattle.std.proofs.Common.{◌≡◌, ℕ, ◌+◌, ◌^◌, ◌<◌, ◌≤◌, ◌==◌, ◌&&◌, max, nat_le, Bool, true, false, if◌then◌else◌, List, [], ◌∷◌, map, filter, cond, refl, ap, sym, ◌∙◌, arith, Option, Some, None}
 use Rattle.std.proofs.lemmas.Bool.Decides.{nat_tests}
 use Rattle.std.proofs.Math.Path.{fun_ext}
@@ -198,7 +199,8 @@ word-alike sc ports me i st k inbox other =
     (message-is sc.sizes sc.plan me i 0 (record { state = st; had = k; inbox = inbox })
     ∙ sym (message-is sc.sizes sc.plan me i 0 (record { state = st; had = k; inbox = other })))
 
--- a tick that ends a window of a slot before the sync slot needs only the bytes that came of each source
+-- a tick that ends a window of a slot before the sync slot needs only the bytes that came of each
+-- source
 tick-alike : (sizes : Sizes) (plan : Plan) (me : Side) (i word : ℕ) (st : NodeState) (k : ℕ) (inbox other : List (ℕ × Arrival))
     → is_last sizes plan me (state_at sizes plan me st k) k ≡ true → (window_here sizes plan me (state_at sizes plan me st k) k).slot < sync_slot_of sizes → k < 2 ^ 31
     → BytesAlike inbox other

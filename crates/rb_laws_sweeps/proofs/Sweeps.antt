@@ -64,7 +64,8 @@ arrival-length : (sc : Scenario) (me : Side) (i : ℕ) (s : Site) (p : Placed) �
 unfolding after_arrival
 arrival-length sc me i s p e = length-without p.place p.coming s.coming (first-stands s.coming p e)
 
--- what holds where nothing comes before the time, and before an arrival where it holds after it, holds of each node
+-- what holds where nothing comes before the time, and before an arrival where it holds after it,
+-- holds of each node
 pub sweep-by : (sc : Scenario) (me : Side) (i until : ℕ) (P : Site → Type 0) → ((s : Site) → Every (λ c. until ≤ c.time) s.coming → P s)
     → ((s : Site) (p : Placed) → first_of s.coming ≡ Some p → p.coming.time < until → P (after_arrival sc me i p.place p.coming s) → P s)
     → (n : ℕ) (s : Site) → length s.coming ≤ n → P s

@@ -20,11 +20,13 @@ is_behind Biu i Rmu j = true
 is_behind Rmu i Biu j = false
 is_behind Rmu i Rmu j = nat_lt i j
 
--- the time before which all that comes to node j of a kind is taken before the tick of node i of kind me at this time
+-- the time before which all that comes to node j of a kind is taken before the tick of node i of
+-- kind me at this time
 abbrev pub until_tick : Side → ℕ → ℕ → Side → ℕ → ℕ
 until_tick me i time side j = if is_behind me i side j then time else time + 1
 
--- of all ticks that are pending this is the first in time, and of those at its time the first in the order of nodes
+-- of all ticks that are pending this is the first in time, and of those at its time the first in
+-- the order of nodes
 pub record IsFirstTick (w : World) (me : Side) (i : ℕ) (a : Timed) : Type 0 where
   pub node : Site
   pub there : slice_get (of_kind me w.sites) i ≡ Some node
@@ -51,12 +53,12 @@ tick_alone sc me i a w =
 
 -- Takes.
 
--- the world after so many takes of the first due event
+-- the world after n takes of the first due event
 unfoldable pub after_takes : Scenario → ℕ → World → World
 after_takes sc zero w = w
 after_takes sc (suc n) w = take sc (after_takes sc n w) 0
 
--- what node i of kind me is told in so many takes of the first due event
+-- what node i of kind me is told in n takes of the first due event
 unfoldable pub told_in : Scenario → Side → ℕ → ℕ → World → List Told
 told_in sc me i zero w = []
 told_in sc me i (suc n) w = told_in sc me i n w ++ told_next sc me i (after_takes sc n w)
@@ -69,8 +71,9 @@ pub record ArrivalIsFirst (sc : Scenario) (w : World) : Type 0 where
   pub coming : Coming
   pub is : slice_get (due_of sc w) 0 ≡ Some (record { side = side; node = node; pending = Arrival place coming })
 
--- Takes of arrivals, none of which gives a record, lead to the world in which this tick is the first due event: each node is swept, those
--- behind the tick's node up to its time and the others through it, and nothing else changes. Each node is told what it hears in its sweep
+-- Takes of arrivals, none of which gives a record, lead to the world in which this tick is the
+-- first due event: each node is swept, those behind the tick's node up to its time and the others
+-- through it, and nothing else changes. Each node is told what it hears in its sweep
 pub record LeadsToTick (sc : Scenario) (w : World) (me : Side) (i : ℕ) (a : Timed) : Type 0 where
   pub takes : ℕ
   pub arrivals : (n : ℕ) → n < takes → ArrivalIsFirst sc (after_takes sc n w)
@@ -80,16 +83,17 @@ pub record LeadsToTick (sc : Scenario) (w : World) (me : Side) (i : ℕ) (a : Ti
   pub told : (side : Side) (j : ℕ) (s : Site) → slice_get (of_kind side w.sites) j ≡ Some s
       → told_in sc side j takes w ≡ heard sc side j (until_tick me i a.time side j) s
 
--- What each node is told in these takes: with what it hears of what the world behind had left, it is what the tick alone tells the node, and
--- then what it hears of what is left behind after that
+-- What each node is told in these takes: with what it hears of what the world behind had left, it
+-- is what the tick alone tells the node, and then what it hears of what is left behind after that
 pub record TellsAhead (sc : Scenario) (until : Side → ℕ → ℕ) (w : World) (me : Side) (i : ℕ) (a : Timed) (takes : ℕ) (side : Side) (j : ℕ) (s : Site) : Type 0 where
   pub after : Site
   pub there : slice_get (of_kind side (tick_alone sc me i a w).sites) j ≡ Some after
   pub told : heard sc side j (until side j) s ++ told_in sc side j takes (ahead_of sc until w)
       ≡ told_alone sc w me i a side j s ++ heard sc side j (until_tick me i a.time side j) after
 
--- And one take more, that of the tick, leads from a world that is ahead to one that is ahead of what the tick alone makes of the world
--- behind. So some choices lead there, too, and what is first there comes no earlier
+-- One more take, that of the tick, leads from a world that is ahead to one that is ahead of what
+-- the tick alone makes of the world behind. Some choices lead there too, and what is first there
+-- comes no earlier
 pub record GoesOnAhead (sc : Scenario) (until : Side → ℕ → ℕ) (w : World) (me : Side) (i : ℕ) (a : Timed) : Type 0 where
   pub leads : LeadsToTick sc (ahead_of sc until w) me i a
   pub after : after_takes sc (suc leads.takes) (ahead_of sc until w) ≡ ahead_of sc (until_tick me i a.time) (tick_alone sc me i a w)

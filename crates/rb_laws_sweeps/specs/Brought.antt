@@ -14,8 +14,9 @@ use Rattle.rb_laws_sweeps.specs.Sweeping.{swept}
 abbrev pub due_from : ℕ → ℕ → List Coming → List Coming
 due_from until j cs = filter (λ c. (c.from == j) && nat_lt c.time until) cs
 
--- What the core kept of a source before a sweep, what of it was due, and what the core keeps of it after the sweep: as many more as were due.
--- Where nothing was due it keeps the same, and where one was due and nothing was kept it keeps that one, with some stamp
+-- What the core kept of a source before a sweep, what of it was due, and what the core keeps of it
+-- after the sweep: as many more as were due. Where nothing was due it keeps the same, and where one
+-- was due and nothing was kept it keeps that one, with some stamp
 pub record BringsArrivals (before : List Arrival) (due : List Coming) (after : List Arrival) : Type 0 where
   pub none : due ≡ [] → after ≡ before
   pub one : (c : Coming) → due ≡ c ∷ [] → before ≡ [] → (stamp : ℕ) × (after ≡ record { stamp = stamp; bytes = c.bytes } ∷ [])
@@ -39,8 +40,8 @@ MayBeHeard sc me i until s = All (IsHeardIfDue sc me i until) s.coming
 abbrev pub CameTogether : Site → Type 0
 CameTogether s = map (λ a. a.0) s.core.inbox ≡ map (λ c. c.from) s.got
 
--- What a sweep makes of a node: what comes later is still pending, in its order, what was due has come, source by source, and the rest is as
--- it was
+-- What a sweep makes of a node: what comes later is still pending, in its order, what was due has
+-- come, source by source, and the rest is as it was
 pub record Brings (sc : Scenario) (me : Side) (i until : ℕ) (s after : Site) : Type 0 where
   pub is : after ≡ record s { core = after.core; coming = after.coming; got = after.got }
   pub state : after.core.state ≡ s.core.state

@@ -26,7 +26,8 @@ SweepsTakeTheFirst =
     (sc : Scenario) (me : Side) (i until : ℕ) (s : Site) (p : Placed) → first_of s.coming ≡ Some p → p.coming.time < until
     → swept sc me i until s ≡ swept sc me i until (after_arrival sc me i p.place p.coming s)
 
--- what a sweep makes of a node: what comes to it, what came, and its core with what that has got and counted. All that is left comes later
+-- what a sweep makes of a node: what comes to it, what came, and its core with what that has got
+-- and counted. All that is left comes later
 pub record SweepsFrom (sc : Scenario) (me : Side) (i until : ℕ) (s z : Site) : Type 0 where
   pub is : z ≡ record s { core = z.core; coming = z.coming; got = z.got }
   pub state : z.core.state ≡ s.core.state
@@ -69,8 +70,9 @@ PushesPassASweep =
     (sc : Scenario) (me : Side) (i until : ℕ) (ahead : Option Timed) (more : List Coming) (s : Site) → All (λ c. until ≤ c.time) more
     → swept sc me i until (with_more ahead more s) ≡ with_more ahead more (swept sc me i until s)
 
--- So is it with the message that node j of kind me sends at a tick, for a sweep through the time of the tick; and what is said in a window
--- to a node comes after the tick before the window
+-- What is sent comes later: the message that node j of kind me sends at a tick comes after a sweep
+-- through the time of the tick; and what is said in a window to a node comes after the tick before
+-- the window
 pub record WhatIsSentComesLater (sc : Scenario) : Type 0 where
   pub message : (me side : Side) (j i frame until : ℕ) (x : Sending) (s : Site) → until ≤ time_of (clock_of sc me j) x.tick + 1
       → swept sc side i until (sent_to sc me j frame x side i s) ≡ sent_to sc me j frame x side i (swept sc side i until s)
@@ -107,7 +109,8 @@ SomeTickIsFirst =
     (sc : Scenario) → IsLawful sc → (choices : List Choice) (until : Side → ℕ → ℕ) (w : World) → world_after sc choices ≡ ahead_of sc until w → NeedsEvent sc w
     → (me : Side) × ((i : ℕ) × ((a : Timed) × IsFirstTick w me i a))
 
--- A world that is ahead of another goes on as its ticks alone make the other go on. At first no node need be ahead: each time is 0
+-- A world that is ahead of another goes on as its ticks alone make the other go on. At first no
+-- node need be ahead: each time is 0
 abbrev pub WorldsGoOnAhead : Type 0
 WorldsGoOnAhead =
     (sc : Scenario) → IsLawful sc → (choices : List Choice) (until : Side → ℕ → ℕ) (w : World) → world_after sc choices ≡ ahead_of sc until w

@@ -26,14 +26,15 @@ pub record StoppedStayEmpty (sc : Scenario) : Type 0 where
 abbrev pub StoppedStayEmptyInEach : Type 0
 StoppedStayEmptyInEach = (sc : Scenario) → StoppedStayEmpty sc
 
--- whatever was chosen, room for so many at each node is enough in a world, too, of which that world is ahead
+-- whatever was chosen, room for `most_pending` events at each node is enough also in a world of
+-- which that world is ahead
 abbrev pub PendingBehindIsFew : Type 0
 PendingBehindIsFew =
     (sc : Scenario) → IsLawful sc → (choices : List Choice) (until : Side → ℕ → ℕ) (w : World) → world_after sc choices ≡ ahead_of sc until w → StoppedHaveNothing w
     → (me : Side) (i : ℕ) (s : Site) → slice_get (of_kind me w.sites) i ≡ Some s → length (times_of s) ≤ most_pending sc me
 
--- node i of kind me, which is this, takes the first tick there once it is swept, and does this: room for so many is enough for what that
--- makes pending
+-- node i of kind me, which is this site, takes the first tick there once it is swept, and does this
+-- act: room for `most_pending` events is enough for what the act makes pending
 pub record TickBehindFits (sc : Scenario) (w : World) (me : Side) (i : ℕ) (a : Timed) (s : Site) (x : Act) : Type 0 where
   pub own : length (times_of (after_act sc w.ports me i x (swept sc me i (a.time + 1) s))) ≤ most_pending sc me
   pub message : (m : Message) → x.message ≡ Some m → (j : ℕ) (receiver : Site) → slice_get (of_kind (other me) w.sites) j ≡ Some receiver → receiver.runs ≡ true
@@ -46,9 +47,10 @@ TicksBehindFit =
     → (s : Site) → slice_get (of_kind me w.sites) i ≡ Some s
     → TickBehindFits sc w me i a s (pass_and_tick sc w.ports me i a.tick (swept sc me i (a.time + 1) s).core)
 
--- The first tick comes at its time, is one of those that a node may have, and comes after those that its node has had once it is swept. Each
--- node that runs has a tick that is no earlier, so what is swept there comes by a tick. And all that comes or came to a node is from nodes
--- that there are
+-- The first tick comes at its time, is one of those that a node may have, and comes after those
+-- that its node has had once it is swept. Each node that runs has a tick that is no earlier, so
+-- what is swept there comes by a tick. And all that comes or came to a node is from nodes that
+-- there are
 pub record TickBehindIsInTime (sc : Scenario) (w : World) (me : Side) (i : ℕ) (a : Timed) : Type 0 where
   pub time : a.time ≡ time_of (clock_of sc me i) a.tick
   pub small : a.tick < 2 ^ 31

@@ -16,8 +16,9 @@ restamped stamps inbox = map (λ a. (a.0, record { stamp = stamps a.0; bytes = a
 abbrev pub stamped_anew : ℕ → (ℕ → ℕ) → Core → Core
 stamped_anew had stamps c = record c { had = had; inbox = restamped stamps c.inbox }
 
--- A tick, one of those that a node may have, that ends a window of a slot before the sync slot gives the same whatever stamps what came has,
--- and however many of the ticks before it were counted
+-- A tick, one of those that a node may have, that ends a window of a slot before the sync slot
+-- gives the same whatever stamps what came has, and however many of the ticks before it were
+-- counted
 abbrev pub StampsMakeNoDifference : Type 0
 StampsMakeNoDifference =
     (sc : Scenario) (ports : List PortState) (me : Side) (i k had : ℕ) (stamps : ℕ → ℕ) (c : Core)

@@ -1,4 +1,5 @@
--- A node swept up to a time: all that comes to it before then is taken, one arrival after another in their order.
+-- A node swept up to a time: all that comes to it before then is taken, one arrival after another
+-- in their order.
 use Rattle.std.specs.Prelude.{ℕ, zero, suc, ◌==◌, ◌&&◌, ◌||◌, nat_le, nat_lt, Bool, true, false, if◌then◌else◌, Option, Some, None, List, [], ◌∷◌, length}
 use Rattle.rb_base.specs.Nodes.{Side}
 use Rattle.rb_rules.specs.Goodness.{Scenario}
@@ -20,7 +21,8 @@ first_with c None = record { place = 0; coming = c }
 first_with c (Some p) =
     if comes_first c p.coming then (record { place = 0; coming = c }) else (record { place = suc p.place; coming = p.coming })
 
--- the first of all that comes to a node: of the least time, there of the lowest source, and of that the one that was pushed first
+-- the first of all that comes to a node: of the least time, there of the lowest source, and of that
+-- the one that was pushed first
 unfoldable pub first_of : List Coming → Option Placed
 first_of [] = None
 first_of (c ∷ cs) = Some (first_with c (first_of cs))
@@ -31,7 +33,7 @@ after_first sc me i until None s = s
 after_first sc me i until (Some p) s =
     elim (nat_lt p.coming.time until) [ true ↦ after_arrival sc me i p.place p.coming s | false ↦ s ]
 
--- the node after so many arrivals in their order, as far as they come before a time
+-- the node after a number of arrivals in their order, as far as they come before the time `until`
 unfoldable pub swept_by : Scenario → Side → ℕ → ℕ → ℕ → Site → Site
 swept_by sc me i until zero s = s
 swept_by sc me i until (suc n) s = swept_by sc me i until n (after_first sc me i until (first_of s.coming) s)

@@ -28,7 +28,8 @@ heard_first sc me i until None s = []
 heard_first sc me i until (Some p) s =
     elim (nat_lt p.coming.time until) [ true ↦ telling sc [] me i s (Arrival p.place p.coming) ∷ [] | false ↦ [] ]
 
--- so many arrivals in their order, as far as they come before a time
+-- what a node hears with a number of arrivals in their order, as far as they come before the time
+-- `until`
 unfoldable pub heard_by : Scenario → Side → ℕ → ℕ → ℕ → Site → List Told
 heard_by sc me i until zero s = []
 heard_by sc me i until (suc n) s =
@@ -50,8 +51,8 @@ if_told name (Some s) (Some e) = if same_node e.node name then (record { frame =
 unfoldable pub told_next : Scenario → Side → ℕ → World → List Told
 told_next sc me i w = if_told (name_of me i) (slice_get (of_kind me w.sites) i) (event_at sc w 0)
 
--- node j of kind side, which is this, is told by a run that goes from tick to tick where node i of kind me has this tick: its own
--- arrivals up to the tick, and the tick
+-- node j of kind side, which is this, is told by a run that goes from tick to tick where node i of
+-- kind me has this tick: its own arrivals up to the tick, and the tick
 abbrev pub told_alone : Scenario → World → Side → ℕ → Timed → Side → ℕ → Site → List Told
 told_alone sc w me i a side j s =
     if same_node (name_of me i) (name_of side j)

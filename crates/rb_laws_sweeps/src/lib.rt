@@ -122,8 +122,8 @@ pub fn pending_behind_is_few()
     ensures { PendingBehindIsFew }
 {}
 
-/// And it is enough for what a tick alone makes pending there: at its own node (`own`), and with
-/// the message that it sends (`message`).
+/// Room for `most_pending` events is enough for what a tick alone makes pending in a world behind:
+/// at its own node (`own`), and with the message that it sends (`message`).
 pub fn ticks_behind_fit()
     ensures { TicksBehindFit }
 {}

@@ -1,5 +1,5 @@
--- A stage of the sync slot as it is judged: of whom a good node takes something is seen, and of a source that is not asymmetric
--- good nodes take what comes to them at near times.
+-- A stage of the sync slot as it is judged: of whom a good node takes something is seen, and of a
+-- source that is not asymmetric good nodes take what comes to them at near times.
 use Rattle.std.proofs.Common.{◌≡◌, ℕ, zero, suc, ◌+◌, ◌-◌, ◌*◌, ◌≤◌, ◌<◌, not, nat_le, true, false, List, [], ◌∷◌, map, Option, Some, None, is_some, get_or, refl, sym, ◌∙◌, ap, subst, arith, inl, inr, zero-add}
 use Rattle.std.specs.Prelude.{⊤, All, filter}
 use Rattle.std.specs.List.{list_any}

@@ -1,5 +1,6 @@
--- For the law that events are rounds: in every moment of a run that has not ended the calls of good nodes are ticks of their own
--- windows, their next frames begin after all windows of this one, and no frame begins late.
+-- For the law that events are rounds: in every moment of a run that has not ended the calls of good
+-- nodes are ticks of their own windows, their next frames begin after all windows of this one, and
+-- no frame begins late.
 use Rattle.std.proofs.Common.{◌≡◌, ℕ, zero, suc, ◌+◌, ◌-◌, ◌*◌, ◌≤◌, ◌<◌, ◌&&◌, nat_lt, Bool, true, false, List, Option, Some, refl, sym, ◌∙◌, ap, subst, arith, inl, inr, lit<}
 use Rattle.std.proofs.lemmas.Bool.{cases_lt}
 use Rattle.std.proofs.lemmas.Bool.Decides.{nat_tests}

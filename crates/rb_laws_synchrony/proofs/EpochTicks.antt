@@ -1,5 +1,6 @@
--- For the law that events are rounds: in every moment of a run that has not ended good nodes have had no more ticks before their
--- frame than so many frames may take, and the frame is one of the run.
+-- For the law that events are rounds: in every moment of a run that has not ended good nodes have
+-- had no more ticks before their frame than the frames before it may take, and the frame is one of
+-- the run.
 use Rattle.std.proofs.Common.{◌≡◌, ℕ, zero, suc, ◌+◌, ◌*◌, ◌≤◌, ◌<◌, ◌==◌, max, false, List, Some, slice_get, refl, sym, ◌∙◌, ap, subst, arith, inl, inr}
 use Rattle.std.proofs.lemmas.Bool.Decides.{nat_tests}
 use Rattle.std.proofs.lemmas.Option.{same_Some}
@@ -32,7 +33,8 @@ use Rattle.rb_laws_synchrony.proofs.Synchrony.{IsSynchronous, synchrony}
 abbrev pub frame_ticks : Sizes → Plan → ℕ
 frame_ticks sizes plan = tail_start_of sizes plan + max plan.z (plan.v + plan.c)
 
--- no good node has begun the moment's frame later than after so many such frames
+-- no good node has begun the moment's frame later than after as many frames of `frame_ticks` ticks
+-- as its number says
 abbrev pub BeginByThen : Scenario → Moment → Type 0
 BeginByThen sc m = (me : Side) (i : ℕ) (st : NodeState) → IsGoodNode sc m me i st → st.epoch ≤ m.frame * frame_ticks sc.sizes sc.plan
 
@@ -87,7 +89,7 @@ pub turned-frame : (sc : Scenario) (hands : List HandIn) (m : Moment) → (next_
 unfolding begin_frame
 turned-frame sc hands m = refl
 
--- the frame that begins after the last one is the end
+-- the frame that starts after the last one is the end
 pub within_run : (sc : Scenario) (hands : List HandIn) (n : ℕ) → IsRunning (moment sc hands n) → (moment sc hands n).frame ≤ sc.frames
 within_run sc hands zero running = omega (arith, begin-frame sc hands)
 within_run sc hands (suc n) running =

@@ -1,4 +1,5 @@
--- The third stage of the sync slot: where it passes, each good node knows when its next frame begins, near the others. And the tail.
+-- The third stage of the sync slot: where it passes, each good node knows when its next frame
+-- begins, near the others. And the tail.
 use Rattle.std.proofs.Common.{◌≡◌, ℕ, ◌+◌, ◌-◌, ◌*◌, ◌≤◌, ◌<◌, min, max, true, List, Some, option_map, refl, sym, ◌∙◌, ap, arith}
 use Rattle.rb_base.specs.Nodes.{Side}
 use Rattle.rb_base.specs.Nodes.Side.{Biu, Rmu}
@@ -33,8 +34,8 @@ use Rattle.rb_laws_synchrony.proofs.TakenCalls.{is_set}
 use Rattle.rb_laws_synchrony.proofs.TimelyWindows.{good_here}
 use Rattle.rb_laws_synchrony.proofs.Times.{Steady, lawful_fits, plan_fits}
 
--- ---- numbers: the next frame's first ticks come from `least + z * u + min (c * u) dmin` on, where the calls of stage 3 do from
--- `least` on
+-- ---- numbers: the next frame's first ticks come from `least + z * u + min (c * u) dmin` on, where
+-- the calls of stage 3 do from `least` on
 
 -- a BIU begins it z + c ticks after the call
 pub biu_begins : (plan : Plan) (u d f least x : ℕ) → Fits plan u d f

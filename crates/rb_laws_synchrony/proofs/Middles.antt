@@ -1,5 +1,5 @@
--- The middle of what is taken of the nodes: it lies between bounds of the good ones' stamps, and of two nodes that take alike the
--- middles are near.
+-- The middle of what is taken of the nodes: it lies between bounds of the good ones' stamps, and of
+-- two nodes that take alike the middles are near.
 use Rattle.std.proofs.Common.{◌≡◌, ℕ, zero, suc, ◌+◌, ◌<◌, ◌≤◌, Bool, true, false, cond, not, ◌&&◌, ◌||◌, List, [], ◌∷◌, length, map, nat_lt, nat_le, Option, Some, None, is_some, refl, sym, ◌∙◌, ap, subst, arith, ◌⊎◌, inl, inr}
 use Rattle.std.specs.Prelude.{⊤}
 use Rattle.std.specs.List.{AllZip, cons_option, range_with_len}
@@ -135,7 +135,8 @@ middle_times_near e x y f g m n rises_x rises_y near is_m is_n =
 
 -- ---- the least of times that are near
 
--- a time of a good one, from which on all lie, and no more than so much later; or there is no good one
+-- a time of a good one, from which on all lie, and no more than so much later; or there is no good
+-- one
 pub record HasLeast (good : ℕ → Bool) (time : ℕ → ℕ) (spread n : ℕ) : Type 0 where
   pub least : ℕ
   pub at : (i : ℕ) → i < n → good i ≡ true → IsBetween least (least + spread) (time i)

@@ -1,4 +1,5 @@
--- For the law that events are rounds: what good nodes send for the stage after one in which the run breaks off.
+-- For the law that events are rounds: what good nodes send for the stage after one in which the run
+-- breaks off.
 use Rattle.std.proofs.Common.{◌≡◌, ℕ, ◌+◌, ◌-◌, ◌*◌, ◌/◌, ◌%◌, ◌≤◌, ◌<◌, List, Some, option_map, refl, sym, ◌∙◌, ap, subst, arith, inl, inr, lit<}
 use Rattle.std.proofs.lemmas.Bool.{cases_lt}
 use Rattle.std.proofs.lemmas.Option.{same_Some}
@@ -57,8 +58,8 @@ timely_next sc hands n m s low law agree begun below =
 
 -- ---- the last stage of the frame
 
--- Good BIUs send their first messages of the next frame so late that these come after every good RMU has closed stage 3,
--- whatever the verdict on that.
+-- Good BIUs send their first messages of the next frame so late that these come after every good
+-- RMU has closed stage 3, whatever the verdict on that.
 
 first-message : (low h u d l v k c e least most p f x r y : ℕ) → p + d * (f + h) ≤ h * u + least
     → 2 * e + 2 * (u + d) + d * (l + v + (k + 1)) + (most + (u + d)) ≤ p + c * u

@@ -1,4 +1,5 @@
--- What a feasible plan says on natural numbers. A tick takes at least `u` and at most `u + d` reference units.
+-- What a feasible plan says on natural numbers. A tick takes at least `u` and at most `u + d`
+-- reference units.
 use Rattle.std.proofs.Common.{◌≡◌, ℕ, ◌+◌, ◌*◌, ◌-◌, ◌<◌, ◌≤◌, min, max, ap, ◌∙◌, subst, arith}
 use Rattle.std.specs.Prelude.{pos, ◌-ℤ◌, ◌*ℤ◌, ◌≤ℤ◌}
 use Rattle.std.proofs.Math.IntN.{pos-*ℤ-pos}
@@ -36,7 +37,8 @@ pub record Fits (plan : Plan) (u d f : ℕ) : Type 0 where
   pub next_bc : 2 * eps_of plan + 2 * (u + d) + d * (plan.l + plan.v + plan.z) + (plan.dmax + (u + d)) ≤ plan.p + plan.c * u
   pub next_ba : 2 * eps_of plan + 2 * (u + d) + d * (plan.l + plan.v + plan.z) + (plan.dmax + (u + d)) ≤ plan.p + plan.dmin
 
--- the ticks after the sending tick take at least so long, so with the one that sends and those before it the window takes longer
+-- the ticks after the sending tick take at least so long, so with the one that sends and those
+-- before it the window takes longer
 window-rest : (ticks h shortest n : ℕ) → h < ticks → pos n ≤ℤ ((pos ticks -ℤ pos (1 + h)) *ℤ pos shortest)
     → n + (1 + h) * shortest ≤ ticks * shortest
 window-rest ticks h shortest n inside le =
@@ -114,8 +116,8 @@ le_trans a b c h k = omega arith
 pub last_plus : (first ticks : ℕ) → 1 ≤ ticks → first + ticks - 1 + 1 ≡ first + ticks
 last_plus first ticks some = omega arith
 
--- The windows below the sync slot, and its stage 1: the window that begins at offset a ends at offset o, and its messages are sent
--- at offset a + h.
+-- The windows below the sync slot, and its stage 1: the window that begins at offset a ends at
+-- offset o, and its messages are sent at offset a + h.
 
 pub exact_early : (low p a f h u d least : ℕ) → a ≤ f → p + d * (f + h) ≤ h * u + least → low + p + a * (u + d) ≤ low + (a + h) * u + least
 exact_early low p a f h u d least le c1 = omega (arith, c1, mul-le-mul_left d le)

@@ -1,4 +1,5 @@
--- When good nodes send in a window, by what holds of them before it, and that the windows of all lie about those times.
+-- When good nodes send in a window, by what holds of them before it, and that the windows of all
+-- lie about those times.
 use Rattle.std.proofs.Common.{◌≡◌, ℕ, ◌+◌, ◌-◌, ◌*◌, ◌/◌, ◌%◌, ◌≤◌, ◌<◌, Option, Some, option_map, sym, ◌∙◌, ap, arith}
 use Rattle.std.proofs.lemmas.Option.{same_Some}
 use Rattle.rb_base.specs.Nodes.{Side}
@@ -93,7 +94,7 @@ pub record CallWell (sc : Scenario) (m : Moment) (kind : Side) (stage first last
   pub own : (j : ℕ) (st : NodeState) (tick : ℕ) → IsGoodNode sc m kind j st → call_tick_of sc.sizes sc.plan st stage ≡ Some tick
       → (st.epoch + first ≤ tick) × (tick < st.epoch + last)
 
--- a good node's clock, from its frame's begin
+-- a good node's clock, from its frame's start
 pub clock_now : (sc : Scenario) → IsLawful sc → (m : Moment) (me : Side) (i : ℕ) (st : NodeState) → IsGoodNode sc m me i st → Steady (shortest_of sc.plan) (drift_of sc.plan) (clock_of sc me i)
 clock_now sc law m me i st h = steady sc law me i m.frame _ h.good
 

@@ -1,5 +1,5 @@
--- A stage of the sync slot that passes, at one good node: the middle that it keeps is a tick of the window, and the next call is one
--- of the next window.
+-- A stage of the sync slot that passes, at one good node: the middle that it keeps is a tick of the
+-- window, and the next call is one of the next window.
 use Rattle.std.proofs.Common.{◌≡◌, ℕ, ◌+◌, ◌-◌, ◌*◌, ◌≤◌, ◌<◌, true, List, Some, option_and_then, unwrap_or, slice_get, refl, sym, ◌∙◌, ap, subst, arith}
 use Rattle.std.proofs.lemmas.Option.{same_Some}
 use Rattle.rb_base.specs.Nodes.{Side, other}

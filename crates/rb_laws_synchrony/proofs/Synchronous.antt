@@ -1,5 +1,5 @@
--- How near good nodes are before each window of a run that has met no breach: how near they began the frame, and in the sync slot
--- how near the middles are that they keep.
+-- How near good nodes are before each window of a run that has met no breach: how near they began
+-- the frame, and in the sync slot how near the middles are that they keep.
 use Rattle.std.proofs.Common.{◌≡◌, ℕ, ◌+◌, ◌*◌, ◌≤◌, ◌<◌, Option, Some, ap, arith}
 use Rattle.rb_base.specs.Nodes.{Side}
 use Rattle.rb_base.specs.Nodes.Side.{Biu, Rmu}
@@ -46,7 +46,8 @@ from_3 sc low = heard_from sc (from_2 sc low) + sc.plan.v * shortest_of sc.plan
 abbrev pub to_3 : Scenario → ℕ → ℕ
 to_3 sc low = heard_to sc (to_2 sc low) + sc.plan.v * tick_of sc.plan
 
--- how near the middles of stage 1 are where no BIU is asymmetric, and those of stage 2 where none of one kind is
+-- how near the middles of stage 1 are where no BIU is asymmetric, and those of stage 2 where none
+-- of one kind is
 abbrev pub near_1 : Plan → ℕ
 near_1 plan = eps_of plan + tick_of plan
 
@@ -59,8 +60,8 @@ near_3 plan = near_2 plan + drift_of plan * plan.v
 
 -- ---- what holds of the good nodes
 
--- the node knows this middle: a tick of the stage's window and, with the ticks to the next call, of that one's; `first` to `own` are
--- offsets
+-- the node knows this middle: a tick of the stage's window and, with the ticks to the next call, of
+-- that one's; `first` to `own` are offsets
 pub record KnowsMiddle (sc : Scenario) (me : Side) (i : ℕ) (st : NodeState) (k : Option ℕ) (first last own low high : ℕ) : Type 0 where
   pub tick : ℕ
   pub is : k ≡ Some tick

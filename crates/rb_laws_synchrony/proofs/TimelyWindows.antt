@@ -1,5 +1,5 @@
--- When a window is timely: where what good nodes send in it is sent at their own ticks of it, and between two times about which
--- the windows of all good nodes lie.
+-- When a window is timely: where what good nodes send in it is sent at their own ticks of it, and
+-- between two times about which the windows of all good nodes lie.
 use Rattle.std.proofs.Common.{◌≡◌, ℕ, ◌+◌, ◌≤◌, true, [], Option, Some, None, slice_get, option_map, option_and_then, refl, sym, ◌∙◌, ap, subst, arith}
 use Rattle.std.specs.Prelude.{All, IfSome, option_to_list}
 use Rattle.std.proofs.lemmas.List.Elements.{All-cons, All-nil}

@@ -1,4 +1,5 @@
--- What holds of the clocks in every lawful scenario, whatever is handed in, up to the first breach of the premise on faults.
+-- What holds of the clocks in every lawful scenario, whatever is handed in, up to the first breach
+-- of the premise on faults.
 use Rattle.std.specs.Prelude.{ℕ, ◌+◌, ◌<◌, ◌≤◌, List}
 use Rattle.rb_base.specs.Nodes.{Side}
 use Rattle.rb_base.specs.Sizes.{sync_slot_of}
@@ -19,7 +20,8 @@ BeginFramesNear sc hands =
     → IsGoodBefore sc hands frame 0 me i mine → IsGoodBefore sc hands frame 0 you j yours
     → time_in_frame sc me i mine 0 ≤ time_in_frame sc you j yours 0 + sc.plan.p
 
--- after a complete sync slot each good node knows when its next frame begins: after all its windows, and not long after them
+-- after a complete sync slot each good node knows when its next frame begins: after all its
+-- windows, and not long after them
 abbrev pub FramesTakeTheirTime : Scenario → List HandIn → Type 0
 FramesTakeTheirTime sc hands =
     (frame : ℕ) → IsComplete sc hands frame (sync_slot_of sc.sizes)
@@ -37,6 +39,7 @@ EachWindowIsTimely sc hands =
 abbrev pub WindowsAreTimely : Type 0
 WindowsAreTimely = (sc : Scenario) (hands : List HandIn) → IsLawful sc → EachWindowIsTimely sc hands
 
--- good nodes begin a slot at most p apart, and as far as their clocks have drifted since the frame's first tick
+-- good nodes begin a slot at most p apart, and as far as their clocks have drifted since the
+-- frame's first tick
 abbrev pub SlotsBeginNear : Type 0
 SlotsBeginNear = (sc : Scenario) (hands : List HandIn) → IsLawful sc → BeginSlotsNear sc hands

@@ -1,5 +1,5 @@
--- One stage of the sync slot, whatever comes of the nodes that are not good: where the middle of a good node lies, how near the
--- middles of two are, and that no good node is accused.
+-- One stage of the sync slot, whatever comes of the nodes that are not good: where the middle of a
+-- good node lies, how near the middles of two are, and that no good node is accused.
 use Rattle.std.specs.Prelude.{ℕ, ◌≡◌, ◌+◌, ◌-◌, ◌<◌, ◌≤◌, ◌==◌, ◌&&◌, ◌⊎◌, not, Bool, true, false, if◌then◌else◌, Option, Some, None, is_some}
 use Rattle.rb_base.specs.Counting.{count_if, numbers}
 use Rattle.rb_base.specs.Nodes.{Side, has}
@@ -17,7 +17,8 @@ use Rattle.rb_rules.specs.Slots.{listens}
 use Rattle.rb_rules.specs.Standing.{is_eligible, taken_of}
 use Rattle.rb_rules.specs.SyncStage.{close_sync, expects_call}
 
--- a node in a stage of the sync slot: its kind and clock, its state before, its window's first tick, and what comes of each source
+-- a node in a stage of the sync slot: its kind and clock, its state before, its window's first
+-- tick, and what comes of each source
 pub record Listener : Type 0 where
   pub sizes : Sizes
   pub me : Side
@@ -50,8 +51,8 @@ pub record IsCalledBetween (clock : Timeline) (low high : ℕ) (sense : Sense) :
   pub not_early : low ≤ time
   pub not_late : time ≤ high
 
--- good sources call a good node between two times, and more of what it takes comes of them than of others. Of the others anything
--- may come
+-- good sources call a good node between two times, and more of what it takes comes of them than of
+-- others. Of the others anything may come
 pub record HearsGoodCalls (plan : Plan) (good : ℕ → Bool) (low high : ℕ) (x : Listener) : Type 0 where
   pub listening : listens x.me Sync x.stage ≡ true
   pub a_stage : (1 ≤ x.stage) × (x.stage ≤ 3)
@@ -63,7 +64,8 @@ pub record HearsGoodCalls (plan : Plan) (good : ℕ → Bool) (low high : ℕ) (
   pub called : (j : ℕ) → good j ≡ true → IsCalledBetween x.clock low high (x.came j)
   pub most : count_if (λ j. not (good j) && is_some (stamp_taken x j)) (numbers 16) < count_if good (numbers 16)
 
--- it keeps a middle, whose time lies between those of the good calls, but for a tick; and it accuses none of the good sources
+-- it keeps a middle, whose time lies between those of the good calls, but for a tick; and it
+-- accuses none of the good sources
 pub record KeepsMiddle (plan : Plan) (good : ℕ → Bool) (low high : ℕ) (x : Listener) : Type 0 where
   pub tick : ℕ
   pub kept : middle_kept x ≡ Some tick

@@ -1,4 +1,5 @@
--- The last rule that applies gives the delay, whether it is looked for among all rules or among those of a pair of nodes.
+-- The last rule that applies gives the delay, whether it is looked for among all rules or among
+-- those of a pair of nodes.
 use Rattle.std.proofs.Common.{◌≡◌, ℕ, Bool, true, false, cond, ◌&&◌, if◌then◌else◌, List, [], ◌∷◌, Option, Some, None, reverse, filter, refl, ◌∙◌, ap}
 use Rattle.std.specs.List.{find}
 use Rattle.std.specs.Option.{option_or}

@@ -1,4 +1,5 @@
--- The index: the places of the rules of each pair, pair by pair, and where those of each pair begin.
+-- The index: the places of the rules of each pair, pair by pair, and where those of each pair
+-- begin.
 use Rattle.std.proofs.Common.{◌≡◌, ℕ, zero, suc, ◌+◌, ◌-◌, ◌<◌, length, get_or, take, Bool, true, false, cond, List, [], ◌∷◌, ◌++◌, Option, Some, None, reverse, filter, slice_get, refl, sym, ap, subst, inl, inr, ◌∙◌, add-one, append_assoc, arith, length-append, length-take-le}
 use Rattle.std.proofs.Math.Seq.{drop-append_seam, get_or-append_seam, take-append_seam}
 use Rattle.std.proofs.lemmas.List.{append-nil, get_or_append_left, reverse-append, take_more}

@@ -11,8 +11,8 @@ use Rattle.rb_rules.specs.Links.{stands_for}
 abbrev pub is_between : NodeName → NodeName → Rule → Bool
 is_between from to rule = stands_for rule.from from && stands_for rule.to to
 
--- The pairs of nodes of unlike kinds have numbers below 512: first those from a BIU to an RMU, by sender and then receiver,
--- then those from an RMU to a BIU.
+-- The pairs of nodes of unlike kinds have numbers below 512: first those from a BIU to an RMU, by
+-- sender and then receiver, then those from an RMU to a BIU.
 abbrev pub sender_of : ℕ → NodeName
 sender_of pair = if nat_lt pair 256 then Biu (pair / 16) else Rmu (pair / 16 - 16)
 

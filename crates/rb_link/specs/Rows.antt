@@ -11,7 +11,8 @@ use Rattle.rb_rules.specs.Links.{DelayRules, covers, delay_after, delay_of, name
 use Rattle.rb_link.specs.Pairs.{is_between, receiver_of, sender_of}
 use Rattle.rb_link.specs.declared.rows.Ranges.{Ranges}
 
--- each delay that the row has is that of the messages of this place to the node of the other kind with its number
+-- each delay that the row has is that of the messages of this place to the node of the other kind
+-- with its number
 abbrev pub IsRow : DelayRules → NodeName → Place → List ℕ → Type 0
 IsRow delays from place row =
     (i : ℕ) → (delay : ℕ) → slice_get row i ≡ Some delay → delay ≡ delay_of delays from (name_of (other (kind_of from)) i) place
@@ -21,7 +22,8 @@ abbrev pub rule_has : Option Rule → Place → Bool
 rule_has None place = true
 rule_has (Some rule) place = covers rule.frames rule.slots rule.stages place
 
--- the last of the rules for messages from the one node to the other has the place, or there are none for them
+-- the last of the rules for messages from the one node to the other has the place, or there are
+-- none for them
 abbrev pub latest_has : List Rule → NodeName → NodeName → Place → Bool
 latest_has rules from to place = rule_has (find (is_between from to) (reverse rules)) place
 
@@ -35,13 +37,15 @@ abbrev pub is_numbered : NodeName → Bool
 is_numbered (Biu i) = nat_lt i 16
 is_numbered (Rmu i) = nat_lt i 16
 
--- Whether there is a row for messages of this place from the node: its number is below 16, and for each of the 16 nodes of the other
--- kind the latest rule for messages from the one to the other has the place, or there is no rule for them.
+-- Whether there is a row for messages of this place from the node: its number is below 16, and for
+-- each of the 16 nodes of the other kind the latest rule for messages from the one to the other has
+-- the place, or there is no rule for them.
 unfoldable pub has_row : DelayRules → NodeName → Place → Bool
 has_row delays from place =
     is_numbered from && all_below 16 (λ i. latest_has delays.rules from (name_of (other (kind_of from)) i) place)
 
--- The senders have numbers below 32: first the BIUs, then the RMUs. The pairs of a sender with its 16 receivers stand together.
+-- The senders have numbers below 32: first the BIUs, then the RMUs. The pairs of a sender with its
+-- 16 receivers stand together.
 
 -- the node is the sender with this number
 abbrev pub IsSender : ℕ → NodeName → Type 0
@@ -62,7 +66,8 @@ pub record PlaceFits (place : Place) : Type 0 where
   pub slot : place.slot < 2 ^ 16
   pub stage : place.stage < 2 ^ 8
 
--- the ranges have those places that the rules of the sender's first pairs, so many, all have
+-- the ranges have exactly the places that the rules of the first `count` pairs of the sender all
+-- have
 abbrev pub IsShared : List Rule → ℕ → ℕ → Ranges → Type 0
 IsShared latest sender count ranges = (place : Place) → PlaceFits place
     → covers ranges.frames ranges.slots ranges.stages place ≡ all_below count (λ i. rule_has (slice_get latest (16 * sender + i)) place)
@@ -76,8 +81,8 @@ abbrev pub all_latest_have : List Rule → ℕ → Place → Bool
 all_latest_have rules sender place =
     all_below 16 (λ i. latest_has rules (sender_of (16 * sender + i)) (receiver_of (16 * sender + i)) place)
 
--- each sender has ranges, which have those places that its latest rules all have; each pair has a delay, and at each place that is in
--- the sender's ranges this is that of its messages
+-- each sender has ranges, which have those places that its latest rules all have; each pair has a
+-- delay, and at each place that is in the sender's ranges this is that of its messages
 pub record AreRows (base : ℕ) (rules : List Rule) (shared : List Ranges) (flat : List ℕ) : Type 0 where
   pub senders : length shared ≡ 32
   pub pairs : length flat ≡ 512

@@ -193,7 +193,7 @@ passes-following sizes plan ticks s n m l e f cores (c, (core, at)) = (
   ),
 )
 
--- And they tell nothing.
+-- Ticks that tell nothing.
 
 pub nothing-searching : (sizes : Sizes) (plan : Plan) (n : ℕ) (s : Search) → s.had + n ≤ unwrap_or (in_time (decision_of s)) (2 ^ 31)
     → TellNothing sizes plan n (now.Searching s)

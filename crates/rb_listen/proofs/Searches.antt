@@ -21,7 +21,7 @@ use Rattle.rb_listen.specs.declared.listener.Stage.TheVariants.{Searching, Waiti
 use Rattle.rb_listen.specs.declared.search.Search.{Search}
 use Rattle.rb_listen.proofs.Soon.{none-soon, noted-soon}
 
--- A search that has had so many ticks.
+-- A search that has had k ticks.
 
 pub record Stays (k : ℕ) (s : Search) : Type 0 where
   pub had : s.had ≡ k
@@ -210,7 +210,7 @@ pub first-frame : (sizes : Sizes) (plan : Plan) (lesson : Lesson) (first : First
 unfolding first_of
 first-frame sizes plan lesson first e = first-below sizes plan lesson _ _ _ first e
 
--- What holds of the parts of a search that has had so many ticks.
+-- Facts about the parts of a search that has had k ticks.
 
 pub stays-search : (k : ℕ) (s : Search) → Stays k s → IsSearching s
 stays-search k s h = record { most = subst (λ n. n ≤ 2 ^ 31) (sym h.had) h.most; soon = h.soon }
@@ -218,6 +218,6 @@ stays-search k s h = record { most = subst (λ n. n ≤ 2 ^ 31) (sym h.had) h.mo
 pub stays-ahead : (k : ℕ) (s : Search) → Stays k s → IsAhead s.had (decision_of s)
 stays-ahead k s h = subst (λ n. IsAhead n (decision_of s)) (sym h.had) h.ahead
 
--- so many it has had
+-- a search has had as many ticks as it says
 pub stays-now : (s : Search) → IsSearching s → IsAhead s.had (decision_of s) → Stays s.had s
 stays-now s is ahead = record { had = refl; most = is.most; soon = is.soon; ahead = ahead }

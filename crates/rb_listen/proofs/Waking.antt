@@ -254,7 +254,7 @@ quiet-ticks sizes plan (suc n) c q h =
     quiet-ticks sizes plan n (nothing c).core (λ k lo hi. q k (omega arith) (omega arith)) (omega arith) in
     ap (λ x. follows sizes plan n x.core) one ∙ rest ∙ ap (λ m. record c { had = m }) e
 
--- so many of them, up to the next busy one
+-- n ticks pass, up to the next busy one
 pub passes : (v : Seated) (c : Core) (had k n : ℕ) → c.state ≡ v.state → c.had ≡ had → IsNextWake v had k → had + n ≤ k
     → follows v.sizes v.plan n c ≡ record c { had = c.had + n }
 passes v c had k n s h next le =

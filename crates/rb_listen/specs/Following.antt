@@ -1,5 +1,5 @@
--- A listener from its first epoch on is the core of a BIU without a number that says nothing. It goes through windows and frames as
--- any BIU does.
+-- A listener from its first epoch on is the core of a BIU without a number that says nothing. It
+-- goes through windows and frames as any BIU does.
 use Rattle.std.specs.Prelude.{ℕ, zero, suc, ◌-◌, ◌^◌, ◌==◌, ◌||◌, Bool, true, false, Option, Some, None, unwrap_or, List, []}
 use Rattle.rb_base.specs.Nodes.Side.{Biu}
 use Rattle.rb_base.specs.Sizes.{Sizes}
@@ -9,13 +9,14 @@ use Rattle.rb_rules.specs.NodeState.{NodeState, fresh_state}
 use Rattle.rb_slot.specs.Engines.{trusting}
 use Rattle.rb_node.specs.Cores.{Running}
 
--- at first: this frame begins with this tick, which is the next, these nodes are trusted, nobody is accused, and nothing came
+-- at first: this frame begins with this tick, which is the next, these nodes are trusted, nobody is
+-- accused, and nothing came
 abbrev pub core_from : Sizes → ℕ → ℕ → ℕ → ℕ → Core
 core_from sizes frame epoch bius rmus =
     record { state = fresh_state sizes frame epoch (trusting rmus) bius; had = epoch; inbox = [] }
 
--- a tick: it turns, if this is the tick of its next epoch, and then closes the window, if this is the last tick of it. As any
--- node it is spent after 2^31 ticks
+-- a tick: it turns, if this is the tick of its next epoch, and then closes the window, if this is
+-- the last tick of it. As any node it is spent after 2^31 ticks
 unfoldable pub follow : Sizes → Plan → Core → Act
 follow sizes plan c =
     let now : NodeState = state_at sizes plan Biu c.state c.had in
@@ -24,7 +25,7 @@ follow sizes plan c =
       | false ↦ act_on sizes plan Biu 16 c now None now
     ]
 
--- so many ticks
+-- a follower after a number of ticks
 abbrev pub follows : Sizes → Plan → ℕ → Core → Core
 follows sizes plan zero c = c
 follows sizes plan (suc n) c = follows sizes plan n (follow sizes plan c).core
@@ -37,7 +38,7 @@ wakes sizes plan st k =
     let now : NodeState = state_at sizes plan Biu st k in
     (now.epoch == k) || is_last sizes plan Biu now k
 
--- the first such tick among so many from k on
+-- the first such tick among `others` ticks from k on
 abbrev pub wake_among : Sizes → Plan → NodeState → ℕ → ℕ → Option ℕ
 wake_among sizes plan st zero k = None
 wake_among sizes plan st (suc others) k =
@@ -61,6 +62,7 @@ arrive_at n c from bytes = arrive n.seat.sizes Biu c from bytes
 abbrev pub next_wake_at : Running → Core → Option ℕ
 next_wake_at n c = next_wake n.seat.sizes n.seat.plan c
 
--- the number up to which ticks may pass: that of the next tick that isn't quiet, or of ticks that a listener can have
+-- the number up to which ticks may pass: that of the next tick that isn't quiet, or of ticks that a
+-- listener can have
 abbrev pub passing_end : Running → ℕ
 passing_end n = unwrap_or (wake_among n.seat.sizes n.seat.plan n.seat.state (2 ^ 31 - n.had) n.had) (2 ^ 31)

@@ -1,4 +1,5 @@
--- What a listener learns from one frame: whom the bus trusts, whom it convicts at the frame's end, and when its next frame begins.
+-- What a listener learns from one frame: whom the bus trusts, whom it convicts at the frame's end,
+-- and when its next frame begins.
 use Rattle.std.specs.Prelude.{ℕ, ◌+◌, ◌*◌, ◌%◌, ◌==◌, ◌&&◌, nat_lt, nat_le, Bool, if◌then◌else◌, Option, None, option_map, List, get_or, slice_set, replicate}
 use Rattle.rb_base.specs.Nodes.{has, set_of}
 use Rattle.rb_base.specs.Nodes.Side.{Biu, Rmu}
@@ -27,8 +28,8 @@ frame_after frame = (frame + 1) % 65536
 
 -- What is recorded.
 
--- the stage whose messages are recorded in a slot: that in which the RMUs send to the BIUs, and of an RMU's own diagnosis slot
--- the one in which they all do. In data slots none is
+-- the stage whose messages are recorded in a slot: that in which the RMUs send to the BIUs, and of
+-- an RMU's own diagnosis slot the one in which they all do. In data slots none is
 abbrev pub stage_recorded : Role → ℕ
 stage_recorded (Schedule i) = 2
 stage_recorded (Data n) = 0
@@ -52,7 +53,8 @@ place_of slot j = 16 * slot + j
 abbrev pub record_of : List Sense → ℕ → ℕ → Sense
 record_of records slot j = get_or records (place_of slot j) Silent
 
--- a record with one message more: it is one message that suits the slot, or bad, and bad where one more comes
+-- a record with one message more: it is one message that suits the slot, or bad, and bad where one
+-- more comes
 abbrev pub with_message : Bool → ℕ → Message → Sense → Sense
 with_message in_sync at m Silent = if tag_suits in_sync m.tag then One at m else Bad
 with_message in_sync at m (One before n) = Bad
@@ -113,7 +115,8 @@ convicted_rmus sizes records bius rmus =
 abbrev pub middle_in : Sizes → List Sense → ℕ → Option ℕ
 middle_in sizes records rmus = middle_of (present (each_node (recorded_of stamp_in records rmus (sync_slot_of sizes))))
 
--- the first frame: the one after the frame of the lesson, with its first tick, and the trusted nodes less the convicted
+-- the first frame: the one after the frame of the lesson, with its first tick, and the trusted
+-- nodes less the convicted
 abbrev pub first_by : Sizes → Plan → Lesson → ℕ → ℕ → ℕ → First
 first_by sizes plan lesson bius rmus k2 = record {
   frame = frame_after lesson.frame;

@@ -13,7 +13,8 @@ use Rattle.rb_listen.specs.declared.listener.Stage.{Stage}
 use Rattle.rb_listen.specs.declared.listener.Stage.TheVariants.{Searching, Waiting, Following}
 use Rattle.rb_listen.specs.declared.search.Search.{Search}
 
--- what a listener is seen as: the bus, what it does, what it heard while it searched, and what it follows by
+-- what a listener is seen as: the bus, what it does, what it heard while it searched, and what it
+-- follows by
 pub record Hearer : Type 0 where
   pub sizes : Sizes
   pub plan : Plan
@@ -35,12 +36,13 @@ abbrev pub IsAhead : ℕ → Option ℕ → Type 0
 IsAhead had None = Unit {0}
 IsAhead had (Some tick) = had ≤ tick
 
--- what holds of a search between two calls: it has no more ticks than a listener can have, and stamps don't run ahead of them
+-- what holds of a search between two calls: it has no more ticks than a listener can have, and
+-- stamps don't run ahead of them
 pub record IsSearching (s : Search) : Type 0 where
   pub most : s.had ≤ 2 ^ 31
   pub soon : AreSoon s.lesson.records
 
--- what holds of a listener that has waited so many ticks for its first frame
+-- what holds of a listener that has waited `had` ticks for its first frame
 pub record IsWaiting (had : ℕ) (first : First) : Type 0 where
   pub frame : first.frame < 65536
   pub ahead : had ≤ first.epoch
@@ -77,7 +79,8 @@ had_in Following s n = n.had
 abbrev pub had_at : Hearer → ℕ
 had_at h = had_in h.stage h.search h.follower
 
--- the number up to which ticks may pass: that of the next tick that isn't quiet, or of ticks that a listener can have
+-- the number up to which ticks may pass: that of the next tick that isn't quiet, or of ticks that a
+-- listener can have
 abbrev pub end_in : Stage → Search → Running → ℕ
 end_in Searching s n = unwrap_or (in_time (decision_of s)) (2 ^ 31)
 end_in (Waiting first) s n = unwrap_or (in_time (Some first.epoch)) (2 ^ 31)

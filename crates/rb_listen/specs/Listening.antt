@@ -1,6 +1,6 @@
--- A passive listener. It starts at any time and knows nothing but the plan. First it seeks: at the first pass it begins to learn the
--- frame after that of the pass. From one whole frame it learns whom the bus trusts and when the next frame begins, and from there
--- it follows.
+-- A passive listener. It starts at any time and knows nothing but the plan. First it seeks: at the
+-- first pass it begins to learn the frame after that of the pass. From one whole frame it learns
+-- whom the bus trusts and when the next frame begins, and from there it follows.
 use Rattle.std.specs.Prelude.{ℕ, zero, suc, ◌≡◌, ◌+◌, ◌^◌, ◌==◌, ◌&&◌, nat_le, nat_lt, Bool, true, false, Option, Some, None, is_some, option_and_then, List, [], ◌∷◌, replicate, slice_set}
 use Rattle.rb_base.specs.Nodes.Side.{Biu}
 use Rattle.rb_base.specs.Sizes.{Sizes}
@@ -17,8 +17,8 @@ use Rattle.rb_listen.specs.declared.lesson.First.{First}
 use Rattle.rb_listen.specs.declared.lesson.Lesson.{Lesson}
 use Rattle.rb_listen.specs.declared.search.Search.{Search}
 
--- it seeks or learns; or it has decided and waits for the first tick of the first frame that it follows, having had so many ticks; or
--- it follows
+-- what a listener is: it seeks or learns; or it has decided and waits for the first tick of the
+-- first frame that it follows, having had `had` ticks; or it follows
 pub data Listening : Type 0 where
   Searching : (search : Search) → Listening
   Waiting : (had : ℕ) (first : First) → Listening
@@ -38,8 +38,9 @@ learning frame s = record s { learns = true; lesson = lesson_on frame }
 abbrev pub timed : ℕ → Lesson → Lesson
 timed tick lesson = elim (is_some lesson.decides) [ true ↦ lesson | false ↦ record lesson { decides = Some tick } ]
 
--- a pass for the frame that it learns fixes that tick; one for the frame before that changes nothing; at any other it begins to
--- learn the frame after that of the pass, and so it does at any where it learns none
+-- a pass for the frame that it learns fixes that tick; one for the frame before that changes
+-- nothing; at any other it begins to learn the frame after that of the pass, and so it does at any
+-- where it learns none
 abbrev pub with_pass : Plan → ℕ → Search → Search
 with_pass plan frame s =
     elim (s.learns && (frame == s.lesson.frame)) [
@@ -74,7 +75,8 @@ abbrev pub if_message : Sizes → Plan → ℕ → Option Message → Search →
 if_message sizes plan j None s = s
 if_message sizes plan j (Some m) s = with_message sizes plan j m s
 
--- bytes that no message spells change nothing, nor do those of an index that no RMU has, nor any once it has had 2^31 ticks
+-- bytes that no message spells change nothing, nor do those of an index that no RMU has, nor any
+-- once it has had 2^31 ticks
 unfoldable pub searching : Sizes → Plan → ℕ → List ℕ → Search → Search
 searching sizes plan from bytes s =
     elim (nat_lt from sizes.rmus && nat_lt s.had (2 ^ 31)) [ true ↦ if_message sizes plan from (message_in plan.version bytes) s | false ↦ s ]
@@ -102,7 +104,8 @@ untold l = record { listening = l; heed = no_heed }
 abbrev pub later : Search → Search
 later s = record s { had = s.had + 1 }
 
--- it decides: it waits for the first tick, where that comes after the decision. Else it learns the frame after the lesson's
+-- it decides: it waits for the first tick, where that comes after the decision. Else it learns the
+-- frame after the lesson's
 abbrev pub if_after : Search → First → Bool → Listening
 if_after s first after = elim after [ true ↦ Waiting (s.had + 1) first | false ↦ Searching (learning (frame_after s.lesson.frame) (later s)) ]
 
@@ -132,7 +135,7 @@ abbrev pub wait_on : Sizes → Plan → ℕ → First → Bool → Heeding
 wait_on sizes plan had first begins =
     elim begins [ true ↦ followed (follow sizes plan (first_core sizes first)) | false ↦ untold (Waiting (had + 1) first) ]
 
--- a listener that has had so many ticks is spent: nothing changes it any more
+-- a listener that has had `had` ticks, 2^31 or more, is spent: nothing changes it any more
 abbrev pub is_over : ℕ → Bool
 is_over had = nat_le (2 ^ 31) had
 
@@ -143,12 +146,12 @@ heed sizes plan (Waiting had first) =
     elim (is_over had) [ true ↦ untold (Waiting had first) | false ↦ wait_on sizes plan had first (first.epoch == had) ]
 heed sizes plan (Following c) = followed (follow sizes plan c)
 
--- so many ticks
+-- a listener after a number of ticks
 abbrev pub heeds : Sizes → Plan → ℕ → Listening → Listening
 heeds sizes plan zero l = l
 heeds sizes plan (suc n) l = heeds sizes plan n (heed sizes plan l).listening
 
--- so many ticks tell nothing
+-- a number of ticks tell nothing
 abbrev pub TellNothing : Sizes → Plan → ℕ → Listening → Type 0
 TellNothing sizes plan zero l = Unit {0}
 TellNothing sizes plan (suc n) l = ((heed sizes plan l).heed ≡ no_heed) × TellNothing sizes plan n (heed sizes plan l).listening
@@ -176,7 +179,8 @@ in_time (Some tick) = elim (nat_lt tick (2 ^ 31)) [ true ↦ Some tick | false �
 abbrev pub decision_of : Search → Option ℕ
 decision_of s = elim s.learns [ true ↦ s.lesson.decides | false ↦ None ]
 
--- the first tick from the next on that isn't quiet: it decides, begins to follow, begins a frame, or closes a window
+-- the first tick from the next on that isn't quiet: it decides, begins to follow, begins a frame,
+-- or closes a window
 abbrev pub next_heed : Sizes → Plan → Listening → Option ℕ
 next_heed sizes plan (Searching s) = in_time (decision_of s)
 next_heed sizes plan (Waiting had first) = in_time (Some first.epoch)

@@ -73,7 +73,7 @@ pub(crate) fn window_of(engine: &Engine<Biu>, tick: u64) -> Window
     }
 }
 
-// Of two ticks the sooner, where the second is there and isn't over.
+// The earlier of two ticks: `candidate` is ignored if it is absent or over.
 fn sooner(before: u64, had: u64, candidate: Option<u64>) -> u64
     requires { had ≤ before }
     ensures { IsSooner had candidate before result }
@@ -107,7 +107,7 @@ pub(crate) fn is_tick(tick: Option<u64>, now: u64) -> bool
     }
 }
 
-// What is ahead of a follower that has had so many ticks.
+// What is ahead of a follower that has had `had` ticks.
 #[inline(always)]
 pub(crate) fn look_ahead(engine: &Engine<Biu>, had: u64) -> Ahead
     requires epoch { engine.now.state.epoch ≤ had }

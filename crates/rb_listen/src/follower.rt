@@ -172,9 +172,9 @@ impl Follower {
         }
     }
 
-    /// So many quiet ticks pass, at once: at most up to the tick that `next_tick` gives, which is
-    /// not among them, and where it gives none, up to the last that a listener can have. It leaves
-    /// what so many calls of `step` leave, which give nothing.
+    /// Lets `ticks` quiet ticks pass at once: at most up to the tick that `next_tick` gives, which
+    /// is not among them, and if it gives none, up to the last that a listener can have. It leaves
+    /// what as many calls of `step` leave, which give nothing.
     pub fn pass(&mut self, ticks: u64)
         requires { self.old.had + ticks ≤ passing_end self.old }
         ensures value { self.new ≡ record self.old { had = self.old.had + ticks } }

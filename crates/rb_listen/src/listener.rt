@@ -27,7 +27,7 @@ pub enum Stage {
 
 /// A passive listener: a device that hears what the RMUs send to one BIU, and sends nothing. It
 /// starts at any time and knows nothing but the plan of the bus. First it seeks the frame that the
-/// bus is in, by the calls to resynchronise of most RMUs; then it learns one whole frame, and from
+/// bus is in, by the calls to resynchronize of most RMUs; then it learns one whole frame, and from
 /// that frame whom the bus trusts and when the next frame begins; then it follows the bus, as a BIU
 /// without a number that says nothing. Ticks are those of the listener's own clock.
 #[derive(Drop)]
@@ -215,7 +215,7 @@ impl Listener {
 
     /// A tick of the listener's clock. While it learns it decides at the tick that a pass fixed: it
     /// waits for the first frame after the one that it learned, or learns the next where none can
-    /// be known. With its first epoch it begins to follow. It tells of each frame that begins, and
+    /// be known. With its first epoch it begins to follow. It tells of each frame that starts, and
     /// of what it delivers in the window that it closes. A listener that has had 2^31 ticks tells
     /// nothing and does not change.
     pub fn tick(&mut self) -> Heed
@@ -232,9 +232,9 @@ impl Listener {
         }
     }
 
-    /// So many quiet ticks pass, at once: at most up to the tick that `next_tick` gives, which is
-    /// not among them, and where it gives none, up to the last that a listener can have. It leaves
-    /// what so many calls of `tick` leave, which tell nothing.
+    /// Lets `ticks` quiet ticks pass at once: at most up to the tick that `next_tick` gives, which
+    /// is not among them, and if it gives none, up to the last that a listener can have. It leaves
+    /// what as many calls of `tick` leave, which tell nothing.
     pub fn pass(&mut self, ticks: u64)
         requires { had_at self.old + ticks ≤ passing_end self.old }
         ensures stands { (l : Listening) → IsListening self.old l

@@ -1,4 +1,4 @@
-//! When a frame of the bus comes to its end, by the newest calls to resynchronise of the RMUs.
+//! When a frame of the bus comes to its end, by the newest calls to resynchronize of the RMUs.
 ghost use Rattle.std.specs.Prelude.{◌≡◌, ◌<◌, ◌≤◌, None, get_or};
 ghost use Rattle.rb_listen.specs.Passes.{are_most, begins_pass, calling, falls_in, frame_in, is_call, is_sync, pass_of, reach_of};
 
@@ -6,7 +6,7 @@ use rb_base::{NodeId, NodeSet, Rmu, Shape};
 use rb_plan::Feasible;
 use rb_rules::{Message, Tag};
 
-/// A call to resynchronise that an RMU sent to the BIUs: the number of its frame, modulo 65536, and
+/// A call to resynchronize that an RMU sent to the BIUs: the number of its frame, modulo 65536, and
 /// the stamp with which it came.
 #[derive(Clone, Copy, Debug, PartialEq, Eq)]
 pub struct Call {

@@ -151,7 +151,7 @@ fn learn_next(search: &mut Search)
     learn(search, next);
 }
 
-// The listener decides by its lesson: it waits for the first frame, where that begins after the
+// The listener decides by its lesson: it waits for the first frame, where that starts after the
 // decision. Else it learns the next.
 fn decide(search: &mut Search, plan: &Feasible) -> Stage
     requires soon { AreSoon search.old.lesson.records }
@@ -167,7 +167,7 @@ fn decide(search: &mut Search, plan: &Feasible) -> Stage
     }
 }
 
-// The listener waits for the first frame that it follows, where that begins after the decision.
+// The listener waits for the first frame that it follows, where that starts after the decision.
 fn wait(search: &mut Search, first: First) -> Stage
     requires soon { AreSoon search.old.lesson.records }
     requires had { search.old.had < 2 ^ 31 }

@@ -23,7 +23,7 @@ drops (suc n) zero events few = absurd (omega arith)
 drops (suc n) (suc zeros) events few =
     let e : suc zeros - suc n ≡ zeros - n = omega arith in rw e (drops n zeros events (omega arith))
 
--- so many of the ticks of the record before are passed
+-- n of the ticks of the record before are passed
 pub some_passed : (c : Cursor) (n : ℕ) → n ≤ c.zeros → (events_left (record c { zeros = c.zeros - n }) ≡ drop n (events_left c))
     × (quiet_in_front (events_left c) ≡ n + quiet_in_front (events_left (record c { zeros = c.zeros - n })))
 unfolding events_left events_behind
@@ -80,7 +80,7 @@ no_front c entry none is zeros some inside s = go (is_end entry) refl where
       rw (left_is c none ∙ (passes c (size_of entry) (ticks_of entry) entry is end refl refl inside s).1)
       (other_front c.bytes.now c.place entry _ end some zeros)
 
--- so many of the ticks in front, and what is left behind them
+-- the first n of the ticks in front, and what is behind them
 pub split_front : (n : ℕ) (events : List CoreEvent) → n ≤ quiet_in_front events → events ≡ replicate n (event.Tick 0) ++ drop n events
 split_front zero events few = refl
 split_front (suc n) [] few = absurd (omega arith)

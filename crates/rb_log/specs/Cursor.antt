@@ -32,7 +32,8 @@ events_in (Err fault) = []
 unfoldable pub events_behind : Cursor → List CoreEvent
 events_behind c = events_in (events_at c.senders c.bytes.now c.place c.ticks)
 
--- the events that are left: ticks with word 0 of the record that was begun, and those of the records behind it
+-- the events that are left: ticks with word 0 of the record that was begun, and those of the
+-- records behind it
 unfoldable pub events_left : Cursor → List CoreEvent
 events_left c = replicate c.zeros (event.Tick 0) ++ events_behind c
 

@@ -1,5 +1,5 @@
--- The records of a log. The first byte says which record it is: 1 one tick and its word, 2 so many ticks with word 0, 3 the
--- arrival of a message, 4 the end of the log.
+-- The records of a log. The first byte says which record it is: 1 one tick and its word, 2 a number
+-- of ticks with word 0, 3 the arrival of a message, 4 the end of the log.
 use Rattle.std.specs.Prelude.{⊤, ℕ, zero, suc, ◌+◌, ◌-◌, ◌≡◌, ◌<◌, ◌≤◌, Bool, true, false, nat_le, nat_lt, ◌==◌, List, [], ◌∷◌, ◌++◌, length, slice_range, Option, Some, None, Result, Ok, Err, if◌then◌else◌}
 use Rattle.std.proofs.Math.ListN.{replicate}
 use Rattle.rb_rules.specs.Core.{CoreEvent}
@@ -11,8 +11,8 @@ use Rattle.rb_log.specs.declared.entry.Entry.TheVariants.{Tick, Ticks, Arrival, 
 use Rattle.rb_log.specs.declared.refusal.LogRefusal.{LogRefusal}
 use Rattle.rb_log.specs.declared.refusal.LogRefusal.TheVariants.{BadField, Truncated, AfterEnd}
 
--- the fields after the first byte. Senders are below `senders`; the length is looked at after the sender, and then the bytes
--- themselves, of which any will do
+-- the fields after the first byte. Senders are below `senders`; the length is looked at after the
+-- sender, and then the bytes themselves, of which any will do
 unfoldable pub tick_in : List ℕ → ℕ → Result Entry LogRefusal
 tick_in bytes place = do
   word ← field bytes (place + 1) 4 0 4294967295
@@ -69,21 +69,24 @@ is_end (Ticks count) = false
 is_end (Arrival from size) = false
 is_end End = true
 
--- the events of a record before the others. No byte follows the end, and a log has at most 2^31 ticks
+-- the events of a record before the others. No byte follows the end, and a log has at most 2^31
+-- ticks
 abbrev pub after : List ℕ → ℕ → ℕ → Entry → Result (List CoreEvent) LogRefusal → Result (List CoreEvent) LogRefusal
 after bytes place ticks entry others =
     if is_end entry
     then (if nat_lt (place + 1) (length bytes) then Err (AfterEnd (place + 1)) else Ok [])
     else (if nat_le (ticks + ticks_of entry) 2147483648 then before (events_of bytes place entry) others else Err (BadField place))
 
--- the events of at most so many records from a place on, before which the log had so many ticks, or the first fault
+-- the events of at most `most` records from `place` on, before which the log had `ticks` ticks, or
+-- the first fault
 unfoldable pub events_from : ℕ → ℕ → List ℕ → ℕ → ℕ → Result (List CoreEvent) LogRefusal
 events_from zero senders bytes place ticks = Err (Truncated (length bytes))
 events_from (suc most) senders bytes place ticks = do
   entry ← entry_at senders bytes place
   after bytes place ticks entry (events_from most senders bytes (place + size_of entry) (ticks + ticks_of entry))
 
--- the events of all records from there on. Each has a byte at least, so that there are no more of them than bytes
+-- the events of all records from there on. Each has a byte at least, so that there are no more of
+-- them than bytes
 unfoldable pub events_at : ℕ → List ℕ → ℕ → ℕ → Result (List CoreEvent) LogRefusal
 events_at senders bytes place ticks = events_from (length bytes) senders bytes place ticks
 

@@ -4,7 +4,7 @@ use Rattle.byteorder.specs.Endian.{big_number}
 use Rattle.rb_log.specs.declared.refusal.LogRefusal.{LogRefusal}
 use Rattle.rb_log.specs.declared.refusal.LogRefusal.TheVariants.{BadField, Truncated}
 
--- the number in so many bytes from a place on
+-- the number in `size` bytes from `place` on
 unfoldable pub number_at : List ℕ → ℕ → ℕ → ℕ
 number_at bytes place size = big_number size (drop place bytes)
 
@@ -14,8 +14,8 @@ abbrev pub ◌>>=◌ : {A B : Type 0} → Result A LogRefusal → (A → Result 
 Ok x >>= next = next x
 Err fault >>= next = Err fault
 
--- the number of the field of so many bytes at a place. It is refused where the bytes end before the field does, and where
--- the number is out of bounds
+-- the number of the field of `size` bytes at `place`. It is refused if the bytes end before the
+-- field does, or if the number is not between `low` and `high`
 unfoldable pub field : List ℕ → ℕ → ℕ → ℕ → ℕ → Result ℕ LogRefusal
 field bytes place size low high =
     let number = number_at bytes place size in

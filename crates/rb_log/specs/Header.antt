@@ -1,5 +1,6 @@
--- The header of a log: a magic of four bytes, the sizes of the bus, its plan, and whose log it is. Form 2 adds the version of
--- messages, the number of the bus and the probation; in form 1 the version is One and nothing lapses.
+-- The header of a log: a magic of four bytes, the sizes of the bus, its plan, and whose log it is.
+-- Form 2 adds the version of messages, the number of the bus and the probation; in form 1 the
+-- version is One and nothing lapses.
 use Rattle.std.specs.Prelude.{ℕ, ◌-◌, Bool, true, false, ◌&&◌, ◌==◌, is_none, List, [], ◌∷◌, ◌++◌, codes, Result, Ok, Err, if◌then◌else◌}
 use Rattle.std.specs.List.{flat_map}
 use Rattle.byteorder.specs.Endian.{big_bytes, big_number}

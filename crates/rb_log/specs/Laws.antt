@@ -15,8 +15,8 @@ use Rattle.rb_log.specs.LogText.{Log, log_in, senders_of}
 use Rattle.rb_log.specs.Spelling.{SpellsLog}
 use Rattle.rb_log.specs.Writing.{given, ticks_given, written}
 
--- what can happen at a node: a word has four bytes, and is 0 where none was wanted; what arrives is of a node of the bus and has
--- 1 to 32 bytes
+-- what can happen at a node: a word has four bytes, and is 0 where none was wanted; what arrives is
+-- of a node of the bus and has 1 to 32 bytes
 abbrev pub MayHappen : ℕ → EventKind → Type 0
 MayHappen senders (Tick word true) = word < 2 ^ 32
 MayHappen senders (Tick word false) = word ≡ 0
@@ -26,7 +26,7 @@ abbrev pub ticks_in : List Event → ℕ
 ticks_in [] = 0
 ticks_in (e ∷ events) = ticks_given e + ticks_in events
 
--- the numbers are those of a bus, the node is on it, and so many events can happen there
+-- the numbers are those of a bus, the node is on it, and this number of events can happen there
 pub record IsTellable (t : Timetable) (node : NodeName) (events : List Event) : Type 0 where
   pub shape : IsShape t.sizes
   pub plan : IsPlan t.plan
@@ -36,7 +36,8 @@ pub record IsTellable (t : Timetable) (node : NodeName) (events : List Event) : 
   pub happen : All (λ e. MayHappen (senders_of t node) e.kind) events
   pub ticks : ticks_in events ≤ 2147483648
 
--- a header and what the writer gives for the events is a log, which says these numbers, this node and these events
+-- a header and what the writer gives for the events is a log, which says these numbers, this node
+-- and these events
 abbrev pub WrittenIsRead : Type 0
 WrittenIsRead = (t : Timetable) (node : NodeName) (events : List Event) → IsTellable t node events
     → log_in (header_of t node ++ written 0 events) ≡ Ok (record { timetable = t; node = node; events = flat_map given events })

@@ -1,5 +1,5 @@
--- How a log is spelled, as a relation that knows neither writer nor reader: a header of either form, records of any kind in any
--- order, and the end.
+-- How a log is spelled, as a relation that knows neither writer nor reader: a header of either
+-- form, records of any kind in any order, and the end.
 use Rattle.std.specs.Prelude.{ℕ, ◌+◌, ◌^◌, ◌≡◌, ◌≤◌, ◌<◌, ◌⊎◌, true, List, [], ◌∷◌, ◌++◌, All, length, codes}
 use Rattle.std.specs.List.{flat_map}
 use Rattle.std.proofs.Math.ListN.{replicate}
@@ -14,7 +14,8 @@ use Rattle.rb_plan.specs.Timetable.{Timetable}
 use Rattle.rb_log.specs.Header.{common_bytes, has_first_form, version_bytes}
 use Rattle.rb_log.specs.LogText.{Log, senders_of}
 
--- what a record says: one tick and its word, so many ticks with word 0, a message that arrived
+-- what a record says: one tick and its word, a number of ticks with word 0, or a message that
+-- arrived
 pub data Told : Type 0 where
   OneTick : (word : ℕ) → Told
   ManyTicks : (count : ℕ) → Told
@@ -54,7 +55,8 @@ SpellsHeader header t node =
     ((has_first_form t.plan ≡ true) × (header ≡ codes "RBL1" ++ common_bytes t node))
     ⊎ (header ≡ codes "RBL2" ++ common_bytes t node ++ version_bytes t.plan.version ++ big_bytes 2 t.plan.probation)
 
--- the numbers are those of a bus, the node is on it, and the bytes are a header, records and an end that say the events
+-- the numbers are those of a bus, the node is on it, and the bytes are a header, records and an end
+-- that say the events
 pub record SpellsLog (bytes : List ℕ) (log : Log) : Type 0 where
   pub shape : IsShape log.timetable.sizes
   pub plan : IsPlan log.timetable.plan

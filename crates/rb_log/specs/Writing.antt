@@ -1,5 +1,6 @@
--- How the writer spells events. A tick whose word was wanted is a record of its own. Ticks whose word was not wanted, and with
--- them quiet ticks, gather until an arrival, a wanted tick or the end comes, and are then one record.
+-- How the writer spells events. A tick whose word was wanted is a record of its own. Ticks whose
+-- word was not wanted, and with them quiet ticks, gather until an arrival, a wanted tick or the end
+-- comes, and are then one record.
 use Rattle.std.specs.Prelude.{⊤, ℕ, ◌+◌, ◌≤◌, ◌==◌, true, false, List, [], ◌∷◌, ◌++◌, length, if◌then◌else◌}
 use Rattle.std.proofs.Math.ListN.{replicate}
 use Rattle.byteorder.specs.Endian.{big_bytes}
@@ -9,11 +10,11 @@ use Rattle.rb_base.specs.declared.event.EventKind.TheVariants.{Tick, Arrive}
 use Rattle.rb_rules.specs.Core.{CoreEvent}
 use Rattle.rb_rules.specs.Core as core
 
--- so many ticks that gathered
+-- the record of `ticks` gathered ticks, if there are any
 abbrev pub gathered : ℕ → List ℕ
 gathered ticks = if ticks == 0 then [] else 2 ∷ big_bytes 4 ticks
 
--- the bytes that are complete with what happens, after so many ticks that gathered
+-- the bytes that are complete with what happens, after `ticks` gathered ticks
 abbrev pub bytes_with : ℕ → EventKind → List ℕ
 bytes_with ticks (Tick word true) = gathered ticks ++ 1 ∷ big_bytes 4 word
 bytes_with ticks (Tick word false) = []
@@ -25,7 +26,7 @@ waiting_with ticks (Tick word true) = 0
 waiting_with ticks (Tick word false) = ticks + 1
 waiting_with ticks (Arrive from bytes) = 0
 
--- the records of the events, while so many ticks wait
+-- the records of the events, while `waiting` ticks wait
 abbrev pub written : ℕ → List Event → List ℕ
 written waiting [] = gathered waiting ++ 4 ∷ []
 written waiting (e ∷ events) = bytes_with (waiting + e.quiet) e.kind ++ written (waiting_with (waiting + e.quiet) e.kind) events

@@ -77,8 +77,8 @@ impl<'a> Cursor<'a> {
         }
     }
 
-    // Passes what is left of the ticks with word 0 of the record before, at most so many, and gives
-    // their number.
+    // Passes what is left of the ticks with word 0 of the record before, at most `most` of them,
+    // and gives their number.
     fn pass_zeros(&mut self, most: u64) -> u64
         requires { IsSound self.old }
         ensures sound { IsSound self.new }
@@ -118,8 +118,8 @@ impl<'a> Cursor<'a> {
         true
     }
 
-    /// Passes the ticks with word 0 that stand in a row at the front, at most so many, and gives
-    /// their number. A record of many ticks is passed in one step.
+    /// Passes the ticks with word 0 that are in a row at the front, at most `most` of them, and
+    /// gives their number. A record of many ticks is passed in one step.
     pub fn skip(&mut self, most: u64) -> u64
         requires { IsSound self.old }
         ensures sound { IsSound self.new }

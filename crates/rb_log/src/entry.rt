@@ -11,7 +11,7 @@ use rb_base::MOST_TICKS;
 pub(crate) enum Entry {
     /// One tick and its word.
     Tick(u32),
-    /// So many ticks with word 0.
+    /// This number of ticks with word 0.
     Ticks(u32),
     /// The arrival of a message of `size` bytes from node `from` of the other kind.
     Arrival { from: u8, size: u8 },

@@ -8,7 +8,7 @@ pub enum LogRefusal {
     /// The first four bytes are those of no log.
     #[error("these are not the first bytes of a log")]
     BadMagic,
-    /// The field that begins there has a number that it may not have.
+    /// The field that starts there has a number that it may not have.
     #[error("the field at byte {0} may not have this number")]
     BadField(u64),
     /// The bytes end there inside the header, inside a record or where a record must begin.

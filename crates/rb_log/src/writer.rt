@@ -23,7 +23,7 @@ fn push_number(bytes: &mut ArrayVec<u8, 64>, number: u32)
     };
 }
 
-// The record of so many ticks that gathered, if there are any.
+// The record of `ticks` gathered ticks, if there are any.
 fn gathered(ticks: u32) -> ArrayVec<u8, 64>
     ensures items { result.items ≡ gathered ticks }
     ensures len { array_vec_len result ≤ 5 }
@@ -36,7 +36,7 @@ fn gathered(ticks: u32) -> ArrayVec<u8, 64>
     bytes
 }
 
-// The bytes that are complete with what happens, after so many ticks that gathered.
+// The bytes that are complete with what happens, after `ticks` gathered ticks.
 fn bytes_with(ticks: u32, kind: &EventKind) -> ArrayVec<u8, 64>
     ensures { result.items ≡ bytes_with ticks kind.now }
 {

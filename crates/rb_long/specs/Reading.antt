@@ -42,7 +42,8 @@ abbrev pub with_part : List ℕ → Option OpenLetter → Read
 with_part part None = keeps None
 with_part part (Some letter) = with_bytes letter.wanted (letter.bytes ++ part)
 
--- a word: 0 says nothing, a first word drops the open letter and opens one, and any word that spells nothing drops it
+-- a word: 0 says nothing, a first word drops the open letter and opens one, and any word that
+-- spells nothing drops it
 abbrev pub with_word : ℕ → Option OpenLetter → Read
 with_word word letter =
     elim (word == 0) [

@@ -6,7 +6,7 @@ use Rattle.rb_long.specs.Spelling.{is_length, parts_in, spelling_of}
 abbrev pub spelling_in : ArrayVec ℕ → List ℕ
 spelling_in letter = spelling_of letter.items
 
--- the words that are still to come where so many of the first letter's were given
+-- the words that are still to come if `sent` words of the first letter were given
 abbrev pub waiting_in : ℕ → List (ArrayVec ℕ) → List (List ℕ)
 waiting_in sent [] = []
 waiting_in sent (letter ∷ letters) = drop sent (spelling_in letter) ∷ map spelling_in letters

@@ -37,7 +37,7 @@ fn kept(letter: &[u8]) -> ArrayVec<u8, 255>
     bytes
 }
 
-// The word of the letter after so many.
+// The word of the letter after the first `sent` words.
 fn word_at(letter: &[u8], sent: u8) -> u32
     requires most { length letter.now ≤ 255 }
     requires more { sent ≤ parts_in (length letter.now) }
@@ -50,7 +50,7 @@ fn word_at(letter: &[u8], sent: u8) -> u32
     }
 }
 
-// Whether the letter has a word after so many and one more.
+// Whether the letter has a word after `sent` words and one more.
 fn has_more(letter: &[u8], sent: u8) -> bool
     requires { length letter.now ≤ 255 }
     ensures { result ≡ nat_lt sent (parts_in (length letter.now)) }

@@ -9,7 +9,7 @@ const FIRST: u32 = 1 << 24;
 
 const PART: u32 = 1 << 25;
 
-// Whether a letter may have so many bytes.
+// Whether a letter may have `count` bytes.
 pub(crate) fn is_length(count: usize) -> bool
     ensures { result ≡ is_length count }
 {
@@ -50,7 +50,7 @@ pub(crate) fn bytes_in(word: u32) -> [u8; 3]
     ]
 }
 
-// The word with which a letter of so many bytes begins.
+// The word with which a letter of `count` bytes begins.
 pub(crate) fn first_word(count: u8) -> u32
     ensures { result ≡ first_word count }
 {

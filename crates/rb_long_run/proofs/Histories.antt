@@ -143,7 +143,7 @@ hears-one all past line is = by (is_named line) refl
         named-one all past line (ltb-true line.receiver 16 parts.0) (ltb-true line.sender 16 parts.1) is
     by false named = unnamed all past line named is
 
--- Those of a slot.
+-- The words of a slot.
 
 pub hears-all : (all : Open) (past lines : List SlotLine) → Hears all past → Hears (with_lines all lines) (past ++ lines)
 hears-all all past [] is = subst (λ xs. Hears all xs) (sym (append-nil past)) is

@@ -1,4 +1,5 @@
--- For readers of the laws; no contract cites it yet: the letters of a run whose drive is plain are those of the records of the rounds.
+-- For readers of the laws; no contract cites it yet: the letters of a run whose drive is plain are
+-- those of the records of the rounds.
 use Rattle.std.proofs.Common.{◌≡◌, ℕ, true, Option, List, [], ◌++◌, refl, sym, ap, ◌∙◌, subst}
 use Rattle.rb_rules.specs.Goodness.{Scenario}
 use Rattle.rb_rules.specs.Rounds.{records_of}

@@ -9,7 +9,7 @@ use Rattle.rb_long.specs.Spelling.{parts_in, spelling_of}
 use Rattle.rb_long.proofs.Words.{words-in}
 use Rattle.rb_long.specs.Waiting.{next_word_of, without_word}
 
--- the words that are still to come after so many
+-- the words that are still to come after the first n
 abbrev pub left_of : ℕ → List ℕ → List (List ℕ)
 left_of n words = cond (nat_lt n (length words)) (drop n words ∷ []) []
 

@@ -21,7 +21,8 @@ use Rattle.rb_run.proofs.UnderWay.{IsUnderWay, are-all, are-given, begins, finis
 use Rattle.rb_world.specs.Nexts.{is_last}
 use Rattle.rb_world.specs.Worlds.{KeptWorld}
 
--- so many turns were given and written, the newest block being that of frame `newest`, and the run goes on
+-- `passed` turns were given and written, the newest block being that of frame `newest`, and the run
+-- goes on
 pub record IsWritten (sc : Scenario) (is_plain : Bool) (told since : Option (List Turn)) (k : KeptWorld) (held after : Option (List ℕ)) (newest passed : ℕ) (all : Open) : Type 0 where
   pub turns : List Turn
   pub given : IsUnderWay sc is_plain told since k turns false

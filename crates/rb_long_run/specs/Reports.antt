@@ -19,8 +19,9 @@ slot_text frame slot past [] = []
 slot_text frame slot past (line ∷ lines) =
     given_text frame slot line (letter_with past line) ++ slot_text frame slot (past ++ line ∷ []) lines
 
--- the text of records in order, after these deliveries, the newest block before them being that of frame `newest`. A run ends
--- with the block after its last frame, so the number of that block is that of the frames
+-- the text of records in order, after these deliveries, the newest block before them being that of
+-- frame `newest`. A run ends with the block after its last frame, so the number of that block is
+-- that of the frames
 abbrev pub letters_after : ℕ → List SlotLine → List Record → List ℕ
 letters_after newest past [] = []
 letters_after newest past (Frame frame nodes ports ∷ records) = letters_after frame past records

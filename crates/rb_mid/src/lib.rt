@@ -90,7 +90,7 @@ fn is_middle(stamps: &[u64], stamp: u64, range: &mut Range) -> bool
     true
 }
 
-// The same of a stamp that may be out of the range. Then it is not counted.
+// Whether the stamp is the middle. A stamp outside the range is not counted.
 fn is_found(stamps: &[u64], stamp: u64, range: &mut Range) -> bool
     requires few { length stamps.now ≤ 16 }
     requires range { IsWithin stamps.now range.old }

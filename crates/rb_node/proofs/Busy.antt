@@ -196,7 +196,7 @@ not-over had last before after k s le from =
     true-false : true ≡ false → ⊥
     true-false e = cc
 
--- so many steps lead from 2^31 to the tick; the last that changed something chose it
+-- seven steps lead from 2^31 to the tick; the last that changed something chose it
 pub record Soonest (me : Side) (v : Seated) (w : Window) (had b1 b2 b3 b4 b5 b6 : ℕ) : Type 0 where
   pub s1 : IsSooner had (Some v.state.epoch) (2 ^ 31) b1
   pub s2 : IsSooner had (Some (v.state.epoch + w.last)) b1 b2
@@ -252,7 +252,8 @@ soonest-is me v w had b1 b2 b3 b4 b5 b6 ticks epoch is s =
       here = λ k lo hi. here k lo hi ∙ is;
     }
 
--- Where the frame has begun, and no other is to begin, it is the window's last tick, or that of a message before.
+-- Where the frame has begun, and no other is to begin, it is the window's last tick, or that of a
+-- message before.
 
 over : (epoch had k : ℕ) → epoch < had → had ≤ k → (epoch == k) ≡ false
 over epoch had k lt le = grind (arith, nat_tests)

@@ -1,4 +1,4 @@
--- The begin of a frame, and what is wanted in its slots.
+-- The start of a frame, and what is wanted in its slots.
 use Rattle.std.proofs.Common.{◌≡◌, ℕ, ◌+◌, ◌-◌, ◌*◌, ◌≤◌, ◌==◌, ◌&&◌, nat_lt, Bool, true, false, refl, ap, sym, ◌∙◌, subst, arith, Option, Some, None, is_some, unwrap_or, if◌then◌else◌}
 use Rattle.std.specs.Option.{option_or}
 use Rattle.std.proofs.lemmas.Bool.Decides.{nat_tests}
@@ -156,7 +156,7 @@ want-first me v w k h is says =
     ∙ ap (λ m. want_for v.sizes (slot_wanted v.sizes (option_or m (option_or (stage_at me v w.slot 2 0 k) (stage_at me v w.slot 3 0 k))))) here
     ∙ ap (want_for v.sizes) (first-stage v.sizes out.0 w.slot (place-at me v w.slot 1 k out.0 here))
 
--- The window that begins.
+-- The window that starts.
 
 spans : (sizes : Sizes) (plan : Plan) (me : Side) (now : NodeState) (k frame epoch : ℕ) (w : Window) → now.frame ≡ frame → now.epoch ≡ epoch
     → window_here sizes plan me now k ≡ w

@@ -112,7 +112,7 @@ goes-on sizes plan me st had k ticks epoch later ends =
           ap (λ o. unwrap_or o (tail_at sizes plan me st)) (none (k - st.epoch) (omega arith) ∙ sym (none (had - st.epoch) (omega arith)))
     ]
 
--- a window ends before so many ticks
+-- a window ends before tick 400,000 of its frame
 pub ends-soon : (sizes : Sizes) (plan : Plan) (offset : ℕ) (w : Window) → sync_slot_of sizes ≤ 112 → IsPlan plan → window_at sizes plan offset ≡ Some w
     → w.last ≤ 400000
 ends-soon sizes plan offset w few is found =

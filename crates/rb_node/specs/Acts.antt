@@ -29,6 +29,6 @@ pub record IsWholeAct (version : Version) (g : Given) (x : Act) : Type 0 where
   pub closed : g.closed ≡ x.closed
   pub epoch : g.epoch ≡ x.epoch
 
--- a window that begins, as the rules have it
+-- a window that starts, as the rules have it
 abbrev pub span_in : Entered → Span
 span_in s = record { place = s.place; first = s.first; last = s.last }

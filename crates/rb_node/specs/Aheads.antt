@@ -23,14 +23,16 @@ pub record IsSooner (had : ℕ) (candidate : Option ℕ) (before after : ℕ) : 
   pub not_before : (k : ℕ) → had ≤ k → k < after → is_tick candidate k ≡ false
   pub either : (after ≡ before) ⊎ (is_tick candidate after ≡ true)
 
--- the same, where the candidate is the tick of a message of a stage; at one tick the lower stage comes first
+-- the same, where the candidate is the tick of a message of a stage; at one tick the lower stage
+-- comes first
 pub record IsChosen (had : ℕ) (candidate : Option ℕ) (stage : ℕ) (before after : Busy) : Type 0 where
   pub later : had ≤ after.tick
   pub most : after.tick ≤ before.tick
   pub not_before : (k : ℕ) → had ≤ k → k < after.tick → is_tick candidate k ≡ false
   pub either : ((is_tick candidate after.tick ≡ true) × (after.stage ≡ stage)) ⊎ ((is_tick candidate after.tick ≡ false) × (after ≡ before))
 
--- the window after one below the sync slot: the next stage, or the next slot's first, as long as the plan's first windows are
+-- the window after one below the sync slot: the next stage, or the next slot's first, as long as
+-- the plan's first windows are
 abbrev pub following : Plan → Window → Window
 following plan w = elim (nat_lt w.stage 3) [
   | true ↦ record { slot = w.slot; stage = w.stage + 1; first = w.last + 1; last = w.last + plan.l }
@@ -49,7 +51,8 @@ tick_said me v slot stage = elim (is_some (message_said v.sizes me v.index v.sta
   | false ↦ None
 ]
 
--- the sooner tick, with the message said then, after a choice among the three stages of a slot, the last of them first
+-- the sooner tick, with the message said then, after a choice among the three stages of a slot, the
+-- last of them first
 pub record IsSaidNext (me : Side) (v : Seated) (slot had : ℕ) (before after : Busy) : Type 0 where
   pub third : Busy
   pub second : Busy
@@ -57,7 +60,8 @@ pub record IsSaidNext (me : Side) (v : Seated) (slot had : ℕ) (before after : 
   pub from_second : IsChosen had (tick_said me v slot 2) 2 third second
   pub from_first : IsChosen had (tick_said me v slot 1) 1 second after
 
--- at tick k the node says its message of this stage of the slot, the first that is due then; of stage 0, none
+-- at tick k the node says its message of this stage of the slot, the first that is due then; of
+-- stage 0, none
 pub data SaysIn (me : Side) (v : Seated) (slot k stage : ℕ) : Type 0 where
   Silent : stage ≡ 0 → is_tick (tick_said me v slot 1) k ≡ false → is_tick (tick_said me v slot 2) k ≡ false
       → is_tick (tick_said me v slot 3) k ≡ false → SaysIn me v slot k stage
@@ -80,7 +84,8 @@ want_at me v k = want_for v.sizes (slot_wanted v.sizes (said_at v.sizes v.plan m
 abbrev pub want_ahead : Side → Seated → ℕ → Want
 want_ahead me v k = if nat_lt k (2 ^ 31) then want_at me v k else want.Nothing
 
--- from tick `had` on all ticks before this one are quiet, and lie in one window with it. It is busy, unless it is 2^31
+-- from tick `had` on all ticks before this one are quiet, and lie in one window with it. It is
+-- busy, unless it is 2^31
 pub record IsNextBusy (me : Side) (v : Seated) (had tick : ℕ) : Type 0 where
   pub later : had ≤ tick
   pub most : tick ≤ 2 ^ 31
@@ -105,21 +110,22 @@ pub record ShowsTick (me : Side) (v : Seated) (k : ℕ) (a : Ahead) : Type 0 whe
   pub window : IsWindowOf me v k a.window
   pub stage : SaysIn me v a.window.slot k a.busy.stage
 
--- the window is one of a slot before the sync slot, and this tick is its last, which a node can have. When the next frame begins is not
--- known yet
+-- the window is one of a slot before the sync slot, and this tick is its last, which a node can
+-- have. When the next frame begins is not known yet
 pub record IsExactUntil (me : Side) (v : Seated) (w : Window) (k : ℕ) : Type 0 where
   pub last : k ≡ v.state.epoch + w.last
   pub soon : k < 2 ^ 31
   pub slot : w.slot < sync_slot_of v.sizes
   pub stays : is_some (new_epoch_of v.plan me v.state) ≡ false
 
--- all that happens at the busy tick is that the window ends, which is one of a slot before the sync slot. A node can have that tick
+-- all that happens at the busy tick is that the window ends, which is one of a slot before the sync
+-- slot. A node can have that tick
 abbrev pub is_alone : Side → Seated → Window → Busy → Bool
 is_alone me v w b =
     (b.stage == 0) && nat_lt w.slot (sync_slot_of v.sizes) && (v.state.epoch + w.last == b.tick) && nat_lt b.tick (2 ^ 31)
     && not (is_tick (new_epoch_of v.plan me v.state) b.tick)
 
--- what is kept is so for a node that has had so many ticks
+-- what is kept is so for a node that has had `had` ticks
 pub record LooksAhead (me : Side) (v : Seated) (had : ℕ) (a : Ahead) : Type 0 where
   pub next : IsNextBusy me v had a.busy.tick
   pub window : IsWindowOf me v had a.window
@@ -127,7 +133,8 @@ pub record LooksAhead (me : Side) (v : Seated) (had : ℕ) (a : Ahead) : Type 0 
   pub wants : a.want ≡ want_ahead me v a.busy.tick
   pub alone : a.alone ≡ is_alone me v a.window a.busy
 
--- what holds of a node between two calls: it is a node of its bus, its frame and its stamps don't run ahead of its ticks
+-- what holds of a node between two calls: it is a node of its bus, its frame and its stamps don't
+-- run ahead of its ticks
 pub record IsRunning (me : Side) (v : Seated) (had : ℕ) (inbox : KeptArrivals) (a : Ahead) : Type 0 where
   pub most : had ≤ 2 ^ 31
   pub index : v.index < 16

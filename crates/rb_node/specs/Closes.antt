@@ -6,8 +6,9 @@ use Rattle.rb_rules.specs.declared.plan.Window.{Window}
 use Rattle.rb_slot.specs.Engines.{IsSameFrame, outcome_on}
 use Rattle.rb_node.specs.Cores.{Running}
 
--- At the tick after those that it has had the node closes the window, if this is the window's last tick: whatever came that its inbox
--- stands for, it has the outcome as its state and shows it, and nothing is left in the inbox. Else nothing changes
+-- At the tick after those that it has had the node closes the window, if this is the window's last
+-- tick: whatever came that its inbox stands for, it has the outcome as its state and shows it, and
+-- nothing is left in the inbox. Else nothing changes
 pub record ClosesAtLast (me : Side) (window : Window) (before : Running) (closed : Bool) (after : Running) : Type 0 where
   pub closes : closed ≡ (before.had == before.seat.state.epoch + window.last)
   pub state : (received : List Received) → HoldsArrivals before.inbox received

@@ -7,8 +7,8 @@ use Rattle.rb_rules.specs.Sense.{Arrival}
 use Rattle.rb_eligible.specs.Inboxes.{KeptArrivals, Received, HoldsArrivals}
 use Rattle.rb_slot.specs.Engines.{Seated}
 
--- what a node is seen as: its seat on the bus with its state, how many ticks it has had, what is kept of the arrivals since its
--- last close, and what it showed of the window that it closed last
+-- what a node is seen as: its seat on the bus with its state, how many ticks it has had, what is
+-- kept of the arrivals since its last close, and what it showed of the window that it closed last
 pub record Running : Type 0 where
   pub seat : Seated
   pub had : ℕ
@@ -45,10 +45,12 @@ ticks_of me n count c = ticks n.seat.sizes n.seat.plan me n.seat.index count c
 abbrev pub next_of : Side → Running → Core → Option ℕ
 next_of me n c = next_tick n.seat.sizes n.seat.plan me n.seat.index c
 
--- the core that the node stands for if nothing came since its last close. Which ticks are quiet doesn't depend on what came
+-- the core that the node stands for if nothing came since its last close. Which ticks are quiet
+-- doesn't depend on what came
 abbrev pub bare_core : Running → Core
 bare_core n = record { state = n.seat.state; had = n.had; inbox = [] }
 
--- the number up to which ticks may pass: that of the next tick that isn't quiet, or of ticks that a node can have
+-- the number up to which ticks may pass: that of the next tick that isn't quiet, or of ticks that a
+-- node can have
 abbrev pub passing_end : Side → Running → ℕ
 passing_end me n = unwrap_or (next_of me n (bare_core n)) (2 ^ 31)

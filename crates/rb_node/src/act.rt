@@ -22,8 +22,8 @@ pub struct Act {
     pub epoch: Option<Epoch>,
 }
 
-/// The same in small: the frame that begins, the message that is sent, and whether a window was
-/// closed. What was seen in the window stays with the node.
+/// The small form of an act: the frame that starts, the message that is sent, and whether a window
+/// was closed. What was seen in the window stays with the node.
 #[derive(Clone, Copy, Debug, PartialEq, Eq)]
 pub struct Step {
     pub epoch: Option<Epoch>,

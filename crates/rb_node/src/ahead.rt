@@ -130,7 +130,7 @@ pub(crate) fn go_on<K: Kind>(engine: &Engine<K>, window: &mut Window, closed: bo
     }
 }
 
-// Of two ticks the sooner, where the second is there and isn't over.
+// The earlier of two ticks: `candidate` is ignored if it is absent or over.
 fn sooner(before: u64, had: u64, candidate: Option<u64>) -> u64
     requires { had ≤ before }
     ensures { IsSooner had candidate before result }
@@ -141,8 +141,8 @@ fn sooner(before: u64, had: u64, candidate: Option<u64>) -> u64
     }
 }
 
-// The same with the tick at which a message of the stage is sent, if the node has one to send. It
-// comes before those of later stages at the same tick.
+// The earlier of `before` and the tick at which a message of the stage is sent, if the node has one
+// to send. It comes before those of later stages at the same tick.
 #[inline(always)]
 fn sooner_due<K: Kind>(
     before: Busy,
@@ -170,7 +170,7 @@ fn sooner_due<K: Kind>(
     Busy { tick, stage }
 }
 
-// The same in any slot.
+// The earlier of `before` and the tick of the node's message in a stage of any slot.
 #[inline(always)]
 fn sooner_send<K: Kind>(before: Busy, had: u64, engine: &Engine<K>, slot: u16, stage: u8) -> Busy
     requires had { had ≤ before.tick }
@@ -186,8 +186,8 @@ fn sooner_send<K: Kind>(before: Busy, had: u64, engine: &Engine<K>, slot: u16, s
     }
 }
 
-// The same in a window below the sync slot, where only the message of the window's own stage can be
-// due.
+// The earlier of `before` and the tick of the node's message in a window below the sync slot, where
+// only the message of the window's own stage can be due.
 #[inline(always)]
 fn sooner_word<K: Kind>(before: Busy, had: u64, engine: &Engine<K>, window: &Window) -> Busy
     requires had { had ≤ before.tick }
@@ -204,7 +204,8 @@ fn sooner_word<K: Kind>(before: Busy, had: u64, engine: &Engine<K>, window: &Win
     sooner_due(before, had, engine, window.slot, window.stage, tick)
 }
 
-// The same in the sync slot, where what is due hangs on what the node took.
+// The earlier of `before` and the tick of the node's calls in the sync slot, where what is due
+// depends on what the node accepted.
 fn sooner_call<K: Kind>(before: Busy, had: u64, engine: &Engine<K>, slot: u16) -> Busy
     requires had { had ≤ before.tick }
     requires index { engine.now.index < 16 }
@@ -216,7 +217,8 @@ fn sooner_call<K: Kind>(before: Busy, had: u64, engine: &Engine<K>, slot: u16) -
     sooner_send(second, had, engine, slot, 1)
 }
 
-// The same in any window, which ends no sooner than the tick before.
+// The earlier of `before` and the tick of the node's message in any window, which ends no sooner
+// than the tick before.
 #[inline(always)]
 fn sooner_said<K: Kind>(before: Busy, had: u64, engine: &Engine<K>, window: &Window) -> Busy
     requires had { had ≤ before.tick }
@@ -295,7 +297,7 @@ fn want_at<K: Kind>(engine: &Engine<K>, window: &Window, busy: Busy) -> Want
     }
 }
 
-// The same, and nothing where no tick is to come.
+// What the node wants of the window that is ahead, and nothing if no tick is to come.
 fn want_ahead<K: Kind>(engine: &Engine<K>, window: &Window, busy: Busy) -> Want
     requires window { window.now ≡ window_of_tick (side_of K.CODE) engine.now busy.tick }
     requires stage { SaysIn (side_of K.CODE) engine.now window.now.slot busy.tick busy.stage }
@@ -322,7 +324,7 @@ fn is_alone<K: Kind>(engine: &Engine<K>, window: &Window, busy: Busy) -> bool
         && !is_tick(engine.new_epoch(), busy.tick)
 }
 
-// What is ahead of a node that has had so many ticks, the window being that of its next.
+// What is ahead of a node that has had `had` ticks. The window is that of its next tick.
 #[inline(always)]
 pub(crate) fn look_ahead<K: Kind>(engine: &Engine<K>, ahead: &mut Ahead, had: u64)
     requires index { engine.now.index < 16 }
@@ -337,7 +339,7 @@ pub(crate) fn look_ahead<K: Kind>(engine: &Engine<K>, ahead: &mut Ahead, had: u6
     ahead.busy = busy;
 }
 
-// The same in a call of its own.
+// Does what `look_ahead` does, in a call of its own.
 #[inline(never)]
 fn look_anew<K: Kind>(engine: &Engine<K>, ahead: &mut Ahead, had: u64)
     requires index { engine.now.index < 16 }
@@ -374,9 +376,9 @@ fn word_or_end<K: Kind>(engine: &Engine<K>, window: &Window, had: u64, last: u64
     )
 }
 
-// The same as `look_ahead` once the first tick of the frame is over. Before the sync slot only what
-// is said in the window, and its end, can be next. Were all looked for, a frame of the generated
-// run with seed 7 would cost 1,489,900 instructions in place of 1,383,200.
+// Does what `look_ahead` does, once the first tick of the frame is over. Before the sync slot only
+// what is said in the window, and its end, can be next. It is the short cut "look within a window"
+// of docs/PERFORMANCE.md.
 #[inline(always)]
 pub(crate) fn look_on<K: Kind>(engine: &Engine<K>, ahead: &mut Ahead, had: u64)
     requires index { engine.now.index < 16 }

@@ -215,7 +215,7 @@ impl<K: Kind> Node<K> {
         }
     }
 
-    /// The same with the bytes as numbers.
+    /// Does what `arrive` does, with the bytes as numbers.
     #[inline(always)]
     pub fn hear(&mut self, from: u8, bytes: &Spelling)
         ensures core { (c : Core) → IsCore self.old c
@@ -284,8 +284,8 @@ impl<K: Kind> Node<K> {
         }
     }
 
-    /// The same as a whole: the message as bytes of the plan's version, 11 or 12, and what was seen
-    /// of each source.
+    /// Gives the node a tick, and its act as a whole: the message as bytes of the plan's version,
+    /// 11 or 12, and what was seen of each source.
     pub fn tick(&mut self, word: u32) -> Act
         ensures core { (c : Core) → IsCore self.old c
             → IsCore self.new (tick_of (side_of K.CODE) self.old c word).core }
@@ -328,9 +328,9 @@ impl<K: Kind> Node<K> {
         true
     }
 
-    /// So many quiet ticks pass, at once: at most up to the tick that `next_tick` gives, which is
-    /// not among them, and where it gives none, up to the last that a node can have. It leaves what
-    /// so many calls of `tick` leave, which give nothing.
+    /// Lets `ticks` quiet ticks pass at once: at most up to the tick that `next_tick` gives, which
+    /// is not among them, and if it gives none, up to the last that a node can have. It leaves what
+    /// as many calls of `tick` leave, which give nothing.
     pub fn pass(&mut self, ticks: u64)
         requires { self.old.had + ticks ≤ passing_end (side_of K.CODE) self.old }
         ensures value { self.new ≡ record self.old { had = self.old.had + ticks } }
@@ -344,8 +344,8 @@ impl<K: Kind> Node<K> {
 }
 
 /// A list of events may be given to a node in parts: what the core is after them, and their acts,
-/// don't depend on where the list is cut, and ticks that pass are so many events with word 0. So
-/// whoever feeds a node one event after another has, after each, the core after all of them, and
+/// do not depend on where the list is cut, and each tick that passes is an event with word 0.
+/// Whoever feeds a node one event after another has, after each, the core after all of them, and
 /// their acts.
 pub fn events_come_in_parts()
     ensures { EventsComeInParts }

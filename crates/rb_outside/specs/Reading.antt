@@ -6,8 +6,8 @@ use Rattle.rb_outside.specs.Causes.{Rose}
 use Rattle.rb_outside.specs.declared.whole.Unread.{Unread}
 use Rattle.rb_outside.specs.declared.whole.Unread.TheVariants.{TooLong, Fault, OutOfMemory}
 
--- Ok: these are all the bytes that the source had left, and they are within the limit. Err: it gave more, or a call of it failed, or
--- memory ran out
+-- Ok: these are all the bytes that the source had left, and they are within the limit. Err: it gave
+-- more, or a call of it failed, or memory ran out
 pub record ReadsWithin {S : Type 0} (left : S → Option (List ℕ)) (faults : S → ℕ) (limit : ℕ) (before after : S) (result : Result (Vec ℕ Global) Unread) : Type 0 where
   pub whole : IfOk result (λ v. ReadsToEnd (left before) (left after) v.items)
   pub within : IfOk result (λ v. length v.items ≤ limit)

@@ -81,7 +81,7 @@ impl Model for MemSink {
 }
 
 impl MemSink {
-    /// An empty sink with room for so many bytes, of whose calls the listed ones fail.
+    /// An empty sink with room for `room` bytes, of whose calls the listed ones fail.
     pub fn new(alloc: Global, room: usize, failing: Vec<u64>) -> Result<MemSink, OutOfMemory>
         ensures { IfOk result (λ s. s ≡ record {
           held = [];
@@ -159,8 +159,8 @@ impl Model for ShortSink {
 }
 
 impl ShortSink {
-    /// An empty sink with room for so many bytes, which takes at most `step` of them a call, and of
-    /// whose calls the listed ones fail.
+    /// An empty sink with room for `room` bytes, which accepts at most `step` of them in a call,
+    /// and of whose calls the listed ones fail.
     pub fn new(
         alloc: Global,
         room: usize,

@@ -7,7 +7,7 @@ use Rattle.rb_picture.specs.Overview.{frames_of, slot_width}
 use Rattle.rb_picture.specs.Places.{slots_of}
 use Rattle.rb_picture.specs.Sheets.{IsSmall}
 
--- so many of a size that a test chooses have room where they have room with either answer
+-- n items of a size that a test chooses have room if they have room with either answer
 chosen : (test : Bool) (a b n most : ℕ) → (test ≡ true → a * n ≤ most) → (test ≡ false → b * n ≤ most) → (if test then a else b) * n ≤ most
 chosen true a b n most first second = first refl
 chosen false a b n most first second = second refl

@@ -142,7 +142,8 @@ pub record Untouched {S K : Type 0} (words : List (String Global)) (status : Sta
 
 -- The answers that must come.
 
--- for bytes that were read, where no write fails. Want of memory alone may come in their place
+-- the answers for bytes that were read, if no write fails. Only out of memory may be the answer in
+-- their place
 pub record CompletesOn (bytes : List ℕ) (status : Status) (writes writes' : ℕ) : Type 0 where
   pub drawn : (lines : List Line) → AllFit lines → IsReport bytes lines → ¬ Rose writes writes' → (status ≡ Done) ⊎ (status ≡ OutOfMemory)
   pub refused : ((lines : List Line) → ¬ IsReport bytes lines) → ¬ Rose writes writes' → (status ≡ Refused) ⊎ (status ≡ OutOfMemory)
@@ -158,7 +159,8 @@ pub record Completes (words : List (String Global)) (status : Status) (left : Op
   pub drawn : (frames : Frames) (input : List ℕ) → AskFor words (Draw frames) → IsReadable input left reads reads' → CompletesOn input status writes writes'
   pub shown : (flag : Flag) → AskFor words (Show flag) → ¬ Rose writes writes' → status ≡ Done
 
--- All that is said of an answer. The source tells what it has left, the sink what it holds, and each counts its faults.
+-- All that is said of an answer. The source tells what it has left, the sink what it holds, and
+-- each counts its faults.
 
 -- a text is written with this answer, or of it a first part
 pub record TextAnswers {K : Type 0} (held : K → Option (List ℕ)) (writes : K → ℕ) (sink sink' : K) (status end : Status) (text : List ℕ) : Type 0 where

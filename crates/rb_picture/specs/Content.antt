@@ -43,7 +43,8 @@ pub record Attribute : Type 0 where
   pub key : Key
   pub value : List ℕ
 
--- what stands in an element: nothing, or text, or an element with what stands in it, each with what follows
+-- what stands in an element: nothing, or text, or an element with what stands in it, each with what
+-- follows
 pub data Content : Type 0 where
   Nothing : Content
   Text : (text : List ℕ) (after : Content) → Content

@@ -38,7 +38,7 @@ abbrev pub word_look : Heard → List ℕ
 word_look (Word word) = codes "word"
 word_look Fault = codes "nothing"
 
--- a delivery: a rectangle in the sender's colour, and the word in it
+-- a delivery: a rectangle in the sender's color, and the word in it
 unfoldable pub with_cell : Extent → List ℕ → DeliveryLine → List ℕ
 with_cell extent text l =
     with_label (with_box text (cell_area extent l) (cell_look l.sender l.value)) (column_left extent l.slot + cell_width extent / 2) (row_top extent l.frame l.receiver + 15) (word_look l.value) [] (heard_text l.value)
@@ -91,7 +91,7 @@ with_name extent frame text letter row number =
     let named : List ℕ = with_label text 20 (row_top extent frame row + 15) (codes "name") letter (decimal number) in
     if is_wide extent then with_label named (names_left extent) (row_top extent frame row + 15) (codes "name") letter (decimal number) else named
 
--- the names of nodes of a kind, in the rows behind so many others
+-- the names of nodes of a kind, in the rows behind the first `above` rows
 unfoldable pub with_names_of : Extent → ℕ → List ℕ → ℕ → ℕ → List ℕ → List ℕ
 with_names_of extent frame letter above count text = each_below (λ t i. with_name extent frame t letter (above + i) i) count text
 
@@ -134,11 +134,11 @@ with_states extent frame facts text =
 abbrev pub spread_unit : Extent → List ℕ
 spread_unit extent = if extent.spread == 0 then [] else codes " units of time"
 
--- the spread of a frame's begins
+-- the spread of a frame's starts
 abbrev pub spread_words : Begins → List ℕ
 spread_words begins = codes "spread " ++ decimal (spread_of begins)
 
--- the axis of the begins, where they spread: from the first begin to the greatest spread
+-- the axis of the starts, where they spread: from the first begin to the greatest spread
 unfoldable pub with_axis : Extent → ℕ → List ℕ → List ℕ
 with_axis extent frame text =
     if extent.spread == 0 then text
@@ -148,7 +148,7 @@ with_axis extent frame text =
     92 (panel_top extent frame + 62) (codes "scale") (codes "0") [])
     260 (panel_top extent frame + 62) (codes "most") [] (decimal extent.spread)
 
--- the ground of a frame: its number, the spread of its begins, and the columns
+-- the ground of a frame: its number, the spread of its starts, and the columns
 unfoldable pub with_ground : Extent → ℕ → Facts → List ℕ → List ℕ
 with_ground extent frame facts text =
     with_box (with_label (with_label (with_label (with_box text (panel_area extent frame) (codes "panel"))
@@ -166,7 +166,7 @@ with_whole extent frame facts text =
 abbrev pub rank : ℕ → ℕ → ℕ
 rank set i = size (set_of (λ j. has (set_of (λ k. nat_lt k i)) j && has set j))
 
--- the name of a node that is in the set, in a row of names behind so many others
+-- the name of node i if it is in the set, in a row of names behind `before` others
 unfoldable pub with_named : ℕ → ℕ → List ℕ → ℕ → ℕ → List ℕ → ℕ → List ℕ
 with_named x y letter before set text i =
     if has set i then with_label text (x + 34 * (before + rank set i)) y (codes "newcomer") letter (decimal i) else text
@@ -195,7 +195,7 @@ with_close extent frame facts text =
 unfoldable pub with_panel : Extent → ℕ → Facts → List ℕ → List ℕ
 with_panel extent frame facts text = if is_behind extent frame then with_close extent frame facts text else with_whole extent frame facts text
 
--- a sender's colour
+-- a sender's color
 unfoldable pub with_sender : List ℕ → ℕ → List ℕ
 with_sender text i =
     with_label (with_box text (record { x = 20 + 60 * i; y = 80; width = 16; height = 16 }) (look_of i)) (42 + 60 * i) 93 (codes "name") (codes "B") (decimal i)
@@ -224,7 +224,7 @@ unfoldable pub with_absent : List ℕ → List ℕ
 with_absent text =
     with_label (with_label text 20 165 (codes "absent") (codes "absent") []) 70 165 (codes "note") (codes "no line of this node: it is faulty, or not in the bus") []
 
--- all senders' colours
+-- all senders' colors
 unfoldable pub with_senders : Extent → List ℕ → List ℕ
 with_senders extent text = each_below with_sender extent.bius text
 

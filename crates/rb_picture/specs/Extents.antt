@@ -137,7 +137,8 @@ newest_after newest l =
 abbrev pub with_busy : Extent → ℕ → Extent
 with_busy extent frame = record extent { busy = max extent.busy (frame + 1) }
 
--- how many nodes of a kind the bus has at least if these good nodes do not outnumber the others that are not convicted
+-- how many nodes of a kind the bus has at least if these good nodes do not outnumber the others
+-- that are not convicted
 unfoldable pub least_rows : ℕ → ℕ → ℕ
 least_rows present convicted = min 16 (2 * size present + size convicted)
 
@@ -177,7 +178,8 @@ facts_from mark facts (l ∷ lines) = if mark_of 0 l == mark then facts_from mar
 abbrev pub facts_of : ℕ → List Line → Facts
 facts_of mark lines = facts_from mark no_facts lines
 
--- the rows of the nodes of a kind, in a frame of which this is known: how many rows stand above them, and how many they are
+-- the rows of the nodes of a kind, in a frame of which this is known: how many rows stand above
+-- them, and how many they are
 abbrev pub biu_rows : Extent → Facts → Rows
 biu_rows extent facts = record { above = 0; count = extent.bius; convicted = facts.convicted.biu; present = facts.present.biu }
 

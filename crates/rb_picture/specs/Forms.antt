@@ -8,7 +8,8 @@ use Rattle.rb_picture.specs.declared.form.Form.TheVariants.{Draw, Show}
 use Rattle.rb_picture.specs.declared.form.Frames.{Frames}
 use Rattle.rb_picture.specs.declared.form.Frames.TheVariants.{All, Between}
 
--- the words of a form: of a picture of all frames none, of others the first and the last, and the word of a flag
+-- the words of a form: of a picture of all frames none, of others the first and the last, and the
+-- word of a flag
 abbrev pub words_of : Form → List (List ℕ)
 words_of (Draw All) = []
 words_of (Draw (Between first last)) = decimal first ∷ decimal last ∷ []

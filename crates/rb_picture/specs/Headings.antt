@@ -35,7 +35,7 @@ unfoldable pub with_heading : Sheet → List ℕ → List ℕ
 with_heading sheet text =
     with_frames sheet.extent (with_box text (record { x = 0; y = 0; width = sheet_width sheet; height = sheet_height sheet }) (codes "page"))
 
--- what colours and signs mean
+-- what colors and signs mean
 abbrev pub with_key : View → Extent → List ℕ → List ℕ
 with_key Panels extent text = with_legend extent text
 with_key Overview extent text = with_signature text

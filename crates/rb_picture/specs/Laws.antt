@@ -38,7 +38,8 @@ OneCellEach = (lines : List Line) → cells_of (pieces_of lines) ≡ deliveries_
 abbrev pub IsWellFormed : Type 0
 IsWellFormed = (style : List ℕ) (sheet : Sheet) (lines : List Line) → IsDocument (picture_text style sheet lines)
 
--- the good nodes of a kind do not outnumber the faulty ones that were heard; nodes are below the count, and no node is in two of the three sets
+-- the good nodes of a kind do not outnumber the faulty ones that were heard; nodes are below the
+-- count, and no node is in two of the three sets
 pub record HasLostMajority (count good faulty convicted : ℕ) : Type 0 where
   pub at_most_16 : count ≤ 16
   pub few_good : size good ≤ size faulty

@@ -128,13 +128,15 @@ abbrev pub end_of : ℕ → List Line → ℕ
 end_of from [] = from
 end_of from (l ∷ lines) = end_of (line_place l) lines
 
--- the bytes are the text of these lines, each in its place, and the last one tells how the run ended
+-- the bytes are the text of these lines, each in its place, and the last one tells how the run
+-- ended
 pub record IsReport (bytes : List ℕ) (lines : List Line) : Type 0 where
   pub spelled : bytes ≡ text_of_lines lines
   pub in_order : ascend 0 lines ≡ true
   pub ended : end_of 0 lines ≡ last_place
 
--- the bytes begin with the text of a line, which has so many of them and stands behind this place
+-- the bytes begin with the text of line `l`, which has `number` bytes and may come after what
+-- `newest` says
 pub record StandsFirst (bytes : List ℕ) (newest : ℕ) (l : Line) (number : ℕ) : Type 0 where
   pub spelled : take number bytes ≡ line_text l
   pub some_byte : 0 < number
@@ -152,11 +154,13 @@ pub record BeginsTooEarly (bytes : List ℕ) (newest : ℕ) : Type 0 where
 abbrev pub BeginsWithNoLine : List ℕ → Type 0
 BeginsWithNoLine bytes = (l : Line) (tail : List ℕ) → Fits l → bytes ≢ line_text l ++ tail
 
--- where they begin with a line of a bus that stands behind this place, it is found, with the number of its bytes
+-- where they begin with a line of a bus that stands behind this place, it is found, with the number
+-- of its bytes
 abbrev pub FindsEach : List ℕ → ℕ → Result (Line × ℕ) Fault → Type 0
 FindsEach bytes newest result = (l : Line) (tail : List ℕ) → Fits l → bytes ≡ line_text l ++ tail → newest < line_place l → result ≡ Ok (l, length (line_text l))
 
--- so many of the bytes are the text of these lines, each in its place, and the last one stands here
+-- the first `number` bytes are the text of these lines, each in its place, and the last one leads
+-- to `newest`
 pub record SoFar (bytes : List ℕ) (number : ℕ) (lines : List Line) (newest : ℕ) : Type 0 where
   pub within : number ≤ length bytes
   pub spelled : take number bytes ≡ text_of_lines lines
@@ -173,7 +177,8 @@ FailsBehind end fault.NoEnd rest = (rest ≡ []) × (end ≢ last_place)
 abbrev pub IsNoReport : List ℕ → Type 0
 IsNoReport bytes = (lines : List Line) → AllFit lines → ¬ IsReport bytes lines
 
--- the lines before this one, by number from 1, are in order; with it the bytes cease to be a report for this cause
+-- the lines before this one, by number from 1, are in order; with it the bytes cease to be a report
+-- for this cause
 pub record FailsAt (bytes : List ℕ) (number : ℕ) (cause : Fault) : Type 0 where
   pub lines : List Line
   pub rest : List ℕ

@@ -29,7 +29,7 @@ unfoldable pub with_label : List ℕ → ℕ → ℕ → List ℕ → List ℕ �
 with_label text x y look before after =
     (((with_attribute (with_number (with_number (text ++ codes "<text") (codes "x") x) (codes "y") y) (codes "class") look ++ codes ">") ++ escaped before) ++ escaped after) ++ codes "</text>\n"
 
--- how a picture begins: its size, and the colours of the looks
+-- how a picture begins: its size, and the colors of the looks
 unfoldable pub with_opening : List ℕ → ℕ → ℕ → List ℕ → List ℕ
 with_opening text width height style =
     ((((((with_number (with_number (text ++ codes "<svg xmlns=\"http://www.w3.org/2000/svg\" role=\"img\"") (codes "width") width) (codes "height") height ++ codes " viewBox=\"0 0 ") ++ escaped (decimal width)) ++ codes " ") ++ escaped (decimal height)) ++ codes "\"><title>A run of the bus</title><style>") ++ escaped style) ++ codes "</style>"

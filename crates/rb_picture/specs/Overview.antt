@@ -106,7 +106,8 @@ with_axes extent frame text =
 unfoldable pub with_axes_at : Extent → ℕ → List ℕ → List ℕ
 with_axes_at extent frame text = if (frame - extent.first) % band_rows == 0 then with_axes extent frame text else text
 
--- a frame's row without its cells: its number and its ground, or of the frame that would follow the run a word
+-- a frame's row without its cells: its number and its ground, or of the frame that would follow the
+-- run a word
 unfoldable pub with_line : Extent → ℕ → List ℕ → List ℕ
 with_line extent frame text =
     if is_behind extent frame

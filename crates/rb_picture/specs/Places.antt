@@ -1,4 +1,5 @@
--- Where things stand in a picture, in pixels: a panel for each frame, in it a row for each node, and a column for each slot.
+-- Where things stand in a picture, in pixels: a panel for each frame, in it a row for each node,
+-- and a column for each slot.
 use Rattle.std.specs.Prelude.{ℕ, ◌+◌, ◌-◌, ◌*◌, ◌/◌, ◌==◌, ◌&&◌, min, max, nat_le, nat_lt, Bool, if◌then◌else◌}
 use Rattle.rb_base.specs.declared.node.NodeName.{NodeName}
 use Rattle.rb_base.specs.declared.node.NodeName.TheVariants.{Biu, Rmu}
@@ -36,7 +37,7 @@ panel_top extent frame = 180 + panel_height extent * (frame - extent.first)
 abbrev pub row_top : Extent → ℕ → ℕ → ℕ
 row_top extent frame row = panel_top extent frame + 68 + 20 * row
 
--- where the columns begin: behind the axis of the begins, where they spread
+-- where the columns begin: behind the axis of the starts, where they spread
 abbrev pub grid_left : Extent → ℕ
 grid_left extent = if extent.spread == 0 then 196 else 284
 
@@ -69,7 +70,8 @@ picture_width extent = max 440 (max (40 + 60 * extent.bius) (grid_left extent + 
 abbrev pub picture_height : Extent → ℕ
 picture_height extent = 180 + panel_height extent * panels_of extent + (if is_behind extent extent.last then 72 else 0)
 
--- how many pixels a time is from the first begin: 160 for the greatest spread, or a few less if the spread is too large to multiply
+-- how many pixels a time is from the first begin: 160 for the greatest spread, or a few less if the
+-- spread is too large to multiply
 abbrev pub offset_of : Extent → ℕ → ℕ
 offset_of extent after =
     if nat_lt extent.spread 4294967296

@@ -11,7 +11,8 @@ use Rattle.rb_picture.specs.Extents.{extent_of}
 use Rattle.rb_picture.specs.Overview.{frames_of, overview_height, overview_width}
 use Rattle.rb_picture.specs.Places.{picture_height, picture_width, slots_of}
 
--- all frames of a long run as an overview; behind its whole frames stands one more, with which it ended or broke off
+-- all frames of a long run as an overview; behind its whole frames stands one more, with which it
+-- ended or broke off
 abbrev pub view_of : Frames → Extent → View
 view_of All extent = if nat_lt 12 (extent.last - extent.first) then Overview else Panels
 view_of (Between first last) extent = Panels
@@ -33,7 +34,8 @@ sheet_width sheet = view_width sheet.view sheet.extent
 abbrev pub sheet_height : Sheet → ℕ
 sheet_height sheet = view_height sheet.view sheet.extent
 
--- an overview of up to 4,800 frames and 320 slots is no wider than 2,000 pixels and no higher than 4,000
+-- an overview of up to 4,800 frames and 320 slots is no wider than 2,000 pixels and no higher than
+-- 4,000
 abbrev pub IsSmall : Type 0
 IsSmall =
     (extent : Extent) → frames_of extent ≤ 4800 → slots_of extent ≤ 320

@@ -335,7 +335,7 @@ fn push_spread(out: &mut Vec<u8>, extent: Extent, y: u64, begins: Begins) -> Res
     )
 }
 
-// The axis of the begins, where they spread.
+// The axis of the starts, where they spread.
 #[tactic(auto, unfolding(crate::specs::Drawing::with_axis))]
 fn push_axis(out: &mut Vec<u8>, extent: Extent, frame: u32) -> Result<(), OutOfMemory>
     ensures { OnOk result (out.new.items ≡ with_axis extent frame out.old.items) }
@@ -568,7 +568,7 @@ fn push_senders(out: &mut Vec<u8>, extent: Extent) -> Result<(), OutOfMemory>
     Ok(())
 }
 
-/// What colours and signs mean.
+/// What colors and signs mean.
 #[tactic(auto, unfolding(crate::specs::Drawing::with_legend))]
 pub(crate) fn push_legend(out: &mut Vec<u8>, extent: Extent) -> Result<(), OutOfMemory>
     ensures { OnOk result (out.new.items ≡ with_legend extent out.old.items) }

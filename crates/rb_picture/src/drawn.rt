@@ -200,7 +200,7 @@ fn push_lines(out: &mut Vec<u8>, sheet: Sheet, lines: &[Line]) -> Result<(), Out
     Ok(())
 }
 
-// What colours and signs mean.
+// What colors and signs mean.
 fn push_key(out: &mut Vec<u8>, sheet: Sheet) -> Result<(), OutOfMemory>
     ensures { OnOk result (out.new.items ≡ with_key sheet.view sheet.extent out.old.items) }
 {

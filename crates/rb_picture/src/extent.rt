@@ -8,8 +8,8 @@ use rb_rules::Cause;
 
 /// Frames, nodes, slots, and the greatest word and spread: what a picture has to have room for. Of
 /// the frames the first and the last, of the nodes of a kind one more than the greatest number, of
-/// the slots the lowest and one more than the highest. `busy` is one more than the last frame with a
-/// delivery or a breach, and `run` is how many frames a run has that came to its end, else 2^32.
+/// the slots the lowest and one more than the highest. `busy` is one more than the last frame with
+/// a delivery or a breach, and `run` is how many frames a run has that came to its end, else 2^32.
 #[derive(Clone, Copy)]
 pub struct Extent {
     pub first: u32,

@@ -118,7 +118,7 @@ pub(crate) fn push_numbered<I: Integer>(
     push_label(out, x, y, look, before, Buffer::new().format(number))
 }
 
-/// How a picture begins: its size, and the colours of the looks.
+/// How a picture begins: its size, and the colors of the looks.
 #[tactic(auto, unfolding(crate::specs::Markup::with_opening))]
 pub(crate) fn push_opening(
     out: &mut Vec<u8>,

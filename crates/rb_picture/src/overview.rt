@@ -306,7 +306,7 @@ fn push_signs(out: &mut Vec<u8>) -> Result<(), OutOfMemory>
     push_label(out, 256, 134, "note", "convicted from this frame on", "")
 }
 
-/// What colours and signs mean.
+/// What colors and signs mean.
 #[tactic(auto, unfolding(crate::specs::Overview::with_signature))]
 pub(crate) fn push_signature(out: &mut Vec<u8>) -> Result<(), OutOfMemory>
     ensures { OnOk result (out.new.items ≡ with_signature out.old.items) }

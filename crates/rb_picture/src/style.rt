@@ -1,6 +1,6 @@
 //! The looks of a picture's parts.
 
-/// The one style of all pictures, which `specs/Answers.antt` cites: colours in light and dark. The
+/// The one style of all pictures, which `specs/Answers.antt` cites: colors in light and dark. The
 /// senders' are Paul Tol's light scheme, which people of any sight tell apart under dark words; the
 /// second eight have an edge and round ends.
 pub const STYLE: &str =

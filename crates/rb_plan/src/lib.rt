@@ -27,7 +27,7 @@ fn f0(shape: &Shape, plan: &Plan) -> u64
     3 * u64::from(sync_slot(shape)) * u64::from(plan.l)
 }
 
-// How far two good clocks drift apart in so many ticks, at most.
+// How far two good clocks drift apart in `ticks` ticks, at most.
 fn drift(plan: &Plan, ticks: u64) -> u64
     requires plan { IsPlan plan.now }
     requires ticks { ticks ≤ 1000000 }
@@ -120,7 +120,7 @@ pub fn sides(shape: &Shape, plan: &Plan, n: u8) -> (i128, i128)
     }
 }
 
-// The window of so many ticks from this offset on.
+// The window of `ticks` ticks from the offset `first` on.
 fn window_of(slot: u16, stage: u8, first: u64, ticks: u32) -> Window
     requires some { 1 ≤ ticks }
     requires first { first ≤ 1000000 }

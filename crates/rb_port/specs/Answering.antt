@@ -3,7 +3,8 @@ use Rattle.std.specs.Prelude.{ℕ, ◌^◌, ◌<◌, ◌≡◌, Option}
 use Rattle.std.specs.Option.{ForSome}
 use Rattle.rb_rules.specs.Ports.{learned_by, offered_by}
 
--- by what a call needs and what it may answer: each call may be made, and answers the word that the application offers
+-- by what a call needs and what it may answer: each call may be made, and answers the word that the
+-- application offers
 abbrev pub OffersAs : ℕ → (ℕ → ℕ → Type 0) → (ℕ → ℕ → ℕ → Type 0) → Type 0
 OffersAs app pre post = (state slot : ℕ) → state < 2 ^ 64 → slot < 2 ^ 16
     → pre state slot × ((word : ℕ) → post state slot word → word ≡ offered_by app state slot)

@@ -24,7 +24,8 @@ pub record Queued : Type 0 where
 abbrev pub room_left : Queued → ℕ
 room_left q = q.lane.room - (length q.lane.arrivals + length (option_to_list q.lane.tick) + length q.more)
 
--- where an event comes from: an arrival from its sender, and a tick from the node's own clock, which stands behind all senders
+-- where an event comes from: an arrival from its sender, and a tick from the node's own clock,
+-- which stands behind all senders
 abbrev pub source_of : EventKind → ℕ
 source_of (kind.Arrive from bytes) = from
 source_of (kind.Tick word wanted) = 256
@@ -63,7 +64,8 @@ abbrev pub unless_some : List Takeable → List Takeable → List Takeable
 unless_some [] later = later
 unless_some (c ∷ cs) later = c ∷ cs
 
--- what may be taken at this time: what comes then, by sender and then in the order of pushing, else the ticks
+-- what may be taken at this time: what comes then, by sender and then in the order of pushing, else
+-- the ticks
 abbrev pub takeable_at : ℕ → Held → List Pending → List Takeable
 takeable_at time lane more = unless_some (senders_at time lane more) (ticks_at time lane more)
 
@@ -89,7 +91,8 @@ abbrev pub has_place : EventKind → Option ℕ → Bool
 has_place (kind.Arrive from bytes) tick = true
 has_place (kind.Tick word wanted) tick = (word == 0) && not wanted && is_none tick
 
--- the lane keeps all of the event: there were no quiet ticks before it, it has its place there, and nothing that was pushed before is kept beside
+-- the lane keeps all of the event: there were no quiet ticks before it, it has its place there, and
+-- nothing that was pushed before is kept beside
 abbrev pub fits_lane : Event → Queued → Bool
 fits_lane event q = (length q.more == 0) && (event.quiet == 0) && has_place event.kind q.lane.tick
 
@@ -135,7 +138,8 @@ abbrev pub only_if : {X : Type 0} → Bool → X → List X
 only_if true x = x ∷ []
 only_if false x = []
 
--- an event that was pushed at a time is the last of its source, as it was pushed. Of every other source all stays
+-- an event that was pushed at a time is the last of its source, as it was pushed. Of every other
+-- source all stays
 abbrev pub IsLastOf : ℕ → Event → Queued → Queued → Type 0
 IsLastOf time event before after = (source : ℕ)
     → events_of event.node source after ≡ events_of event.node source before ++ only_if (source_of event.kind == source) (time, event)

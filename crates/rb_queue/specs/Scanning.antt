@@ -4,7 +4,8 @@ use Rattle.rb_rules.specs.Hearing.{Coming}
 use Rattle.rb_queue.specs.Waiting.{Held, ready_of}
 use Rattle.rb_queue.specs.Waiting.Ready.{Comes, Ticks}
 
--- the arrival comes at this time from one of the sources that begin with the first and stand before the end
+-- the arrival comes at this time from one of the sources that begin with the first and stand before
+-- the end
 abbrev pub is_between : ℕ → ℕ → ℕ → Coming → Bool
 is_between time first end c = nat_le first c.from && nat_lt c.from end && (c.time == time)
 
@@ -18,7 +19,8 @@ pub record StandsAt (listed : List (ℕ × Coming)) (i : ℕ) (arrivals : List C
 abbrev pub comes_before : Coming → Coming → Bool
 comes_before c d = nat_lt c.time d.time || ((c.time == d.time) && nat_lt c.from d.from)
 
--- the arrival at this place is the first of all: of the least time, of the lowest source at that time, and of what comes so the first
+-- the arrival at this place is the first of all: of the least time, of the lowest source at that
+-- time, and of what comes so the first
 pub record IsFirst (arrivals : List Coming) (place : ℕ) : Type 0 where
   pub coming : Coming
   pub stands : slice_get arrivals place ≡ Some coming

@@ -11,7 +11,8 @@ use Rattle.rb_rules.specs.Book.{Each}
 use Rattle.rb_rules.specs.Hearing.{Coming}
 use Rattle.rb_rules.specs.WorldStep.{least}
 
--- what a lane holds: what comes to the node, in the order of pushing, the time of its tick, and room for so many events
+-- what a lane holds: what comes to the node, in the order of pushing, the time of its tick, and for
+-- how many events it has room
 pub record Held : Type 0 where
   pub arrivals : List Coming
   pub tick : Option ℕ
@@ -31,7 +32,8 @@ tick_time_of lane = unwrap_or lane.tick 18446744073709551615
 abbrev pub comes : ℕ → ℕ → Coming → Bool
 comes time source c = (c.from == source) && (c.time == time)
 
--- what comes from a source at a time, in the order of pushing, each with its place among the arrivals
+-- what comes from a source at a time, in the order of pushing, each with its place among the
+-- arrivals
 abbrev pub coming_at : ℕ → List Coming → ℕ → List (ℕ × Coming)
 coming_at time arrivals source = filter (λ c. comes time source c.1) (enumerate_from 0 arrivals)
 
@@ -54,7 +56,8 @@ abbrev pub unless_any : List (ℕ × Coming) → List Ready → List Ready
 unless_any [] later = later
 unless_any (c ∷ cs) later = map (λ c. Comes c.0 c.1) (c ∷ cs)
 
--- what may happen at this time: what comes then, by sender and then in the order of pushing, else the tick
+-- what may happen at this time: what comes then, by sender and then in the order of pushing, else
+-- the tick
 abbrev pub ready_at : ℕ → Held → List Ready
 ready_at time lane = unless_any (arrivals_at time lane.arrivals) (tick_at time lane.tick)
 
@@ -138,8 +141,8 @@ pub record IsTickReady (time : ℕ) (lane : Held) : Type 0 where
   pub ready : ready_of lane ≡ Ticks ∷ []
   pub tick : lane.tick ≡ Some time
 
--- the place of the first arrival that is ready, where it is due before this time. If there is none, nothing is due before then but the
--- tick
+-- the place of the first arrival that is ready, where it is due before this time. If there is none,
+-- nothing is due before then but the tick
 abbrev pub IsFirstBefore : ℕ → Held → Option ℕ → Type 0
 IsFirstBefore until lane None = (time : ℕ) → head_of lane ≡ Some time → (until ≤ time) ⊎ IsTickReady time lane
 IsFirstBefore until lane (Some place) = IsReadyBefore until lane place

@@ -47,7 +47,7 @@ impl Arrival {
         }
     }
 
-    /// The same at another time, in reference units.
+    /// The arrival at another time, in reference units.
     #[inline(always)]
     pub fn at(&self, time: u64) -> Arrival
         ensures { result ≡ record self.now { time = time } }

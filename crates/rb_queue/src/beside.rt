@@ -65,8 +65,8 @@ pub(crate) fn count_takeable(lane: &Lane, more: &[Pending], time: u64) -> usize
     count_tick(lane.tick(), time) + count_beside(more, time, 256, 257)
 }
 
-// The place of what is kept beside of a source and a time after so many others. Where there is
-// none, how many of those others are still to be found elsewhere.
+// The place of what is kept beside the lane of a source and a time, after `others` such arrivals.
+// If there is none, how many of those others are still to be found elsewhere.
 fn beside_among(more: &[Pending], time: u64, source: u16, others: usize) -> Result<usize, usize>
     ensures { MatchResult result (λ place. IsBeside (beside_at time more.now source) others more.now place)
         (λ left. left + length (beside_at time more.now source) ≡ others) }
@@ -83,7 +83,7 @@ fn beside_among(more: &[Pending], time: u64, source: u16, others: usize) -> Resu
     Err(left)
 }
 
-// The spot of what comes from a sender at a time after so many others.
+// The spot of what comes from a sender at a time, after `others` such arrivals.
 fn spot_among(
     lane: &Lane,
     more: &[Pending],

@@ -14,7 +14,7 @@ use std::marker::Model;
 /// its tick. The room is taken from memory at the start.
 #[derive(Drop)]
 pub struct Lane {
-    // Those before the start are gone.
+    // The arrivals before `start` are gone.
     kept: Vec<Arrival>,
     start: usize,
     // All arrivals are due by this time.
@@ -57,7 +57,7 @@ fn make_room(kept: &mut Vec<Arrival>, start: usize, room: usize) -> usize
     0
 }
 
-// Those before the start are taken out.
+// Takes out the arrivals before `start`.
 #[inline(never)]
 fn drop_gone(kept: &mut Vec<Arrival>, start: usize)
     requires { start ≤ length kept.old.items }
@@ -67,7 +67,7 @@ fn drop_gone(kept: &mut Vec<Arrival>, start: usize)
     kept.drain(..start);
 }
 
-// Of those from the start on the ones stay that don't come before this time, and no others.
+// Keeps the arrivals from `start` on that are due at or after `until`, and no others.
 #[inline(never)]
 fn keep_later(kept: &mut Vec<Arrival>, start: usize, until: u64)
     requires { start ≤ length kept.old.items }
@@ -152,7 +152,8 @@ impl Lane {
         first_of(self.waiting())
     }
 
-    /// The least time, in reference units, at which an event is due. None exactly where there is none.
+    /// The least time, in reference units, at which an event is due. None exactly where there is
+    /// none.
     #[inline(never)]
     #[tactic(auto, using(crate::proofs::Idle::none_pending))]
     pub fn head(&self) -> Option<u64>
@@ -162,8 +163,8 @@ impl Lane {
         least_time(self.waiting(), self.first(), self.tick)
     }
 
-    /// How many events are ready: the arrivals of the least time or, where there are none, the tick of
-    /// that time.
+    /// How many events are ready: the arrivals of the least time or, where there are none, the tick
+    /// of that time.
     pub fn ready(&self) -> usize
         ensures value { result ≡ length (ready_of self.now) }
         ensures few { result ≤ self.now.room + 1 }
@@ -211,8 +212,8 @@ impl Lane {
         Some(place_of(self.waiting(), time, i))
     }
 
-    /// The ready event at place `i`, counted from 0, as an event of the node. Arrivals are listed by
-    /// sender and then in the order of pushing.
+    /// The ready event at place `i`, counted from 0, as an event of the node. Arrivals are listed
+    /// by sender and then in the order of pushing.
     pub fn event(&self, node: NodeName, i: usize) -> Event
         requires { i < length (ready_of self.now) }
         ensures { ready_event node i self.now ≡ Some result }
@@ -242,8 +243,8 @@ impl Lane {
         }
     }
 
-    /// The place, among the arrivals in the order of pushing, of the first that is ready, where it is
-    /// due before this time. None exactly where nothing is due before then but the tick.
+    /// The place, among the arrivals in the order of pushing, of the first that is ready, where it
+    /// is due before this time. None exactly where nothing is due before then but the tick.
     #[inline(always)]
     pub fn first_before(&self, until: u64) -> Option<usize>
         ensures { IsFirstBefore until self.now result }
@@ -308,9 +309,9 @@ impl Lane {
         let _ = self.kept.remove(self.start + place);
     }
 
-    /// Drops the arrivals that are due before this time, and nothing else. The others stay in the order
-    /// of pushing. Mostly there are none, or all come before: without a look for that a frame of
-    /// the generated run with seed 7 costs 1,469,700 instructions in place of 1,383,200.
+    /// Drops the arrivals that are due before this time, and nothing else. The others stay in the
+    /// order of pushing. Mostly there are none, or all come before: without a look for that a frame
+    /// of the generated run with seed 7 costs 1,469,700 instructions in place of 1,383,200.
     #[inline(always)]
     pub fn drop_before(&mut self, until: u64)
         ensures { self.new ≡ without_before until self.old }

@@ -132,8 +132,8 @@ fn lowest_source(arrivals: &[Arrival], time: u64, first: u16) -> u16
     lowest
 }
 
-// The place of the arrival that comes from a source at a time after so many others. Where there is
-// none, how many of those others are still to be found elsewhere.
+// The place of the arrival that comes from a source at a time, after `others` such arrivals. If
+// there is none, how many of those others are still to be found elsewhere.
 pub(crate) fn place_among(
     arrivals: &[Arrival],
     time: u64,

@@ -28,7 +28,7 @@ stage-over sc place rows b going none =
     ap (λ e. (elim e as (λ _. Book) [ true ↦ b | false ↦ after_verdict sc.sizes place rows stages b (verdict_of stages) ]).ended) going
     ∙ ap (λ v. (after_verdict sc.sizes place rows stages b v).ended) (breach-alone b.stages (judged_of sc place rows) none)
 
--- The begin of a frame at which nobody is good gives no record.
+-- The start of a frame at which nobody is good gives no record.
 
 none-there : {X : Type 0} (sc : Scenario) (frame slot : ℕ) (tells : Site → Option X) (me : Side) (k : ℕ) (xs : List Site) → ((i : ℕ) → is_good sc me i frame slot ≡ false)
     → present (map_from k (λ i s. elim (is_good sc me i frame slot) as (λ _. Option X) [ true ↦ tells s | false ↦ None ]) xs) ≡ []
@@ -49,7 +49,7 @@ none-begun sc frame sites shape h =
     present-join (told_by_good sc frame 0 (λ s. begun_for frame s.begun) sites).bius (told_by_good sc frame 0 (λ s. begun_for frame s.begun) sites).rmus
     (none-there sc frame 0 (λ s. begun_for frame s.begun) Biu 0 sites.bius (none Biu)) (none-there sc frame 0 (λ s. begun_for frame s.begun) Rmu 0 sites.rmus (none Rmu))
 
--- So the run ends.
+-- The end of a run.
 
 end-over : (sc : Scenario) (w : World) → w.book.ended ≡ false → (next_world sc w End).book.ended ≡ true
 end-over sc w going = ap (λ e. (elim e as (λ _. Book) [ true ↦ w.book | false ↦ record w.book { given = w.book.given ++ Record.Ended ∷ []; ended = true } ]).ended) going

@@ -1,4 +1,5 @@
--- In each world of a run what comes to a node has 1 to 32 bytes, and at a node that has stopped nothing is pending.
+-- In each world of a run what comes to a node has 1 to 32 bytes, and at a node that has stopped
+-- nothing is pending.
 use Rattle.std.proofs.Common.{◌≡◌, ℕ, zero, suc, ◌+◌, ◌<◌, ◌≤◌, ◌==◌, ◌&&◌, Bool, true, false, All, List, [], ◌∷◌, ◌++◌, length, remove, refl, sym, ◌∙◌, ap, subst, arith, cond, Option, Some, None, slice_get, map, filter}
 use Rattle.std.specs.Prelude.{flat_map}
 use Rattle.std.specs.List.{range_with_len}

@@ -108,7 +108,7 @@ ends-as-rounds sc n lawful over =
 
 -- The run comes to its end.
 
--- so many steps have been taken, and then the run is over
+-- n steps have been taken, and after some more the run is over
 pub record IsLong (sc : Scenario) (n : ℕ) : Type 0 where
   pub more : ℕ
   pub over : (first_run sc (n + more)).book.ended ≡ true
@@ -121,7 +121,7 @@ busy-more sc n busy here m lt = elim (cases_lt m n) [
   | inr above ↦ let same : n ≡ m = omega (arith, lt, above) in subst (λ m. 1 ≤ length (due_of sc (first_run sc m))) same here
 ]
 
--- it is over within so many more steps, or some event is due in each of them
+-- the run is over within `fuel` more steps, or some event is due in each of them
 on-for : (sc : Scenario) (fuel n : ℕ) → IsLawful sc → ((m : ℕ) → m < n → 1 ≤ length (due_of sc (first_run sc m)))
     → IsLong sc n ⊎ ((m : ℕ) → m < n + fuel → 1 ≤ length (due_of sc (first_run sc m)))
 on-for sc zero n lawful busy = inr (λ m lt. busy m (omega (arith, lt)))

@@ -158,7 +158,7 @@ module _ {K : Type 0} (held : K → Option (List ℕ)) (faults : K → ℕ) wher
       records-join a was.0 b (of_log a.frames t) (all_of_log a.frames ts) was.1.0
       (subst (λ n. Records held faults was.0 (all_of_log n ts) b) was.1.0.frames (all-told was.0 b ts was.1.1))
 
-  -- These events were told, and then some of what waited was written, or a write failed
+  -- The recorder was told these events, and then some of what waited was written, or a write failed
   record TakesDown (a c : Recorder K) (events : List Event) : Type 0 where
     frames : c.frames ≡ a.frames
     same_output : c.output.ghost_name ≡ a.output.ghost_name
@@ -202,8 +202,8 @@ module _ {K : Type 0} (held : K → Option (List ℕ)) (faults : K → ℕ) wher
           subst PassesOr (sym (settles.failed err))
           (match-err _ b.written err (err-of (Passes a b events) (PassesPart a b events) b.written err (records.next ok may)))
 
-  -- The run has come to its next record, which is that of this turn, and all of the log was written that is complete up to there, or a
-  -- first part of the log where a write failed
+  -- The run has come to its next record, which is that of this turn, and all of the log was written
+  -- that is complete up to there, or a first part of the log where a write failed
   pub record ComesToNext (sc : Scenario) (name : NodeName) (records : ℕ) (a c : Recorder K) (after : KeptWorld) (turn : Turn) (start : Option (List ℕ)) : Type 0 where
     pub steps : ℕ
     pub many : records + 1 ≤ steps

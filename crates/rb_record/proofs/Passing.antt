@@ -1,5 +1,5 @@
--- Bytes of a log that wait, and that are written. Below, v, w and u are what waits at one moment, at a later one and at one later still, and
--- h, i and j what is held then.
+-- Bytes of a log that wait, and that are written. Below, v, w and u are what waits at one moment,
+-- at a later one and at one later still, and h, i and j what is held then.
 use Rattle.std.proofs.Common.{◌≡◌, ℕ, ◌+◌, List, [], ◌++◌, append_assoc, Option, refl, sym, ap, ◌∙◌, subst, arith}
 use Rattle.std.proofs.lemmas.List.{append-nil}
 use Rattle.rb_base.specs.declared.event.Event.{Event}

@@ -42,7 +42,7 @@ step-first : (sc : Scenario) (s : Standing) → (step sc First s).world ≡ firs
 unfolding step
 step-first sc s = among-first sc (length (due_of sc s.world)) s refl
 
--- so many steps by first choices, whatever the draws
+-- k steps by first choices, whatever the draws
 pub after-first : (sc : Scenario) (n k draws : ℕ) → (after_steps sc First k (record { world = first_run sc n; draws = draws })).world ≡ first_run sc (n + k)
 unfolding after_steps
 after-first sc n zero draws = let same : n ≡ n + 0 = omega arith in ap (first_run sc) same
@@ -64,7 +64,7 @@ step-chosen sc w = by (due_of sc w)
     by [] = refl
     by (d ∷ ds) = refl
 
--- the choices of so many steps
+-- the choices of the first n steps
 abbrev pub choices_of : Scenario → ℕ → List Choice
 choices_of sc zero = []
 choices_of sc (suc n) = choices_of sc n ++ choice_in (due_of sc (first_run sc n)) ∷ []

@@ -64,11 +64,11 @@ of-log-append frames [] ys = refl
 of-log-append frames (x ∷ xs) ys =
     ap (λ es. of_log frames x ++ es) (of-log-append frames xs ys) ∙ sym (append_assoc (of_log frames x) (all_of_log frames xs) (all_of_log frames ys))
 
--- after so many steps, whatever the draws
+-- the state after n steps, whatever the draws
 abbrev pub standing : Scenario → ℕ → ℕ → Standing
 standing sc n draws = record { world = first_run sc n; draws = draws }
 
--- what is told in so many steps more, as far as it is of the log
+-- what is told in k more steps, as far as it is of the log
 abbrev pub told_more : Scenario → NodeName → ℕ → ℕ → ℕ → List Event
 told_more sc name n k draws = all_of_log sc.frames (told_to sc name k (standing sc n draws))
 

@@ -10,7 +10,8 @@ use Rattle.rb_log.specs.LogText.{log_in}
 use Rattle.rb_log.specs.Writing.{given}
 use Rattle.rb_record.specs.Recording.{log_text}
 
--- what is recorded of a node is a log, which says the numbers of the bus, the node, and what the node was given
+-- what is recorded of a node is a log, which says the numbers of the bus, the node, and what the
+-- node was given
 abbrev pub RecordedIsRead : Type 0
 RecordedIsRead =
     (sc : Scenario) → IsLawful sc → (name : NodeName) → IsNodeOf sc.sizes name → (events : List Event) → AreGiven sc name events

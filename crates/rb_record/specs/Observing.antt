@@ -14,7 +14,8 @@ use Rattle.rb_run.specs.Runs.{EndsWith}
 use Rattle.rb_run.specs.declared.ending.Ending.{Ending}
 use Rattle.rb_world.specs.Worlds.{KeptWorld, Stands}
 
--- what is told, if it is of the log: an event up to the node's first tick of the frame after the last
+-- what is told, if it is of the log: an event up to the node's first tick of the frame after the
+-- last
 abbrev pub of_log : ℕ → Told → List Event
 of_log frames t = if nat_lt t.frame frames then t.event ∷ [] else []
 
@@ -22,8 +23,8 @@ abbrev pub all_of_log : ℕ → List Told → List Event
 all_of_log frames [] = []
 all_of_log frames (t ∷ ts) = of_log frames t ++ all_of_log frames ts
 
--- Who writes the log was told these events of it. They were passed on, if no write had failed before, or a write failed at one of them.
--- Where one had failed before, nothing was written
+-- Who writes the log was told these events of it. They were passed on, if no write had failed
+-- before, or a write failed at one of them. Where one had failed before, nothing was written
 pub record Records {K : Type 0} (held : K → Option (List ℕ)) (faults : K → ℕ) (before : Recorder K) (events : List Event) (after : Recorder K) : Type 0 where
   pub same_output : after.output.ghost_name ≡ before.output.ghost_name
   pub frames : after.frames ≡ before.frames
@@ -37,8 +38,8 @@ pub record Records {K : Type 0} (held : K → Option (List ℕ)) (faults : K →
 abbrev pub RecordsNext : {K : Type 0} → (K → Option (List ℕ)) → (K → ℕ) → Recorder K → Told → Recorder K → Type 0
 RecordsNext held faults before t after = Records held faults before (of_log before.frames t) after
 
--- Of what waited the first bytes were written, if no write had failed before, or that write failed. Where one had failed before, nothing
--- was written
+-- Of what waited the first bytes were written, if no write had failed before, or that write failed.
+-- Where one had failed before, nothing was written
 pub record Settles {K : Type 0} (held : K → Option (List ℕ)) (faults : K → ℕ) (before after : Recorder K) : Type 0 where
   pub same_output : after.output.ghost_name ≡ before.output.ghost_name
   pub frames : after.frames ≡ before.frames
@@ -49,7 +50,8 @@ pub record Settles {K : Type 0} (held : K → Option (List ℕ)) (faults : K →
       (λ _. PassesOn before.waiting after.waiting [] (held before.output.now) (held after.output.now))
       (λ _. AppendsPart (held before.output.now) (held after.output.now) before.waiting)
 
--- a run in which nothing has happened may be recorded for a node of its bus by one that was told nothing
+-- a run in which nothing has happened may be recorded for a node of its bus by one that was told
+-- nothing
 pub record MayRecord {K : Type 0} (k : KeptWorld) (name : NodeName) (r : Recorder K) : Type 0 where
   pub begin : Stands k (first_world k.bus)
   pub node : IsNodeOf k.bus.sizes name

@@ -35,7 +35,8 @@ pub record WritesPart (sc : Scenario) (name : NodeName) (held since : Option (Li
 
 -- While the run goes on.
 
--- a log that has so many ticks has room for this event: a log has at most 2^31 ticks, and what arrives has bytes
+-- a log that has `ticks` ticks has room for this event: a log has at most 2^31 ticks, and what
+-- arrives has bytes
 abbrev pub HasRoom : ℕ → Event → Type 0
 HasRoom ticks e = (ticks + ticks_given e ≤ 2147483648) × HasBytes e.kind
 
@@ -55,24 +56,25 @@ pub record PassesNext (log later : Tally) (before after : List ℕ) (events : Li
   pub told : IsTold log later events bytes
   pub passed : PassesOn before after bytes held since
 
--- or a write failed: a first part was written of what waited and of what is written where these events come next, whatever follows
+-- or a write failed: a first part was written of what waited and of what is written where these
+-- events come next, whatever follows
 abbrev pub PassesPartOf : Tally → List ℕ → List Event → Option (List ℕ) → Option (List ℕ) → Type 0
 PassesPartOf log before events held since = (others : List Event) → AppendsPart held since (before ++ written log.waiting (events ++ others))
 
--- From the begin of the run.
+-- From the start of the run.
 
 -- a writer that was given nothing yet
 abbrev pub fresh_log : Tally
 fresh_log = record { ticks = 0; waiting = 0 }
 
--- the world has had so many steps, the first due event taken each time, and of the log's records all was written or waits that is complete
--- with what the node was given
+-- the world has had n steps, the first due event taken each time, and of the log's records all was
+-- written or waits that is complete with what the node was given
 pub record IsRecorded (sc : Scenario) (name : NodeName) (n : ℕ) (k : KeptWorld) (log : Tally) (waiting : List ℕ) (held since : Option (List ℕ)) : Type 0 where
   pub bus : k.bus ≡ sc
   pub stands : Stands k (first_run sc n)
   pub passes : PassesNext fresh_log log [] waiting (given_in sc name n) held since
 
--- so it is after so many records and at least as many steps, and the run goes on
+-- the log is recorded so after `records` records and at least as many steps, and the run goes on
 pub record IsRecordedSoFar (sc : Scenario) (name : NodeName) (records : ℕ) (k : KeptWorld) (log : Tally) (waiting : List ℕ) (held since : Option (List ℕ)) : Type 0 where
   pub steps : ℕ
   pub many : records ≤ steps

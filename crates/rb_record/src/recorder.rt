@@ -46,7 +46,7 @@ pub(crate) struct Recorder<'a, K> {
 }
 
 impl<'a, K: Sink> Recorder<'a, K> {
-    /// One that has been told nothing, for a run of so many frames.
+    /// A recorder that has been told nothing, for a run of `frames` frames.
     pub(crate) fn new(output: &'a mut K, frames: u32) -> Recorder<'a, K>
         ensures same_output { result.output.ghost_name ≡ output.entry.ghost_name }
         ensures output { result.output.now ≡ output.old }

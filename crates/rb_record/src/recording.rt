@@ -61,7 +61,7 @@ fn record_run<K: Sink>(
     unreachable!()
 }
 
-/// Takes a run from its begin to its end, each time the event that is due first, and writes the log
+/// Takes a run from its start to its end, each time the event that is due first, and writes the log
 /// of what a node of the bus is given in it: the header, the records of the events, and the end.
 /// What is complete of the log waits until a frame of the run begins, or until it is more than
 /// 4,096 bytes, and is then written at once. The log has the node's events up to its first tick of

@@ -137,7 +137,7 @@ end-due h name begun due d = let none : begun + 0 ≡ begun = omega arith in d.t
 pub end-is : (h : Hearer) (name : NodeName) (begun : ℕ) (bytes : List ℕ) → bytes ≡ end_text (begun - 1) → (rest : List ℕ) → IsDue h name begun [] rest → rest ≡ bytes
 end-is h name begun bytes is rest d = end-due h name begun rest d ∙ sym is
 
--- The begin.
+-- The start.
 
 pub all-due : (h : Hearer) (sizes : Sizes) (plan : Plan) (name : NodeName) (skip : ℕ) (events left : List CoreEvent) → h.sizes ≡ sizes → h.plan ≡ plan
     → IsListening h (now.Searching first_search) → from_tick skip events ≡ left

@@ -27,7 +27,7 @@ text-nothing : (name : NodeName) (frames : ℕ) (c : Core) (xs : List Act) → t
 text-nothing name frames c xs =
     text-step name frames (nothing c) xs ∙ ap (λ n. text_after name n xs) (omega arith)
 
--- nor do so many quiet ticks
+-- n quiet ticks write nothing
 pub quiet-text : (sizes : Sizes) (plan : Plan) (me : Side) (index : ℕ) (name : NodeName) (frames n : ℕ) (c : Core) (events : List CoreEvent)
     → ((k : ℕ) → c.had ≤ k → k < c.had + n → IsQuiet sizes plan me index c.state k) → c.had + n ≤ 2 ^ 31
     → text_after name frames (acts_of sizes plan me index c (replicate n (Tick 0) ++ events))
@@ -40,7 +40,7 @@ quiet-text sizes plan me index name frames (suc n) c events q h =
     ∙ quiet-text sizes plan me index name frames n (nothing c).core events (λ k lo hi. q k (omega arith) (omega arith)) (omega arith)
     ∙ sym (ap (λ (x : Act). text_after name frames (acts_of sizes plan me index (ticks sizes plan me index n x.core) events)) one)
 
--- the ticks before the first busy one among so many are quiet; where none is busy, all are
+-- the ticks before the first busy one among `others` ticks are quiet; if none is busy, all are
 not-busy : (sizes : Sizes) (plan : Plan) (me : Side) (index : ℕ) (st : NodeState) (others had m : ℕ) → had ≤ m
     → m < unwrap_or (busy_among sizes plan me index st others had) (had + others) → is_busy sizes plan me index st m ≡ false
 not-busy sizes plan me index st zero had m lo hi = absurd (omega arith)

@@ -39,7 +39,7 @@ text-nothing name begun hs =
     let none : begun + 0 ≡ begun = omega arith in
     text-step name begun no_heed hs ∙ ap (λ n. text_after name n hs) none
 
--- nor at so many quiet ticks
+-- n quiet ticks write nothing
 pub quiet-text : (sizes : Sizes) (plan : Plan) (name : NodeName) (begun n : ℕ) (l : Listening) (events : List CoreEvent) → TellNothing sizes plan n l
     → text_after name begun (told_of sizes plan l (replicate n (Tick 0) ++ events)) ≡ text_after name begun (told_of sizes plan (heeds sizes plan n l) events)
 quiet-text sizes plan name begun zero l events q = refl

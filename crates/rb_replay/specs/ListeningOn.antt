@@ -10,11 +10,12 @@ use Rattle.rb_listen.specs.Listening.{Heeding, Listening, had_by, told_of}
 use Rattle.rb_listen.specs.declared.heed.Heed.{Heed}
 use Rattle.rb_replay.specs.Overhearing.{begun_in, begun_with, heed_lines}
 
--- the text of what is still to be told, where so many frames have begun
+-- the text of what is still to be told, if `begun` frames have begun
 abbrev pub text_after : NodeName → ℕ → List Heed → List ℕ
 text_after name begun hs = flat_map (heed_lines name) hs ++ end_text (begun + begun_in hs - 1)
 
--- the text that is due of a listener to which these events are to come, where so many frames have begun
+-- the text that is due of a listener to which these events are to come, if `begun` frames have
+-- begun
 pub record IsDue (h : Hearer) (name : NodeName) (begun : ℕ) (events : List CoreEvent) (due : List ℕ) : Type 0 where
   pub listening : Listening
   pub stands : IsListening h listening
@@ -22,7 +23,8 @@ pub record IsDue (h : Hearer) (name : NodeName) (begun : ℕ) (events : List Cor
   pub most : had_by listening ≤ 2 ^ 31
   pub text : due ≡ text_after name begun (told_of h.sizes h.plan listening events)
 
--- a tick was given to a listener, which tells this, and the lines of that were written; the answer is how many frames begin
+-- a tick was given to a listener, which tells this, and the lines of that were written; the answer
+-- is how many frames begin
 pub record TellsHeed {S E : Type 0} (held : S → Option (List ℕ)) (faults : S → ℕ) (name : NodeName) (x : Heeding) (h : Hearer) (before after : S) (result : Result ℕ E) : Type 0 where
   pub stands : IsListening h x.listening
   pub written : Writes held faults before after result (heed_lines name x.heed)

@@ -14,7 +14,8 @@ use Rattle.rb_listen.specs.Listening.{first_search, told_of}
 use Rattle.rb_listen.specs.Listening.Listening.{Searching}
 use Rattle.rb_listen.specs.declared.heed.Heed.{Heed}
 
--- the events from a tick on, by its number among the ticks of the log. What arrives before that tick is dropped too
+-- the events from a tick on, by its number among the ticks of the log. What arrives before that
+-- tick is dropped too
 unfoldable pub from_tick : ℕ → List CoreEvent → List CoreEvent
 from_tick n [] = []
 from_tick n (Arrive from bytes ∷ events) = from_tick n events

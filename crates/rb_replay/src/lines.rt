@@ -29,7 +29,7 @@ fn write_two<S: Sink>(
     write_line(output, second)
 }
 
-// Writes the begin of a frame, where one begins: its first tick, and whom the node or the listener
+// Writes the start of a frame, where one begins: its first tick, and whom the node or the listener
 // holds convicted.
 #[inline(always)]
 fn write_epoch<S: Sink>(node: NodeName, epoch: Option<Epoch>, output: &mut S) -> Result<(), Failed>
@@ -73,7 +73,7 @@ fn write_delivery<S: Sink>(
     }
 }
 
-/// Writes what a node tells at a tick: the frame that begins, and what it delivers in the window
+/// Writes what a node tells at a tick: the frame that starts, and what it delivers in the window
 /// that it closes, which is `shown`.
 #[tactic(auto, using(crate::proofs::Written::in_turn))]
 #[inline(always)]

@@ -36,7 +36,7 @@ fn pass_quiet(listener: &mut Listener, log: &mut LogReader<'_>)
     listener.pass(passed);
 }
 
-// Gives the listener a tick and writes what it tells; gives the number of frames that begin.
+// Gives the listener a tick and writes what it tells; gives the number of frames that start.
 fn give_tick<S: Sink>(
     listener: &mut Listener,
     name: NodeName,
@@ -75,7 +75,7 @@ fn give_ticks<S: Sink>(
 }
 
 // Gives the listener the event that comes before those that are left in the log, and quiet ticks
-// behind it, and writes what it tells; gives the number of frames that begin.
+// behind it, and writes what it tells; gives the number of frames that start.
 fn give<S: Sink>(
     listener: &mut Listener,
     log: &mut LogReader<'_>,
@@ -122,7 +122,7 @@ fn find_tick(log: &mut LogReader<'_>, skip: u32) -> bool
     }
 }
 
-// Gives the listener what is left of the log and writes what it tells, and then the end. So many
+// Gives the listener what is left of the log and writes what it tells, and then the end. `begun`
 // frames have begun.
 fn listen_on<S: Sink>(
     mut listener: Listener,

@@ -38,7 +38,7 @@ fn pass_quiet<K: Kind>(node: &mut Node<K>, log: &mut LogReader<'_>)
     node.pass(passed);
 }
 
-// Gives the node a tick and writes what it tells; gives the number of frames above 0 that begin.
+// Gives the node a tick and writes what it tells; gives the number of frames above 0 that start.
 fn give_tick<K: Kind, S: Sink>(
     node: &mut Node<K>,
     name: NodeName,
@@ -81,7 +81,7 @@ fn give_ticks<K: Kind, S: Sink>(
 }
 
 // Gives the node the event that comes before those that are left in the log, and quiet ticks behind
-// it, and writes what it tells; gives the number of frames above 0 that begin.
+// it, and writes what it tells; gives the number of frames above 0 that start.
 fn give<K: Kind, S: Sink>(
     node: &mut Node<K>,
     log: &mut LogReader<'_>,
@@ -130,7 +130,7 @@ fn replay_at<K: Kind, S: Sink>(
 }
 
 /// Gives what a log tells to the node whose log it is, from its first tick on, and writes what the
-/// node tells, line by line, as it comes: for each frame that begins `e FRAME NODE TICK` and `c
+/// node tells, line by line, as it comes: for each frame that starts `e FRAME NODE TICK` and `c
 /// FRAME NODE BIUS RMUS`, for each delivery `d FRAME SLOT NODE SENDER WORD`, and last `end FRAMES`,
 /// the number of frames above 0 that began. `Failed` comes only where the sink failed, and then a
 /// first part of the text was taken. Quiet ticks in a row are passed at once, however many.

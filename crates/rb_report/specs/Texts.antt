@@ -19,8 +19,8 @@ block_text frame nodes ports =
 abbrev pub deliveries_text : ℕ → ℕ → List SlotLine → List ℕ
 deliveries_text frame slot lines = flat_map (λ l. delivery_text frame slot l.receiver l.sender l.value) lines
 
--- the text of records in order, the newest block before them being that of frame `newest`. A run ends with the block after its
--- last frame, so the number of that block is that of the frames
+-- the text of records in order, the newest block before them being that of frame `newest`. A run
+-- ends with the block after its last frame, so the number of that block is that of the frames
 abbrev pub text_after : ℕ → List Record → List ℕ
 text_after newest [] = []
 text_after newest (Frame frame nodes ports ∷ records) = block_text frame nodes ports ++ text_after frame records

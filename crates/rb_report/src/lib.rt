@@ -16,7 +16,7 @@ use rb_rules::Cause;
 mod fields;
 mod names;
 
-/// The begin of a frame at a node, as `e FRAME NODE TICK TIME`: the tick of its clock with which
+/// The start of a frame at a node, as `e FRAME NODE TICK TIME`: the tick of its clock with which
 /// the frame begins, and the reference time of that tick where it is known.
 pub fn epoch_line(frame: u32, node: NodeName, tick: u64, time: Option<u64>) -> ArrayString<96>
     ensures bytes { result.bytes ≡ epoch_text frame node tick time }

@@ -1,4 +1,4 @@
-//! The sync slot: what a node makes of the calls to resynchronise, and when its next frame begins.
+//! The sync slot: what a node makes of the calls to resynchronize, and when its next frame begins.
 #![tactic(auto)]
 
 ghost use Rattle.std.specs.Prelude.{◌≡◌, ℕ, ◌+◌, ◌<◌, ◌≤◌, ◌^◌, ◌++◌, ◌∷◌, [], List, if◌then◌else◌, Some, None, length};
@@ -50,7 +50,7 @@ fn add(stamps: &mut ArrayVec<u64, 16>, taken: Option<u64>)
 /// lower of two, and `first`, the window's first tick, where none was taken. So it is not above
 /// `first` and all stamps. Stamps, the middle and `first` are ticks of the node's own clock.
 ///
-/// This is the receiving end of a stage of clock synchronisation by the unified protocol of Miner,
+/// This is the receiving end of a stage of clock synchronization by the unified protocol of Miner,
 /// Geser, Pike and Maddalon (FORMATS 2004): local error detection, then the middle value. The rules
 /// of evidence are this project's own.
 pub fn close_sync<K: Copy>(

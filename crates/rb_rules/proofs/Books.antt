@@ -1,4 +1,5 @@
--- Records are only added to a book, and none after its last. So a run that stops there has all records.
+-- Records are only added to a book, and none after its last. So a run that stops there has all
+-- records.
 use Rattle.std.proofs.Common.{◌≡◌, ℕ, zero, suc, ◌+◌, ◌-◌, ◌≤◌, ◌==◌, Bool, true, false, List, [], ◌∷◌, ◌++◌, length, append_assoc, refl, sym, ◌∙◌, ap, arith, Option, Some, None, nat_lt, if◌then◌else◌}
 use Rattle.std.proofs.Math.Nat.{add-sub_of_le}
 use Rattle.std.proofs.lemmas.List.{append-nil}
@@ -106,7 +107,7 @@ moments-on sc hands n (suc k) =
     (on-trans (moment sc hands n).book (moment sc hands (n + k)).book (step sc hands (moment sc hands (n + k))).book (moments-on sc hands n k)
     (step-on sc hands (moment sc hands (n + k))))
 
--- so many steps from a moment on
+-- the moment n steps after a moment
 abbrev pub steps_from : Scenario → List HandIn → ℕ → Moment → Moment
 steps_from sc hands zero m = m
 steps_from sc hands (suc n) m = steps_from sc hands n (step sc hands m)
@@ -137,7 +138,8 @@ until-is : (sc : Scenario) (hands : List HandIn) (n : ℕ) (m : Moment) → (unt
 until-is sc hands zero m = refl
 until-is sc hands (suc n) m = stopped-is sc hands n m m.book.ended refl (until-is sc hands n)
 
--- the records are those of the moment after all steps: that the computed run stops at its end changes nothing
+-- the records are those of the moment after all steps: that the computed run stops at its end
+-- changes nothing
 pub records-are : (sc : Scenario) (hands : List HandIn) → records_of sc hands ≡ (moment sc hands (steps_of sc)).book.given
 records-are sc hands =
     let e : steps_of sc + 0 ≡ steps_of sc = omega arith in

@@ -63,7 +63,8 @@ length_within shortest longest before (s ∷ ss) tick low high within =
     ] in
     go (nat_le s.0 tick)
 
--- the first of some rising segments begins at tick 0, so its length or a later one stands at each tick
+-- the first of some rising segments begins at tick 0, so its length or a later one stands at each
+-- tick
 pub first_stands : (s : ℕ × ℕ) (ss : List (ℕ × ℕ)) (tick : ℕ) → are_rising (s ∷ ss) ≡ true → length_after 0 (s ∷ ss) tick ≡ length_after s.1 ss tick
 first_stands s ss tick rising =
     let zero_is : s.0 ≡ 0 = eqb-true s.0 0 (and_parts (s.0 == 0) (rise_above 0 ss) rising).0 in

@@ -16,7 +16,8 @@ use Rattle.rb_rules.specs.Standing.{Standing, is_eligible, taken_of, does_wrong,
 use Rattle.rb_base.proofs.Sets.{has-set_of, same_set_of}
 use Rattle.rb_rules.proofs.Standings.{unexpected_not_taken}
 
--- An idle slot needs no rule of its own: nobody is expected, nothing is taken, and the vote over nothing is Fault.
+-- An idle slot needs no rule of its own: nobody is expected, nothing is taken, and the vote over
+-- nothing is Fault.
 
 pub idle_expects_nobody : (me : Side) (role : Role) (trusted stage j : ℕ) → expects me role Nobody trusted stage j ≡ false
 idle_expects_nobody me role trusted stage j =

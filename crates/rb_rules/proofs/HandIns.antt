@@ -1,4 +1,4 @@
--- A hand-in changes no moment before its frame, and no record of its frame's begin.
+-- A hand-in changes no moment before its frame, and no record of its frame's start.
 use Rattle.std.proofs.Common.{◌≡◌, ℕ, zero, suc, ◌+◌, ◌<◌, ◌≤◌, ◌==◌, nat_lt, Bool, true, false, List, [], ◌∷◌, ◌++◌, refl, ◌∙◌, ap, arith, if◌then◌else◌}
 use Rattle.rb_base.proofs.Plain.{more-differs}
 use Rattle.rb_rules.specs.Book.{Each, Book, with_end}
@@ -57,7 +57,7 @@ moments-more sc hands h (suc n) lt =
     let before : moment sc (hands ++ h ∷ []) n ≡ moment sc hands n = moments-more sc hands h n (omega arith) in
     ap (step sc (hands ++ h ∷ [])) before ∙ step-more sc hands h (moment sc hands n) lt
 
--- at the begin of its frame it changes the ports alone, so the frame's record is the same
+-- at the start of its frame it changes the ports alone, so the frame's record is the same
 pub begin-book : (sc : Scenario) (hands : List HandIn) (h : HandIn) (m : Moment) → (next_frame sc (hands ++ h ∷ []) m).book ≡ (next_frame sc hands m).book
 unfolding begin_frame
 begin-book sc hands h m = refl

@@ -126,7 +126,8 @@ length-heard : {X : Type 0} (good : X → Bool) (stamp : X → ℕ) (heard : Lis
     → length (map stamp heard) ≡ count_if good heard + count_if (λ x. not (good x)) heard
 length-heard good stamp heard = length-map heard stamp ∙ sym (count_if-not good heard)
 
--- where what is heard has more good stamps than others, the middle lies between bounds that the good ones have
+-- where what is heard has more good stamps than others, the middle lies between bounds that the
+-- good ones have
 pub middle_between : {X : Type 0} (good : X → Bool) (stamp : X → ℕ) (heard : List X) (low high m : ℕ)
     → count_if (λ x. not (good x)) heard < count_if good heard → All (λ x. good x ≡ true → IsBetween low high (stamp x)) heard
     → IsMiddle m (map stamp heard) → IsBetween low high m

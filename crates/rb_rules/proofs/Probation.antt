@@ -1,4 +1,5 @@
--- The counters of a standing keep the frame of the newest evidence against each node that is accused directly.
+-- The counters of a standing keep the frame of the newest evidence against each node that is
+-- accused directly.
 use Rattle.std.proofs.Common.{◌≡◌, ℕ, suc, ◌+◌, ◌-◌, ◌<◌, ◌≤◌, min, Bool, true, false, not, ◌&&◌, ◌||◌, nat_le, nat_lt, slice_index, if◌then◌else◌, refl, sym, ◌∙◌, ap, arith, zero-add}
 use Rattle.std.proofs.lemmas.Bool.Decides.{nat_tests}
 use Rattle.std.proofs.lemmas.List.FromFn.{get_or-map-range_with_len}
@@ -30,7 +31,8 @@ evidence_is_newest evidence s frame newest is j below accused =
         let same : has s.fresh j ≡ has (with_evidence evidence s).fresh j = sym (fresh ∙ or-false (has s.fresh j)) in
         record { fresh = λ h. was.fresh (same ∙ h); earlier = λ h. was.earlier (same ∙ h); calm = λ h. was.calm (same ∙ h) }
 
--- the calm after a frame counts the frames since that of the newest evidence, and that is not a later one
+-- the calm after a frame counts the frames since that of the newest evidence, and that is not a
+-- later one
 counted : (f : Bool) (frame e calm : ℕ) → (f ≡ true → e ≡ frame) → (f ≡ false → calm ≡ min (frame - (e + 1)) 4096) → (f ≡ false → e < frame)
     → (if f then 0 else min (calm + 1) 4096) ≡ min (frame + 1 - (e + 1)) 4096
 counted true frame e calm now counts earlier = let is : e ≡ frame = now refl in omega (arith, is)

@@ -91,7 +91,7 @@ quiet-tick sizes plan me index c q h =
     ∙ ap (λ m. act_on sizes plan me index c c.state m (state_kept sizes me index c.state 0 m)) q.no_message
     ∙ no-act sizes plan me index c q
 
--- so many quiet ticks in a row are counted
+-- n quiet ticks in a row are counted
 pub quiet-ticks : (sizes : Sizes) (plan : Plan) (me : Side) (index n : ℕ) (c : Core)
     → ((k : ℕ) → c.had ≤ k → k < c.had + n → IsQuiet sizes plan me index c.state k) → c.had + n ≤ 2 ^ 31
     → ticks sizes plan me index n c ≡ record c { had = c.had + n }
@@ -144,7 +144,8 @@ pub next-is : (sizes : Sizes) (plan : Plan) (me : Side) (index : ℕ) (c : Core)
     → next_tick sizes plan me index c ≡ Some k → IsNext sizes plan me index c.state c.had k
 next-is sizes plan me index c k room h = busy-is sizes plan me index c.state (2 ^ 31 - c.had) c.had k (omega arith) h
 
--- the ticks before the next one that isn't quiet are counted when they come, as `pass_to` does at once
+-- the ticks before the next one that isn't quiet are counted when they come, as `pass_to` does at
+-- once
 pub pass-is : (sizes : Sizes) (plan : Plan) (me : Side) (index n : ℕ) (c : Core) (k : ℕ) → c.had ≤ 2 ^ 31
     → next_tick sizes plan me index c ≡ Some k → c.had + n ≤ k → ticks sizes plan me index n c ≡ record c { had = c.had + n }
 pass-is sizes plan me index n c k room h le =

@@ -6,7 +6,8 @@ use Rattle.rb_base.specs.Counting.{count_if}
 use Rattle.rb_rules.specs.Middle.{put, ascending, below, up_to}
 use Rattle.rb_base.proofs.Counts.{once, count_if-cons, count_if-le}
 
--- m stands at place k of the ascending list: at most k stamps are below it, and more than k are at most it
+-- m stands at place k of the ascending list: at most k stamps are below it, and more than k are at
+-- most it
 pub record IsAtRank (k m : ℕ) (stamps : List ℕ) : Type 0 where
   pub few_below : below m stamps ≤ k
   pub enough_up_to : k < up_to m stamps

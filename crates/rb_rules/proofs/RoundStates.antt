@@ -1,4 +1,5 @@
--- For the laws of runs: what the rounds keep of each node: its frame, its epoch, whom it trusts, and which middles it knows.
+-- For the laws of runs: what the rounds keep of each node: its frame, its epoch, whom it trusts,
+-- and which middles it knows.
 use Rattle.std.proofs.Common.{◌≡◌, ℕ, zero, suc, ◌+◌, ◌-◌, ◌*◌, ◌/◌, ◌<◌, ◌≤◌, ◌==◌, ◌&&◌, nat_lt, nat_le, Bool, true, false, List, map, refl, subst, inl, inr, ◌%◌, sym, ◌∙◌, ap, arith, Option, Some, None, slice_get, option_map, is_some, if◌then◌else◌}
 use Rattle.std.proofs.lemmas.Bool.{cases_lt}
 use Rattle.std.proofs.lemmas.Bool.Decides.{nat_tests}
@@ -125,7 +126,7 @@ and-none : (a : Bool) (x : ℕ) → (a && nat_lt x 0) ≡ false
 and-none true x = grind (arith, nat_tests)
 and-none false x = refl
 
--- at a frame's begin none is known
+-- at a frame's start none is known
 pub knows-none : (sizes : Sizes) (me : Side) (stage : ℕ) → knows sizes me stage 0 ≡ false
 knows-none sizes me stage = and-none (listens me Sync stage) (3 * sync_slot_of sizes + stage - 1)
 

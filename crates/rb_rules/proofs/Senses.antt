@@ -25,7 +25,8 @@ spelled_is_one e stamp bytes m spells suits =
     let read : message_in e.version bytes ≡ Some m = spelled_is_read e.version bytes m spells in
     ap (λ found. sense_of_one e stamp found) read ∙ ap (λ b. if b then One stamp m else Bad) suits
 
--- a node's value for a window below the sync slot is meant for that window at each node that is in the same frame
+-- a node's value for a window below the sync slot is meant for that window at each node that is in
+-- the same frame
 pub value_suits : (sizes : Sizes) (version : Version) (sender receiver : NodeState) (slot stage : ℕ) (value : Heard)
     → sender.frame ≡ receiver.frame → (slot == sync_slot_of sizes) ≡ false
     → suits (expect_of sizes version receiver slot stage) (message_of sender slot stage value) ≡ true

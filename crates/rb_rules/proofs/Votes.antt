@@ -41,7 +41,8 @@ pub times_present : (value : Heard) (f : ℕ → Option Heard) (js : List ℕ) �
 times_present value f [] = refl
 times_present value f (j ∷ js) = one_time_more value (f j) (present (map f js)) ∙ ap (λ n. cond (holds value (f j)) 1 0 + n) (times_present value f js)
 
--- sources of which one value was taken, where they outnumber all others of which anything was, decide the vote
+-- sources of which one value was taken, where they outnumber all others of which anything was,
+-- decide the vote
 pub vote_is : (f : ℕ → Option Heard) (good : ℕ → Bool) (value : Heard) → ((j : ℕ) → good j ≡ true → f j ≡ Some value) → (js : List ℕ)
     → count_if (λ j. not (good j) && is_some (f j)) js < count_if good js → majority_of (present (map f js)) ≡ value
 vote_is f good value said js more =

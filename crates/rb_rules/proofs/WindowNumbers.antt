@@ -1,4 +1,5 @@
--- The windows of a frame by their numbers, and what is read of one node where something is made of all.
+-- The windows of a frame by their numbers, and what is read of one node where something is made of
+-- all.
 use Rattle.std.proofs.Common.{◌≡◌, ℕ, zero, suc, ◌+◌, ◌*◌, ◌/◌, ◌<◌, List, [], ◌∷◌, length, map, refl, sym, ◌∙◌, ap, arith, Some, slice_get, unwrap_or, option_map}
 use Rattle.std.proofs.Math.Nat.{div-lt_iff_lt-mul}
 use Rattle.std.proofs.lemmas.List.FromFn.{get_or-range_with_len, length-range_with_len, length-map-range_with_len}

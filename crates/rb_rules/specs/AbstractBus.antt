@@ -1,5 +1,5 @@
--- The bus as one machine. It has one value for each slot, one schedule and one set of trusted nodes of each kind; it has no
--- votes, no stamps, no links and no accusations.
+-- The bus as one machine. It has one value for each slot, one schedule and one set of trusted nodes
+-- of each kind; it has no votes, no stamps, no links and no accusations.
 use Rattle.std.specs.Prelude.{⊤, ℕ, suc, ◌≡◌, ◌+◌, ◌*◌, ◌<◌, ◌≤◌, nat_lt, ◌==◌, true, false, if◌then◌else◌, List, [], ◌∷◌, ◌++◌, get_or}
 use Rattle.rb_base.specs.Nodes.{Side, other, has, set_of}
 use Rattle.rb_base.specs.Nodes.Side.{Biu, Rmu}
@@ -50,7 +50,8 @@ pub record SparesGood (sc : Scenario) (bus : AbstractBus) (accused : Side) (valu
   pub valid : is_valid (count_of accused sc.sizes) value ≡ true
   pub spared : (j : ℕ) → is_good sc accused j bus.frame bus.slot ≡ true → names j value ≡ false
 
--- the value is what a good sender says: its request, the word that it is offered, or a vector that spares the good
+-- the value is what a good sender says: its request, the word that it is offered, or a vector that
+-- spares the good
 abbrev pub IsOfGood : Scenario → AbstractBus → ℕ → Role → Heard → Type 0
 IsOfGood sc bus offered (Schedule i) value = value ≡ Word (get_or sc.requests i 0)
 IsOfGood sc bus offered (Data n) value = value ≡ Word offered
@@ -58,8 +59,8 @@ IsOfGood sc bus offered (DiagBiu i) value = SparesGood sc bus Rmu value
 IsOfGood sc bus offered (DiagRmu i) value = SparesGood sc bus Biu value
 IsOfGood sc bus offered Sync value = ⊤
 
--- the value that a slot may have: Fault where it is idle, what a good sender says, and any value where the sender is not
--- good; `offered` is the word that each BIU is offered
+-- the value that a slot may have: Fault where it is idle, what a good sender says, and any value
+-- where the sender is not good; `offered` is the word that each BIU is offered
 abbrev pub MayHave : Scenario → AbstractBus → (ℕ → ℕ) → Role → Sender → Heard → Type 0
 MayHave sc bus offered role Nobody value = value ≡ Fault
 MayHave sc bus offered role (Node i) value =
@@ -85,7 +86,7 @@ convicted_on sizes accused bus =
     convicted_by (count_of accused sizes) (trusted_on (other accused) bus) (trusted_on accused bus)
     (λ i. get_or bus.values (first_diagnosis_of (other accused) sizes + i) Fault)
 
--- the bus at the begin of the next frame
+-- the bus at the start of the next frame
 abbrev pub bus_after_frame : Sizes → ℕ → AbstractBus → AbstractBus
 bus_after_frame sizes low bus = record {
   low = low;
@@ -97,14 +98,15 @@ bus_after_frame sizes low bus = record {
   rmus = without bus.rmus (convicted_on sizes Rmu bus);
 }
 
--- from one frame to the next: it takes at least the shortest ticks of all windows, and nobody who is good there is convicted
+-- from one frame to the next: it takes at least the shortest ticks of all windows, and nobody who
+-- is good there is convicted
 pub record FrameStep (sc : Scenario) (before after : AbstractBus) : Type 0 where
   pub later : before.low + tail_start_of sc.sizes sc.plan * shortest_of sc.plan ≤ after.low
   pub after_is : after ≡ bus_after_frame sc.sizes after.low before
   pub good_stay : (side : Side) (j : ℕ) → is_good sc side j after.frame 0 ≡ true → has (trusted_on side after) j ≡ true
 
--- a slot below the sync slot, or the sync slot with the step to the next frame; `offered` is the word that is offered in a
--- frame's slot to each BIU
+-- a slot below the sync slot, or the sync slot with the step to the next frame; `offered` is the
+-- word that is offered in a frame's slot to each BIU
 abbrev pub IsStep : Scenario → (ℕ → ℕ → ℕ → ℕ) → AbstractBus → AbstractBus → Type 0
 IsStep sc offered before after =
     elim (nat_lt before.slot (sync_slot_of sc.sizes)) [
@@ -112,7 +114,7 @@ IsStep sc offered before after =
       | false ↦ FrameStep sc before after
     ]
 
--- so many steps of the machine, of which `bus` gives the state after each
+-- the first `steps` steps of the machine, of which `bus` gives the state after each
 pub record IsRun (sc : Scenario) (offered : ℕ → ℕ → ℕ → ℕ) (steps : ℕ) (bus : ℕ → AbstractBus) : Type 0 where
   pub first : bus 0 ≡ first_bus sc.sizes (bus 0).low
   pub each_step : (n : ℕ) → n < steps → IsStep sc offered (bus n) (bus (suc n))

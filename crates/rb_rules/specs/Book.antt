@@ -1,4 +1,5 @@
--- The book of a run: what is settled so far, and the records given. The rounds and the events keep the same book.
+-- The book of a run: what is settled so far, and the records given. The rounds and the events keep
+-- the same book.
 use Rattle.std.specs.Prelude.{ℕ, ◌+◌, ◌-◌, nat_lt, ◌==◌, ◌&&◌, Bool, true, false, if◌then◌else◌, Option, Some, None, option_and_then, List, [], ◌∷◌, ◌++◌, map, get_or, filter_map}
 use Rattle.rb_base.specs.Counting.{numbers}
 use Rattle.rb_base.specs.Nodes.{Side}
@@ -62,7 +63,7 @@ pub record Row : Type 0 where
   pub rmu : ℕ
   pub line : Option SlotLine  -- what it delivered
 
--- what is to be settled: the begin of a frame, a stage of a slot, or the end
+-- what is to be settled: the start of a frame, a stage of a slot, or the end
 pub data Milestone : Type 0 where
   Begin : (frame : ℕ) → Milestone
   Stage : (place : Place) → Milestone
@@ -142,7 +143,7 @@ abbrev pub frame_records : ℕ → List Begun → List Record
 frame_records frame [] = []
 frame_records frame (b ∷ bs) = Frame frame (map (λ x. x.line) (b ∷ bs)) (filter_map (λ x. x.port) (b ∷ bs)) ∷ []
 
--- the begin of a frame is settled: all nodes good there have begun it
+-- the start of a frame is settled: all nodes good there have begun it
 unfoldable pub with_frame : Scenario → ℕ → List Begun → Book → Book
 with_frame sc frame begun b =
     elim b.ended [

@@ -1,7 +1,8 @@
 -- Clocks: the time of each tick, and the stamp of each time.
 use Rattle.std.specs.Prelude.{◌≡◌, ℕ, zero, suc, ◌+◌, ◌<◌, ◌≤◌, ◌==◌, ◌&&◌, Bool, true, false, List, [], ◌∷◌, nat_le, nat_lt, if◌then◌else◌}
 
--- what a clock shows: the time of tick 0, and from which ticks on which lengths stand, each a first tick and a length
+-- what a clock shows: the time of tick 0, and from which ticks on which lengths stand, each a first
+-- tick and a length
 pub record Timeline : Type 0 where
   pub start : ℕ
   pub segments : List (ℕ × ℕ)
@@ -31,13 +32,15 @@ pub record ComesBy (last : ℕ) (clock : Timeline) (time : ℕ) : Type 0 where
   pub in_time : tick ≤ last
   pub come : time ≤ time_of clock tick
 
--- the first tick at or after a time among so many ticks from one on, of which `now` is the time
+-- the first tick, counted from `tick`, whose time is at least `time`, or the one after `others`
+-- more ticks; `now` is the time of `tick`
 abbrev pub first_among : Timeline → ℕ → ℕ → ℕ → ℕ → ℕ
 first_among clock zero tick now time = tick
 first_among clock (suc others) tick now time =
     elim (nat_le time now) [ true ↦ tick | false ↦ first_among clock others (suc tick) (now + tick_length clock tick) time ]
 
--- the stamp, looked for tick by tick. Each tick takes at least one unit, so there are no more ticks than units
+-- the stamp, looked for tick by tick. Each tick takes at least one unit, so there are no more ticks
+-- than units
 abbrev pub stamp_of : Timeline → ℕ → ℕ
 stamp_of clock time = first_among clock time 0 clock.start time
 
@@ -56,7 +59,8 @@ abbrev pub are_within : ℕ → ℕ → List (ℕ × ℕ) → Bool
 are_within shortest longest [] = true
 are_within shortest longest (s ∷ ss) = (nat_le shortest s.1 && nat_le s.1 longest) && are_within shortest longest ss
 
--- the clock starts early enough, and its segments begin at tick 0, rise, and have lengths within the bounds
+-- the clock starts early enough, and its segments begin at tick 0, rise, and have lengths within
+-- the bounds
 pub record IsClock (shortest longest : ℕ) (clock : Timeline) : Type 0 where
   pub start : clock.start ≤ 1000000000000
   pub rising : are_rising clock.segments ≡ true

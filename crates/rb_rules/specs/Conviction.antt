@@ -19,7 +19,8 @@ abbrev pub names : ℕ → Heard → Bool
 names j (Word mask) = has mask j
 names j Fault = false
 
--- how many of the senders' valid vectors name node j; `vector` gives the voted vector of each sender
+-- how many of the senders' valid vectors name node j; `vector` gives the voted vector of each
+-- sender
 abbrev pub naming : ℕ → ℕ → (ℕ → Heard) → ℕ → ℕ
 naming others senders vector j =
     count_if (λ i. has senders i && is_valid others (vector i) && names j (vector i)) (numbers 16)
@@ -44,7 +45,8 @@ convicted_at sizes me st accused =
     convicted_by (count_of accused sizes) (trusted_of me (other accused) st) (trusted_of me accused st)
     (voted_vector sizes (other accused) st)
 
--- at the tick of its next epoch a node convicts, lets accusations lapse and begins the next frame. A conviction is never taken back
+-- at the tick of its next epoch a node convicts, lets accusations lapse and begins the next frame.
+-- A conviction is never taken back
 unfoldable pub turn : Sizes → ℕ → Side → ℕ → NodeState → NodeState
 turn sizes probation me epoch st =
     fresh_state sizes (st.frame + 1) epoch

@@ -59,8 +59,9 @@ abbrev pub if_at : ℕ → Option Sending → Option Message
 if_at k None = None
 if_at k (Some s) = elim (s.tick == k) [ true ↦ Some s.message | false ↦ None ]
 
--- the message that node `index` of kind me sends at tick k, in one of the stages of the slot. A call whose tick does not come
--- before the next epoch is never sent: at that epoch the node forgets the middles, and with them the ticks of its calls
+-- the message that node `index` of kind me sends at tick k, in one of the stages of the slot. A
+-- call whose tick does not come before the next epoch is never sent: at that epoch the node forgets
+-- the middles, and with them the ticks of its calls
 unfoldable pub said_at : Sizes → Plan → Side → ℕ → NodeState → ℕ → ℕ → Option Message
 said_at sizes plan me index st word k =
     let slot = (window_here sizes plan me st k).slot in
@@ -73,7 +74,8 @@ is_last sizes plan me st k = k == st.epoch + (window_here sizes plan me st k).la
 
 -- A tick.
 
--- what a tick gives: the core after it, the frame that begins with it, the message sent, and the window closed
+-- what a tick gives: the core after it, the frame that begins with it, the message sent, and the
+-- window closed
 pub record Act : Type 0 where
   pub core : Core
   pub epoch : Option Epoch
@@ -92,8 +94,8 @@ state_kept sizes me index st word (Some m) = keep_sent sizes me index st m.slot 
 abbrev pub of_source : List (ℕ × Arrival) → ℕ → List Arrival
 of_source inbox j = map (λ a. a.1) (filter (λ a. a.0 == j) inbox)
 
--- the node has turned, if this is the tick of its next epoch, and stands in the state `st`, and after its message in `kept`.
--- It closes the window, if this is the last tick of it
+-- the node has turned, if this is the tick of its next epoch, and stands in the state `st`, and
+-- after its message in `kept`. It closes the window, if this is the last tick of it
 unfoldable pub act_on : Sizes → Plan → Side → ℕ → Core → NodeState → Option Message → NodeState → Act
 act_on sizes plan me index c st message kept =
     let closing = close_window sizes plan me index kept (window_here sizes plan me st c.had) (of_source c.inbox) in
@@ -145,7 +147,7 @@ is_busy sizes plan me index st k =
     let now = state_at sizes plan me st k in
     (now.epoch == k) || is_last sizes plan me now k || is_some (said_at sizes plan me index now 0 k)
 
--- the first busy tick among so many from k on
+-- the first busy tick among the `others` ticks from k on
 abbrev pub busy_among : Sizes → Plan → Side → ℕ → NodeState → ℕ → ℕ → Option ℕ
 busy_among sizes plan me index st zero k = None
 busy_among sizes plan me index st (suc others) k =
@@ -159,7 +161,7 @@ next_tick sizes plan me index c = busy_among sizes plan me index c.state (2 ^ 31
 abbrev pub pass_to : ℕ → Core → Core
 pass_to k c = record c { had = max c.had k }
 
--- so many ticks with word 0
+-- the core after a number of ticks with word 0
 abbrev pub ticks : Sizes → Plan → Side → ℕ → ℕ → Core → Core
 ticks sizes plan me index zero c = c
 ticks sizes plan me index (suc n) c = ticks sizes plan me index n (tick sizes plan me index c 0).core

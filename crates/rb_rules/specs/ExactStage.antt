@@ -1,4 +1,5 @@
--- The stages below the sync slot: what a node says in one, and what it makes of the arrivals when it closes one.
+-- The stages below the sync slot: what a node says in one, and what it makes of the arrivals when
+-- it closes one.
 use Rattle.std.specs.Prelude.{ℕ, ◌+◌, ◌%◌, ◌==◌, ◌&&◌, not, Bool, false, if◌then◌else◌, Option, Some, None, unwrap_or, is_some, List, map, get_or, slice_set, take}
 use Rattle.std.specs.List.{filter_map}
 use Rattle.rb_base.specs.Counting.{numbers}
@@ -27,7 +28,8 @@ use Rattle.rb_rules.specs.Standing.{Standing, taken_of, has_evidence, with_evide
 
 -- What a node says.
 
--- what the sender of a slot says: its request, its word or its vector; `word` is its request or its word
+-- what the sender of a slot says: its request, its word or its vector; `word` is its request or its
+-- word
 abbrev pub own_value : NodeState → Role → ℕ → Heard
 own_value st (Schedule i) word = heard.Word word
 own_value st (Data n) word = heard.Word word
@@ -41,8 +43,8 @@ is_sender me index role Nobody = false
 is_sender me index role (Node i) = same_side me (sender_kind role) && (index == i)
 is_sender me index role EachTrusted = false
 
--- what a node says in a stage in which its kind may send: its own value in its own slot, then what it took of the slot's
--- sender, Fault where it took nothing, then its vote
+-- what a node says in a stage in which its kind may send: its own value in its own slot, then what
+-- it took of the slot's sender, Fault where it took nothing, then its vote
 abbrev pub value_said : Side → ℕ → NodeState → ℕ → Role → Sender → ℕ → ℕ → Option Heard
 value_said me index st slot role sender stage word =
     if stage == 1 then (if is_sender me index role sender then Some (own_value st role word) else None)
@@ -99,11 +101,13 @@ taken_of_sender Nobody c = None
 taken_of_sender (Node i) c = at_source c.taken i
 taken_of_sender EachTrusted c = None
 
--- a node votes in each of the stages 2 and 3 in which it listens. The vote over nothing, as in an idle slot, is Fault
+-- a node votes in each of the stages 2 and 3 in which it listens. The vote over nothing, as in an
+-- idle slot, is Fault
 abbrev pub votes_in : Side → Role → ℕ → Bool
 votes_in me role stage = listens me role stage && not (stage == 1)
 
--- the value with which what was taken is compared: in stage 2 the sender's own, in stage 3 the voter's vote
+-- the value with which what was taken is compared: in stage 2 the sender's own, in stage 3 the
+-- voter's vote
 abbrev pub reference_value : Side → ℕ → NodeState → Role → Sender → ℕ → Closing → Option Heard
 reference_value me index st role sender stage c =
     if (stage == 2) && is_sender me index role sender then st.sent
@@ -169,7 +173,8 @@ outcome_of sizes me index st slot stage role sender sense c =
       };
     }
 
--- node `index` of kind me closes a stage below the sync slot, `sense` being what came of each source
+-- node `index` of kind me closes a stage below the sync slot, `sense` being what came of each
+-- source
 unfoldable pub close_exact : Sizes → Side → ℕ → NodeState → ℕ → ℕ → (ℕ → Sense) → Outcome
 close_exact sizes me index st slot stage sense =
     let role = role_of sizes slot in

@@ -1,4 +1,5 @@
--- What the bus promises to those who use it, of the rounds of a scenario up to the first breach of the fault premise.
+-- What the bus promises to those who use it, of the rounds of a scenario up to the first breach of
+-- the fault premise.
 use Rattle.std.specs.Prelude.{ℕ, ◌≡◌, ◌+◌, ◌*◌, ◌<◌, ◌≤◌, true, false, Option, Some, None, List, [], ◌∷◌, ◌++◌, filter, map}
 use Rattle.rb_base.specs.Counting.{numbers}
 use Rattle.rb_base.specs.Nodes.{Side, has}
@@ -43,7 +44,8 @@ abbrev pub HasRecord : Scenario → List HandIn → ℕ → ℕ → List SlotLin
 HasRecord sc hands frame slot lines =
     (after_slot sc hands frame slot).book.given ≡ (before_slot sc hands frame slot).book.given ++ Slot frame slot lines ∷ []
 
--- a data slot with an owner gives each good BIU the same value, and every other slot gives nobody any
+-- a data slot with an owner gives each good BIU the same value, and every other slot gives nobody
+-- any
 abbrev pub DeliversOneValue : Scenario → List HandIn → ℕ → ℕ → Option ℕ → Type 0
 DeliversOneValue sc hands frame slot None = HasRecord sc hands frame slot []
 DeliversOneValue sc hands frame slot (Some owner) = (value : Heard) × HasRecord sc hands frame slot (lines_of sc frame slot owner value)
@@ -73,7 +75,8 @@ HoldOneSchedule sc hands =
     → IsGoodBefore sc hands frame slot me i mine → IsGoodBefore sc hands frame slot you j yours
     → mine.owners ≡ yours.owners
 
--- all good nodes hold the same nodes of each kind convicted, in each complete slot and at the begin of each frame
+-- all good nodes hold the same nodes of each kind convicted, in each complete slot and at the start
+-- of each frame
 abbrev pub ConvictAlike : Scenario → List HandIn → Type 0
 ConvictAlike sc hands =
     (frame slot : ℕ) → slot ≤ sync_slot_of sc.sizes → IsSettled sc hands frame slot

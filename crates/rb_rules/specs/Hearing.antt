@@ -72,7 +72,8 @@ sending sizes plan me index st slot stage word =
 abbrev pub port_at : Scenario → List PortState → ℕ → PortState
 port_at sc ports i = get_or ports i (fresh_port (get_or sc.apps i 0) (get_or sc.words i 0))
 
--- the word that BIU i has for a slot: in a schedule slot its request, in a data slot what its port offers
+-- the word that BIU i has for a slot: in a schedule slot its request, in a data slot what its port
+-- offers
 abbrev pub word_for : Scenario → List PortState → ℕ → ℕ → Role → ℕ
 word_for sc ports i slot (Schedule n) = get_or sc.requests i 0
 word_for sc ports i slot (Data n) = offered_at (port_at sc ports i) slot
@@ -109,7 +110,8 @@ bytes_of version place Fault = spelling_of version (message_at place tag.Fault 0
 bytes_of version place Call = spelling_of version (message_at place tag.Sync 0)
 bytes_of version place (Raw bytes) = bytes.items
 
--- the entry is what source j says to node i of kind me in a window. An offset outside the window isn't heard
+-- the entry is what source j says to node i of kind me in a window. An offset outside the window
+-- isn't heard
 abbrev pub is_said : Side → ℕ → ℕ → Span → Say → Bool
 is_said me i j span s =
     same_node s.from (name_of (other me) j) && stands_for s.to (name_of me i) && covers s.frames s.slots s.stages span.place
@@ -123,12 +125,14 @@ coming_said version clock j span s = record {
   bytes = bytes_of version span.place s.content;
 }
 
--- what source j, which is not good, says to node i of kind me in a window, in the order of the scenario
+-- what source j, which is not good, says to node i of kind me in a window, in the order of the
+-- scenario
 abbrev pub said_by : Scenario → Side → ℕ → Span → ℕ → List Coming
 said_by sc me i span j =
     map (coming_said sc.plan.version (clock_of sc me i) j span) (filter (is_said me i j span) sc.says)
 
--- what node i of kind me hears of source j in a window, in which this is what the nodes of the other kind send
+-- what node i of kind me hears of source j in a window, in which this is what the nodes of the
+-- other kind send
 unfoldable pub heard_from : Scenario → Side → ℕ → Span → List (Option Sending) → ℕ → List Coming
 heard_from sc me i span sent j =
     elim (is_good sc (other me) j span.place.frame span.place.slot) [
@@ -160,7 +164,8 @@ judged_see time Nothing = Nothing
 judged_see time (Value v) = Value v
 judged_see time (Time stamp) = Time time
 
--- what node i of kind me tells of a stage that it closed in this state, having heard this of each source
+-- what node i of kind me tells of a stage that it closed in this state, having heard this of each
+-- source
 unfoldable pub row_of : Side → ℕ → NodeState → (ℕ → List Coming) → Closed → Row
 row_of me i st heard c = record {
   place = c.place;

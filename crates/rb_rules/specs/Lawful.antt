@@ -1,4 +1,5 @@
--- What is lawful: all that is known of a scenario that was accepted. Every law of the bus has it as its premise.
+-- What is lawful: all that is known of a scenario that was accepted. Every law of the bus has it as
+-- its premise.
 use Rattle.std.specs.Prelude.{⊤, ℕ, ◌≡◌, ◌⊎◌, ◌+◌, ◌-◌, ◌^◌, ◌<◌, ◌≤◌, ◌==◌, nat_lt, if◌then◌else◌, Bool, true, false, All, List, [], ◌∷◌, length, Option, Some, None}
 use Rattle.rb_base.specs.Nodes.{Side, other}
 use Rattle.rb_base.specs.Nodes.Side.{Biu, Rmu}
@@ -51,7 +52,7 @@ is_node_good sc (node.Rmu i) frame slot = is_good sc Rmu i frame slot
 
 -- Numbers.
 
--- the list has an entry for each of so many nodes, and all entries are such
+-- the list has at least `nodes` entries, and every entry satisfies `IsSuch`
 pub record HasEach {X : Type 0} (nodes : ℕ) (IsSuch : X → Type 0) (entries : List X) : Type 0 where
   pub enough : nodes ≤ length entries
   pub each : All IsSuch entries
@@ -121,8 +122,9 @@ IsContent Fault = ⊤
 IsContent Sync = ⊤
 IsContent (Raw bytes) = IsRaw bytes.items
 
--- An entry is said by a node that is not good at its first place, to nodes of the other kind, in windows of the run. It comes
--- in each window at one of the window's ticks, or in the sync slot less than a tick before it
+-- An entry is said by a node that is not good at its first place, to nodes of the other kind, in
+-- windows of the run. It comes in each window at one of the window's ticks, or in the sync slot
+-- less than a tick before it
 pub record IsSayOf (sc : Scenario) (s : Say) : Type 0 where
   pub from : IsNodeOf sc.sizes s.from
   pub faulty : is_node_good sc s.from s.frames.0 s.slots.0 ≡ false

@@ -12,7 +12,8 @@ abbrev pub ascending : List ℕ → List ℕ
 ascending [] = []
 ascending (stamp ∷ stamps) = put stamp (ascending stamps)
 
--- of n stamps in ascending order the one at place (n - 1) / 2, counted from 0, rounded down; none where there is no stamp
+-- of n stamps in ascending order the one at place (n - 1) / 2, counted from 0, rounded down; none
+-- where there is no stamp
 abbrev pub middle_of : List ℕ → Option ℕ
 middle_of stamps = slice_get (ascending stamps) ((length stamps - 1) / 2)
 
@@ -24,7 +25,8 @@ below m stamps = count_if (λ stamp. nat_lt stamp m) stamps
 abbrev pub up_to : ℕ → List ℕ → ℕ
 up_to m stamps = count_if (λ stamp. nat_le stamp m) stamps
 
--- the middle by counts: fewer than half of the stamps are below it, and at least half are at most it
+-- the middle by counts: fewer than half of the stamps are below it, and at least half are at most
+-- it
 pub record IsMiddle (m : ℕ) (stamps : List ℕ) : Type 0 where
   pub few_below : 2 * below m stamps < length stamps
   pub half_up_to : length stamps ≤ 2 * up_to m stamps

@@ -12,7 +12,8 @@ use Rattle.rb_rules.specs.Rounds.{Moment, moment, windows_in}
 
 -- The moments.
 
--- the moment before a stage of a slot of a frame. Before a frame come the windows of those before it, and as many turns
+-- the moment before a stage of a slot of a frame. Before a frame come the windows of those before
+-- it, and as many turns
 abbrev pub before_stage : Scenario → List HandIn → ℕ → ℕ → ℕ → Moment
 before_stage sc hands frame slot stage = moment sc hands (frame * (windows_in sc.sizes + 1) + 3 * slot + stage - 1)
 
@@ -33,7 +34,8 @@ IsRunning m = m.book.ended ≡ false
 abbrev pub IsComplete : Scenario → List HandIn → ℕ → ℕ → Type 0
 IsComplete sc hands frame slot = IsRunning (after_slot sc hands frame slot)
 
--- the frame begins without a breach before it: it is the first, or the sync slot of the one before it is complete
+-- the frame begins without a breach before it: it is the first, or the sync slot of the one before
+-- it is complete
 abbrev pub IsReached : Scenario → List HandIn → ℕ → Type 0
 IsReached sc hands zero = ⊤
 IsReached sc hands (suc frame) = IsComplete sc hands frame (sync_slot_of sc.sizes)
@@ -43,7 +45,8 @@ abbrev pub BeginsFrame : Scenario → List HandIn → ℕ → ℕ → Type 0
 BeginsFrame sc hands frame zero = IsReached sc hands frame
 BeginsFrame sc hands frame (suc slot) = ⊥
 
--- the begin of the slot is before the first breach: the slot is complete, or a frame that is reached begins with it
+-- the start of the slot is before the first breach: the slot is complete, or a frame that is
+-- reached begins with it
 abbrev pub IsSettled : Scenario → List HandIn → ℕ → ℕ → Type 0
 IsSettled sc hands frame slot = IsComplete sc hands frame slot ⊎ BeginsFrame sc hands frame slot
 

@@ -20,13 +20,15 @@ abbrev pub expect_of : Sizes → Version → NodeState → ℕ → ℕ → Expec
 expect_of sizes version st slot stage =
     record { frame = st.frame % 65536; slot = slot; stage = stage; sync = slot == sync_slot_of sizes; version = version }
 
--- the message that node `index` of kind me sends in a stage, if any; `word` is its request or its word
+-- the message that node `index` of kind me sends in a stage, if any; `word` is its request or its
+-- word
 abbrev pub message_said : Sizes → Side → ℕ → NodeState → ℕ → ℕ → ℕ → Option Message
 message_said sizes me index st slot stage word =
     if slot == sync_slot_of sizes then calls sizes me st stage
     else option_map (message_of st slot stage) (says sizes me index st slot stage word)
 
--- node `index` of kind me closes a window that begins at the offset `first`, `sense` being what came of each source
+-- node `index` of kind me closes a window that begins at the offset `first`, `sense` being what
+-- came of each source
 abbrev pub close : Sizes → Side → ℕ → NodeState → ℕ → ℕ → ℕ → (ℕ → Sense) → Outcome
 close sizes me index st slot stage first sense =
     elim (slot == sync_slot_of sizes) [
@@ -34,7 +36,7 @@ close sizes me index st slot stage first sense =
       | false ↦ close_exact sizes me index st slot stage sense
     ]
 
--- a node at the end of a frame turns to the next one, if it knows the tick with which that begins
+-- a node at the end of a frame turns to the next one, if it knows the tick with which that starts
 abbrev pub turn_if_known : Sizes → Plan → Side → NodeState → NodeState
 turn_if_known sizes plan me st =
     elim (new_epoch_of plan me st) [ None ↦ st | Some epoch ↦ turn sizes plan.probation me epoch st ]

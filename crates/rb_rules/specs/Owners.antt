@@ -17,13 +17,13 @@ abbrev pub owners_in_pass : Sizes → ℕ → List Heard → ℕ → List ℕ
 owners_in_pass sizes trusted requests pass =
     filter (λ i. has trusted i && nat_lt pass (request_in (get_or requests i Fault))) (numbers sizes.bius)
 
--- the owners that so many passes give, one after another, until the slots are used up
+-- the owners that a number of passes give, one after another, until the slots are used up
 abbrev pub owners_in_passes : Sizes → ℕ → List Heard → ℕ → List ℕ
 owners_in_passes sizes trusted requests passes =
     take sizes.data_slots (flat_map (owners_in_pass sizes trusted requests) (numbers passes))
 
--- the owners of the data slots in order; a slot past the end has none. A pass in which nobody asks is followed by no other, so as
--- many passes as there are slots are enough
+-- the owners of the data slots in order; a slot past the end has none. A pass in which nobody asks
+-- is followed by no other, so as many passes as there are slots are enough
 abbrev pub owners_of : Sizes → ℕ → List Heard → List ℕ
 owners_of sizes trusted requests =
     take sizes.data_slots (flat_map (owners_in_pass sizes trusted requests) (numbers sizes.data_slots))

@@ -32,15 +32,17 @@ shortest_of plan = plan.u - plan.r
 abbrev pub longest_of : Plan → ℕ
 longest_of plan = plan.u + plan.r
 
--- how far two good clocks drift apart in so many ticks, at most
+-- how far two good clocks drift apart in `ticks` ticks, at most
 abbrev pub drift_in : Plan → ℕ → ℕ
 drift_in plan ticks = 2 * plan.r * ticks
 
--- the skew allowed inside a frame: that of the epochs, and the drift up to the tick that sends the first sync message
+-- the skew allowed inside a frame: that of the epochs, and the drift up to the tick that sends the
+-- first sync message
 abbrev pub skew_of : Sizes → Plan → ℕ
 skew_of sizes plan = plan.p + drift_in plan (f0_of sizes plan + plan.h)
 
--- how long the ticks of a window after the sending tick take at least; less than nothing where it has no such tick
+-- how long the ticks of a window after the sending tick take at least; less than nothing where it
+-- has no such tick
 abbrev pub rest_of : Plan → ℕ → ℤ
 rest_of plan ticks = (pos ticks -ℤ pos (1 + plan.h)) *ℤ pos (shortest_of plan)
 
@@ -55,8 +57,9 @@ pub record Sides : Type 0 where
   pub left : ℤ
   pub right : ℤ
 
--- the seven inequalities in order. Of the first six the odd ones keep a message from coming before its window, the even
--- ones from coming after it: below the sync slot and in its stage 1, in stage 2, in stage 3. The last bounds the next skew
+-- the seven inequalities in order. Of the first six the odd ones keep a message from coming before
+-- its window, the even ones from coming after it: below the sync slot and in its stage 1, in stage
+-- 2, in stage 3. The last bounds the next skew
 abbrev pub inequalities_of : Sizes → Plan → List Sides
 inequalities_of sizes plan =
     record { left = pos (plan.h * shortest_of plan + plan.dmin); right = pos (skew_of sizes plan) }

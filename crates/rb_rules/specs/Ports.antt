@@ -4,7 +4,8 @@ use Rattle.rb_base.specs.Counting.{count_if}
 use Rattle.rb_base.specs.declared.values.Heard.{Heard}
 use Rattle.rb_base.specs.declared.values.Heard.TheVariants.{Word, Fault}
 
--- the word that an application offers for a slot: `table` (0) and `counter` (1) their state, `follow` (2) what the slot adds to it
+-- the word that an application offers for a slot: `table` (0) and `counter` (1) their state,
+-- `follow` (2) what the slot adds to it
 abbrev pub offered_by : ℕ → ℕ → ℕ → ℕ
 offered_by app state slot = (if app == 2 then state + slot else state) % 2 ^ 32
 
@@ -12,7 +13,8 @@ abbrev pub word_or_0 : Option ℕ → ℕ
 word_or_0 None = 0
 word_or_0 (Some word) = word
 
--- its state after a delivery; none where the delivery is Fault. `table` keeps its state, `counter` counts, `follow` mixes
+-- its state after a delivery; none where the delivery is Fault. `table` keeps its state, `counter`
+-- counts, `follow` mixes
 abbrev pub learned_by : ℕ → ℕ → Option ℕ → ℕ
 learned_by app state word =
     if app == 1 then (state + 1) % 2 ^ 64 else (if app == 2 then (31 * state + word_or_0 word) % 2 ^ 64 else state)
@@ -26,7 +28,8 @@ abbrev pub is_fault : Heard → Bool
 is_fault (Word word) = false
 is_fault Fault = true
 
--- a port: its application, that one's state, and for each delivery whether it was Fault, the newest first
+-- a port: its application, that one's state, and for each delivery whether it was Fault, the newest
+-- first
 pub record PortState : Type 0 where
   pub app : ℕ
   pub state : ℕ
@@ -48,7 +51,7 @@ delivered_to port value =
 abbrev pub losses_of : PortState → ℕ
 losses_of port = count_if (λ fault. fault) (take 64 port.faults)
 
--- a state that is handed to the port of a BIU at the begin of a frame
+-- a state that is handed to the port of a BIU at the start of a frame
 pub record HandIn : Type 0 where
   pub frame : ℕ
   pub biu : ℕ

@@ -59,7 +59,8 @@ close_on sc me i st w heard =
 abbrev pub heard_at : Scenario → Side → ℕ → NodeState → Window → Each (Option Sending) → ℕ → List Coming
 heard_at sc me i st w sent = heard_from sc me i (span_of st w) (of_kind (other me) sent)
 
--- a good node says what it has to say, and closes the window on what it hears. An empty tail is passed over
+-- a good node says what it has to say, and closes the window on what it hears. An empty tail is
+-- passed over
 unfoldable pub go_through : Scenario → Moment → Each (Option Sending) → Side → ℕ → NodeState → Window → Result
 go_through sc m sent me i st w =
     elim (is_good sc me i m.frame w.slot && nat_le w.first w.last) [
@@ -105,8 +106,8 @@ IsGoodIn sc m me i st =
 abbrev pub IsTickOf : Span → ℕ → Type 0
 IsTickOf span tick = (span.first ≤ tick) × (tick ≤ span.last)
 
--- the window is timely: good nodes send at ticks of their own window, and what good nodes hear of good nodes comes with a
--- stamp in theirs
+-- the window is timely: good nodes send at ticks of their own window, and what good nodes hear of
+-- good nodes comes with a stamp in theirs
 pub record IsTimely (sc : Scenario) (m : Moment) : Type 0 where
   pub sent : (me : Side) (i : ℕ) (st : NodeState) → IsGoodIn sc m me i st
       → IfSome (sending_in sc m me i st (window_in sc m me st)) (λ s. IsTickOf (span_of st (window_in sc m me st)) s.tick)
@@ -151,12 +152,12 @@ step sc hands m =
     let next : Moment = move_on sc hands m in
     record next { book = elim (m.frame == sc.frames) [ true ↦ with_end m.book | false ↦ next.book ] }
 
--- the moment after so many steps. After a breach, too, the states go on and the book does not
+-- the moment after a number of steps. After a breach, too, the states go on and the book does not
 abbrev pub moment : Scenario → List HandIn → ℕ → Moment
 moment sc hands zero = first_moment sc hands
 moment sc hands (suc n) = step sc hands (moment sc hands n)
 
--- at most so many steps more, none after the last record
+-- the moment after at most n more steps, none after the last record
 abbrev pub until_end : Scenario → List HandIn → ℕ → Moment → Moment
 until_end sc hands zero m = m
 until_end sc hands (suc n) m = elim m.book.ended [ true ↦ m | false ↦ until_end sc hands n (step sc hands m) ]

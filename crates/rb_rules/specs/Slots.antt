@@ -17,7 +17,8 @@ abbrev pub count_of : Side → Sizes → ℕ
 count_of Biu sizes = sizes.bius
 count_of Rmu sizes = sizes.rmus
 
--- the first diagnosis slot of a kind: those of the BIUs come after the data slots, those of the RMUs after these
+-- the first diagnosis slot of a kind: those of the BIUs come after the data slots, those of the
+-- RMUs after these
 abbrev pub first_diagnosis_of : Side → Sizes → ℕ
 first_diagnosis_of Biu sizes = sizes.bius + sizes.data_slots
 first_diagnosis_of Rmu sizes = 2 * sizes.bius + sizes.data_slots
@@ -46,7 +47,8 @@ has_third_stage (DiagBiu i) = true
 has_third_stage (DiagRmu i) = true
 has_third_stage Sync = true
 
--- the kind that sends in stage 1 listens in stage 2, the other kind in stages 1 and 3. A kind sends where the other listens
+-- the kind that sends in stage 1 listens in stage 2, the other kind in stages 1 and 3. A kind sends
+-- where the other listens
 abbrev pub listens : Side → Role → ℕ → Bool
 listens me role stage =
     if same_side me (sender_kind role) then stage == 2 else ((stage == 1) || ((stage == 3) && has_third_stage role))
@@ -74,14 +76,15 @@ sender_in bius rmus owners (DiagBiu i) = if_trusted bius i
 sender_in bius rmus owners (DiagRmu i) = if_trusted rmus i
 sender_in bius rmus owners Sync = EachTrusted
 
--- whether a node that listens in a stage expects source j: the sender alone in stage 1, and each trusted one in the stages
--- in which all relay or repeat
+-- whether a node that listens in a stage expects source j: the sender alone in stage 1, and each
+-- trusted one in the stages in which all relay or repeat
 abbrev pub expects_of : Sender → ℕ → ℕ → ℕ → Bool
 expects_of Nobody trusted stage j = false
 expects_of (Node i) trusted stage j = if stage == 1 then j == i else has trusted j
 expects_of EachTrusted trusted stage j = has trusted j
 
--- whether a node of kind me expects source j in a stage, `trusted` being the trusted nodes of the other kind
+-- whether a node of kind me expects source j in a stage, `trusted` being the trusted nodes of the
+-- other kind
 abbrev pub expects : Side → Role → Sender → ℕ → ℕ → ℕ → Bool
 expects me role sender trusted stage j = listens me role stage && expects_of sender trusted stage j
 
@@ -90,7 +93,8 @@ abbrev pub far_of : Side → ℕ → ℕ → ℕ
 far_of Biu bius rmus = rmus
 far_of Rmu bius rmus = bius
 
--- the nodes that a node of kind me expects in a stage of a slot, by the owners and by the trusted BIUs and RMUs
+-- the nodes that a node of kind me expects in a stage of a slot, by the owners and by the trusted
+-- BIUs and RMUs
 abbrev pub expected_by : Sizes → Side → ℕ → ℕ → List ℕ → ℕ → ℕ → ℕ
 expected_by sizes me slot stage owners bius rmus =
     set_of (expects me (role_of sizes slot) (sender_in bius rmus owners (role_of sizes slot)) (far_of me bius rmus) stage)

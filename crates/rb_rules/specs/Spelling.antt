@@ -68,7 +68,8 @@ may_have Word value = true
 may_have Fault value = value == 0
 may_have Sync value = value == 0
 
--- the message with these fields, where the tag is one, the stage is 1 to 3 and the value may stand beside the tag
+-- the message with these fields, where the tag is one, the stage is 1 to 3 and the value may stand
+-- beside the tag
 abbrev pub message_with : Option Tag → ℕ → ℕ → ℕ → ℕ → Option Message
 message_with None frame slot stage value = None
 message_with (Some tag) frame slot stage value =
@@ -76,7 +77,8 @@ message_with (Some tag) frame slot stage value =
     then Some (record { tag = tag; frame = frame; slot = slot; stage = stage; value = value })
     else None
 
--- version One has 11 bytes, the check at 10; version Two has 12 bytes, the bus's number at 10 and the check at 11
+-- version One has 11 bytes, the check at 10; version Two has 12 bytes, the bus's number at 10 and
+-- the check at 11
 abbrev pub has_form : Version → List ℕ → Bool
 has_form One bytes = (length bytes == 11) && (slice_index bytes 10 == check_of (take 10 bytes))
 has_form (Two bus) bytes =

@@ -1,4 +1,5 @@
--- What a node holds of the nodes of the other kind: whom it trusts, whom it accuses, and of whom it takes.
+-- What a node holds of the nodes of the other kind: whom it trusts, whom it accuses, and of whom it
+-- takes.
 use Rattle.std.specs.Prelude.{ℕ, ◌+◌, min, nat_lt, nat_le, ◌&&◌, ◌||◌, not, Bool, if◌then◌else◌, Option, None, Some, false, List, map, replicate, slice_index}
 use Rattle.rb_base.specs.Counting.{numbers}
 use Rattle.rb_base.specs.Nodes.{has, set_of}
@@ -19,15 +20,18 @@ abbrev pub first_standing : ℕ → Standing
 first_standing count =
     record { trusted = set_of (λ j. nat_lt j count); direct = 0; mismatch = 0; fresh = 0; calm = replicate 16 0 }
 
--- a node is eligible where it is trusted and not accused directly. A mismatch accusation changes nothing here
+-- a node is eligible where it is trusted and not accused directly. A mismatch accusation changes
+-- nothing here
 abbrev pub is_eligible : Standing → ℕ → Bool
 is_eligible s j = has s.trusted j && not (has s.direct j)
 
--- what is taken of a source, `part` being what is wanted of a message: something only where it is expected and eligible
+-- what is taken of a source, `part` being what is wanted of a message: something only where it is
+-- expected and eligible
 abbrev pub taken_of : {X : Type 0} → (Sense → Option X) → Standing → (ℕ → Bool) → (ℕ → Sense) → ℕ → Option X
 taken_of part s expected sense j = if expected j && is_eligible s j then part (sense j) else None
 
--- a source does wrong where it was expected and not exactly its message came, or where it was not and something came
+-- a source does wrong where it was expected and not exactly its message came, or where it was not
+-- and something came
 abbrev pub does_wrong : Bool → Sense → Bool
 does_wrong expected sense = if expected then not (is_one sense) else not (is_silent sense)
 
@@ -55,11 +59,13 @@ with_mismatch differs s = record s { mismatch = set_of (λ j. has s.mismatch j |
 abbrev pub vector_of : Standing → ℕ
 vector_of s = set_of (λ j. has s.trusted j && (has s.direct j || has s.mismatch j))
 
--- a node's calm when a frame ends: none where there was evidence in it, else one frame more, counted up to 4096
+-- a node's calm when a frame ends: none where there was evidence in it, else one frame more,
+-- counted up to 4096
 abbrev pub calm_after : Standing → ℕ → ℕ
 calm_after s j = if has s.fresh j then 0 else min (slice_index s.calm j + 1) 4096
 
--- the direct accusation of a node lapses after so many frames without evidence against it; after 0 frames none lapses
+-- the direct accusation of node j lapses after `probation` frames without evidence against it; if
+-- `probation` is 0, none lapses
 abbrev pub lapses : ℕ → Standing → ℕ → Bool
 lapses probation s j =
     has s.direct j && not (has s.fresh j) && nat_le 1 probation && nat_le probation (calm_after s j)

@@ -1,4 +1,5 @@
--- What it is that the rounds of a scenario stand for a run of the abstract bus: what all good nodes have in common.
+-- What it is that the rounds of a scenario stand for a run of the abstract bus: what all good nodes
+-- have in common.
 use Rattle.std.specs.Prelude.{ℕ, ◌≡◌, ◌+◌, ◌*◌, ◌<◌, ◌≤◌, max, Bool, true, false, if◌then◌else◌, Some, List, [], get_or}
 use Rattle.rb_base.specs.Nodes.{Side, other, has}
 use Rattle.rb_base.specs.Nodes.Side.{Biu, Rmu}
@@ -18,7 +19,7 @@ use Rattle.rb_rules.specs.Slots.{Sender, has_third_stage, role_of, same_side}
 use Rattle.rb_rules.specs.Slots.Sender.{Nobody, Node, EachTrusted}
 use Rattle.rb_rules.specs.SyncStage.{new_epoch_of}
 
--- The abstract bus at a slot: its state before it is the one after so many steps.
+-- The number of steps after which the abstract bus is before this slot of this frame.
 
 abbrev pub steps_to : Sizes → ℕ → ℕ → ℕ
 steps_to sizes frame slot = frame * (sync_slot_of sizes + 1) + slot
@@ -29,7 +30,8 @@ value_on bus slot = get_or bus.values slot Fault
 
 -- What holds of a good node.
 
--- the node begins offset o of the frame in the band of the bus. So two good nodes differ by at most p + 2 r o
+-- the node begins offset o of the frame in the band of the bus. So two good nodes differ by at most
+-- p + 2 r o
 pub record IsInBand (sc : Scenario) (bus : AbstractBus) (me : Side) (i : ℕ) (st : NodeState) (o : ℕ) : Type 0 where
   pub not_early : bus.low + o * shortest_of sc.plan ≤ time_in_frame sc me i st o
   pub not_late : time_in_frame sc me i st o ≤ bus.low + sc.plan.p + o * longest_of sc.plan
@@ -57,7 +59,8 @@ abbrev pub SparesAllGood : Scenario → ℕ → ℕ → Side → NodeState → T
 SparesAllGood sc frame slot me st =
     (j : ℕ) → is_good sc (other me) j frame slot ≡ true → (has st.far.direct j ≡ false) × (has st.far.mismatch j ≡ false)
 
--- after the sync slot the node knows the tick of its next epoch, so many ticks after that of this frame
+-- after the sync slot the node knows the tick of its next epoch, and how many ticks after the epoch
+-- of this frame it comes
 pub record FrameTakes (sizes : Sizes) (plan : Plan) (me : Side) (st : NodeState) : Type 0 where
   pub epoch : ℕ
   pub known : new_epoch_of plan me st ≡ Some epoch
@@ -97,9 +100,9 @@ pub record SlotAgrees (sc : Scenario) (hands : List HandIn) (frame slot : ℕ) (
   pub good_are_trusted : (kind : Side) (j : ℕ) → is_good sc kind j frame slot ≡ true → has (trusted_on kind bus) j ≡ true
   pub deliveries : DeliversOn sc hands frame slot bus next
 
--- What holds of the begin of a frame.
+-- What holds of the start of a frame.
 
--- the first time of the bus in a frame is that of a node that begins it
+-- the first time of the bus in a frame is that of a node that starts it
 pub record IsLow (sc : Scenario) (hands : List HandIn) (frame low : ℕ) : Type 0 where
   pub me : Side
   pub i : ℕ
@@ -107,15 +110,17 @@ pub record IsLow (sc : Scenario) (hands : List HandIn) (frame low : ℕ) : Type 
   pub begins : IsGoodBefore sc hands frame 0 me i st
   pub time : time_in_frame sc me i st 0 ≡ low
 
--- what all good nodes have in common at the begin of a frame. Its first time is free where no node is good there
+-- what all good nodes have in common at the start of a frame. Its first time is free where no node
+-- is good there
 pub record FrameAgrees (sc : Scenario) (hands : List HandIn) (frame : ℕ) (bus : AbstractBus) : Type 0 where
   pub good_nodes : (me : Side) (i : ℕ) (st : NodeState) → IsGoodBefore sc hands frame 0 me i st → AgreesBefore sc bus me i st
   pub low : (me : Side) (i : ℕ) (st : NodeState) → IsGoodBefore sc hands frame 0 me i st → IsLow sc hands frame bus.low
 
 -- The run.
 
--- the rounds stand for a run of the bus: up to each frame that is reached, and up to and with each slot that is complete without
--- a breach, the bus makes its steps, and what all good nodes hold there is what the bus holds
+-- the rounds stand for a run of the bus: up to each frame that is reached, and up to and with each
+-- slot that is complete without a breach, the bus makes its steps, and what all good nodes hold
+-- there is what the bus holds
 pub record StandsFor (sc : Scenario) (hands : List HandIn) : Type 0 where
   pub bus : ℕ → AbstractBus
   pub run_to_frame : (frame : ℕ) → IsReached sc hands frame → IsRun sc (offered_in sc hands) (steps_to sc.sizes frame 0) bus

@@ -1,5 +1,5 @@
--- The sync slot, in which all nodes resynchronise: the BIUs call, the RMUs call at the middle of these calls, and the BIUs
--- once more at the middle of those.
+-- The sync slot, in which all nodes resynchronize: the BIUs call, the RMUs call at the middle of
+-- these calls, and the BIUs once more at the middle of those.
 use Rattle.std.specs.Prelude.{ℕ, ◌+◌, ◌%◌, ◌==◌, ◌&&◌, Bool, if◌then◌else◌, Option, Some, None, option_map, unwrap_or, map}
 use Rattle.rb_base.specs.Nodes.{Side, other}
 use Rattle.rb_base.specs.Nodes.Side.{Biu, Rmu}
@@ -22,7 +22,7 @@ use Rattle.rb_rules.specs.Slots.Sender.{EachTrusted}
 use Rattle.rb_rules.specs.Standing.{Standing, taken_of, has_evidence, with_evidence}
 use Rattle.rb_rules.specs.Windows.{send_offset_of}
 
--- a call to resynchronise
+-- a call to resynchronize
 abbrev pub call_of : Sizes → NodeState → ℕ → Message
 call_of sizes st stage =
     record { tag = tag.Sync; frame = st.frame % 65536; slot = sync_slot_of sizes; stage = stage; value = 0 }
@@ -31,7 +31,8 @@ call_of sizes st stage =
 abbrev pub calls : Sizes → Side → NodeState → ℕ → Option Message
 calls sizes me st stage = if listens (other me) Sync stage then Some (call_of sizes st stage) else None
 
--- the stamps that are taken of each source, and the middle of them; where none is taken, the window's first tick
+-- the stamps that are taken of each source, and the middle of them; where none is taken, the
+-- window's first tick
 abbrev pub sync_closing_of : Standing → (ℕ → Bool) → (ℕ → Sense) → ℕ → SyncClosing
 sync_closing_of s expected sense first =
     let taken = each_node (taken_of stamp_in s expected sense) in
@@ -65,13 +66,14 @@ sync_outcome_of sizes me st stage sense c = record {
   };
 }
 
--- a node of kind me closes a stage of the sync slot, or the tail; `first` is the window's first tick
+-- a node of kind me closes a stage of the sync slot, or the tail; `first` is the window's first
+-- tick
 unfoldable pub close_sync : Sizes → Side → NodeState → ℕ → ℕ → (ℕ → Sense) → Outcome
 close_sync sizes me st stage first sense =
     sync_outcome_of sizes me st stage sense (sync_closing_of st.far (expects_call me st stage) sense first)
 
--- the tick at which the call of a stage is sent. In stages 2 and 3 the middle of the stage before fixes it, so there is none
--- until the node has taken that middle in this frame
+-- the tick at which the call of a stage is sent. In stages 2 and 3 the middle of the stage before
+-- fixes it, so there is none until the node has taken that middle in this frame
 abbrev pub call_tick_of : Sizes → Plan → NodeState → ℕ → Option ℕ
 call_tick_of sizes plan st stage =
     if stage == 1 then Some (st.epoch + f0_of sizes plan + plan.h)
@@ -82,7 +84,8 @@ abbrev pub send_tick_of : Sizes → Plan → NodeState → ℕ → ℕ → Optio
 send_tick_of sizes plan st slot stage =
     if slot == sync_slot_of sizes then call_tick_of sizes plan st stage else Some (st.epoch + send_offset_of plan slot stage)
 
--- the tick of the next epoch. There is none until the node has taken the middle that fixes it in this frame
+-- the tick of the next epoch. There is none until the node has taken the middle that fixes it in
+-- this frame
 abbrev pub new_epoch_of : Plan → Side → NodeState → Option ℕ
 new_epoch_of plan Biu st = option_map (λ k2. k2 + plan.v + plan.z + plan.c) st.k2
 new_epoch_of plan Rmu st = option_map (λ k3. k3 + plan.z) st.k3

@@ -6,7 +6,7 @@ use Rattle.rb_rules.specs.declared.plan.Plan.{Plan}
 use Rattle.rb_rules.specs.declared.plan.Window.{Window}
 use Rattle.rb_rules.specs.Plan.{f0_of, tail_start_of}
 
--- the window of so many ticks from this offset on
+-- the window of `ticks` ticks from the offset `first` on
 abbrev pub window_of : ℕ → ℕ → ℕ → ℕ → Window
 window_of slot stage first ticks = record { slot = slot; stage = stage; first = first; last = first + ticks - 1 }
 
@@ -35,7 +35,8 @@ holds_offset offset window = nat_le window.first offset && nat_le offset window.
 abbrev pub window_at : Sizes → Plan → ℕ → Option Window
 window_at sizes plan offset = find (holds_offset offset) (windows_of_frame sizes plan)
 
--- the tail lies between the windows and the offset of the next frame's first tick. Where they meet it is empty
+-- the tail lies between the windows and the offset of the next frame's first tick. Where they meet
+-- it is empty
 abbrev pub tail_of : Sizes → Plan → ℕ → Window
 tail_of sizes plan epoch =
     record { slot = sync_slot_of sizes; stage = 4; first = tail_start_of sizes plan; last = epoch - 1 }

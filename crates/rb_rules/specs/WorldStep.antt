@@ -1,4 +1,5 @@
--- The world's step: all node cores of a run with what is pending at each, one event after another in the order of time.
+-- The world's step: all node cores of a run with what is pending at each, one event after another
+-- in the order of time.
 use Rattle.std.specs.Prelude.{◌≡◌, ℕ, zero, suc, ◌-◌, min, ◌==◌, ◌&&◌, ◌||◌, not, Bool, true, false, Option, Some, None, is_some, option_and_then, option_map, option_to_list, List, [], ◌∷◌, ◌++◌, filter, flat_map, fold, length, map, remove, slice_get, slice_set}
 use Rattle.std.specs.List.{enumerate_from, list_all}
 use Rattle.rb_base.specs.Counting.{numbers}
@@ -104,7 +105,8 @@ needs_no_event sc (Begin frame) = nobody_good sc frame 0
 needs_no_event sc (Stage place) = nobody_good sc place.frame place.slot
 needs_no_event sc End = true
 
--- the events of the least time, node by node. None may be taken where the next record needs none, and after the last
+-- the events of the least time, node by node. None may be taken where the next record needs none,
+-- and after the last
 unfoldable pub due_of : Scenario → World → List Due
 due_of sc w =
     elim (w.book.ended || needs_no_event sc w.book.upcoming) [
@@ -138,7 +140,8 @@ await sc me i more s = record s {
 abbrev pub stop : Site → Site
 stop s = record s { runs = false; ahead = None; coming = [] }
 
--- at a window's begin a node that is not good there stops, and to the others comes what they are told in it
+-- at a window's start a node that is not good there stops, and to the others comes what they are
+-- told in it
 abbrev pub enter : Scenario → Side → ℕ → Option Span → Site → Site
 enter sc me i None s = await sc me i [] s
 enter sc me i (Some span) s =
@@ -154,7 +157,8 @@ proceed sc me i s = enter sc me i (span_from sc.sizes sc.plan me s.core.state s.
 abbrev pub coming_from : List Coming → ℕ → List Coming
 coming_from got j = filter (λ c. c.from == j) got
 
--- what the node has told after a tick at which it closed this. The tail is no stage, so it tells nothing of it
+-- what the node has told after a tick at which it closed this. The tail is no stage, so it tells
+-- nothing of it
 abbrev pub with_close : Side → ℕ → NodeState → Option Closed → Site → Site
 with_close me i st None s = s
 with_close me i st (Some c) s =
@@ -178,7 +182,8 @@ after_arrival sc me i place c s = record s {
   got = s.got ++ c ∷ [];
 }
 
--- a message that node j of kind me sent at a tick is on its way to each node of the other kind that still runs
+-- a message that node j of kind me sent at a tick is on its way to each node of the other kind that
+-- still runs
 abbrev pub sent_to : Scenario → Side → ℕ → ℕ → Sending → Side → ℕ → Site → Site
 sent_to sc me j frame message side i s =
     elim (same_side side (other me) && s.runs) [
@@ -288,7 +293,8 @@ settle_next sc way w =
 abbrev pub record_since : World → World → Option Record
 record_since before after = slice_get after.book.given (length before.book.given)
 
--- at most so many milestones are settled, up to the first that gives a record. That record is the turn
+-- at most a number of milestones are settled, up to the first that gives a record. That record is
+-- the turn
 abbrev pub settle : Scenario → Way → ℕ → World → World
 settle sc way zero w = record w { turn = None }
 settle sc way (suc others) w =
@@ -297,8 +303,8 @@ settle sc way (suc others) w =
 
 -- The step.
 
--- an event happens, and what it completes is settled: at most a last stage of a frame, which gives no record, and the begin
--- of the next frame
+-- an event happens, and what it completes is settled: at most a last stage of a frame, which gives
+-- no record, and the start of the next frame
 abbrev pub take_if_due : Scenario → World → Option Due → World
 take_if_due sc w None = w
 take_if_due sc w (Some d) = settle sc ByAnEvent 2 (happens sc w d)
@@ -319,7 +325,8 @@ frame_in (Some (Record.Slot frame slot lines)) = None
 frame_in (Some Record.Ended) = None
 frame_in (Some (Record.Breach place cause)) = None
 
--- a state is handed to the port of a BIU that is good at the begin of a frame, as long as the frame's record is the last turn
+-- a state is handed to the port of a BIU that is good at the start of a frame, as long as the
+-- frame's record is the last turn
 unfoldable pub hand : Scenario → World → ℕ → ℕ → World
 hand sc w biu state = elim (frame_in w.turn) [
   | None ↦ w
@@ -363,7 +370,8 @@ choose sc w (Hand biu state) = hand sc w biu state
 abbrev pub world_after : Scenario → List Choice → World
 world_after sc choices = fold (choose sc) (first_world sc) choices
 
--- what happens at node i of kind me, as it is shown: the quiet ticks that pass before it, and what then comes
+-- what happens at node i of kind me, as it is shown: the quiet ticks that pass before it, and what
+-- then comes
 abbrev pub event_of : Scenario → List PortState → Side → ℕ → Core → Pending → Event
 event_of sc ports me i c (Tick k) =
     let slot = wants_in sc me i (pass_to k c) in
@@ -382,11 +390,12 @@ event_at sc w i =
 
 -- Events are rounds.
 
--- a list is the begin of another
+-- a list is the start of another
 abbrev pub IsPrefix : List Record → List Record → Type 0
 IsPrefix xs ys = (rest : List Record) × (ys ≡ xs ++ rest)
 
--- whatever is chosen, the records given are the first of those that the rounds have, and all of them once the run is over
+-- whatever is chosen, the records given are the first of those that the rounds have, and all of
+-- them once the run is over
 pub record EventsAreRounds (sc : Scenario) : Type 0 where
   pub first : (choices : List Choice) → IsPrefix (world_after sc choices).book.given (records_of sc (world_after sc choices).hands)
   pub whole : (choices : List Choice) → (world_after sc choices).book.ended ≡ true

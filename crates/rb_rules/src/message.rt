@@ -1,6 +1,6 @@
 //! What travels on a link.
 
-/// What a message carries: a word, the mark that there is none, or a call to resynchronise.
+/// What a message carries: a word, the mark that there is none, or a call to resynchronize.
 #[derive(Clone, Copy, Debug, PartialEq, Eq)]
 pub enum Tag {
     Word,

@@ -1,4 +1,4 @@
-//! What is told of the begin of a frame and of deliveries.
+//! What is told of the start of a frame and of deliveries.
 use rb_base::{Heard, NodeName};
 
 /// What a node tells of a frame that it begins: its number, its first tick, and the convicted nodes
@@ -11,7 +11,7 @@ pub struct Epoch {
     pub rmu: u16,
 }
 
-/// A node at the begin of a frame: the first tick and its reference time, and the convicted nodes
+/// A node at the start of a frame: the first tick and its reference time, and the convicted nodes
 /// of both kinds as the node holds them, as masks.
 #[derive(Clone, Copy, Debug, PartialEq, Eq, Default)]
 pub struct NodeLine {
@@ -22,7 +22,7 @@ pub struct NodeLine {
     pub rmu: u16,
 }
 
-/// The port of a BIU at the begin of a frame: its application's state, and how many of its last 64
+/// The port of a BIU at the start of a frame: its application's state, and how many of its last 64
 /// deliveries were Fault.
 #[derive(Clone, Copy, Debug, PartialEq, Eq, Default)]
 pub struct PortLine {

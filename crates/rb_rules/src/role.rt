@@ -2,7 +2,7 @@
 
 /// In a schedule slot a BIU asks for data slots, in a data slot the slot's owner sends its word, in
 /// a diagnosis slot a node sends the mask of the nodes that it accuses. In the sync slot all nodes
-/// resynchronise.
+/// resynchronize.
 #[derive(Clone, Copy, Debug, PartialEq, Eq)]
 pub enum Role {
     /// Of this BIU.

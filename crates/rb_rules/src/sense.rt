@@ -2,7 +2,7 @@
 use crate::message::{Message, Version};
 
 /// What a message must have to be meant for a window: the frame's number modulo 65536, the slot and
-/// the stage. In the sync slot it must be a call to resynchronise, in every other slot a word or a
+/// the stage. In the sync slot it must be a call to resynchronize, in every other slot a word or a
 /// fault.
 #[derive(Clone, Copy, Debug, PartialEq, Eq)]
 pub struct Expect {

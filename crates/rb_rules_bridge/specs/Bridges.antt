@@ -1,4 +1,5 @@
--- A bridge of two buses: which BIUs belong together, and which slot of each bus is carried over to the other.
+-- A bridge of two buses: which BIUs belong together, and which slot of each bus is carried over to
+-- the other.
 use Rattle.std.specs.Prelude.{ℕ, ◌≡◌, ◌+◌, ◌<◌, ◌≤◌, ◌==◌, All, List, eqb, get_or, length, map}
 use Rattle.std.specs.List.{IsDistinct, list_any}
 use Rattle.rb_base.specs.Nodes.{set_of}
@@ -48,8 +49,9 @@ pub record IsHead (sc : Scenario) (i : ℕ) : Type 0 where
   pub inside : i < sc.sizes.bius
   pub table : get_or sc.apps i 0 ≡ 0
 
--- What is known of a bridge that was accepted: both buses are lawful and have the same number of frames, the 1 to 16 pairs are BIUs with
--- tables, no two of them share one, and each bus has the slot that is carried over
+-- What is known of a bridge that was accepted: both buses are lawful and have the same number of
+-- frames, the 1 to 16 pairs are BIUs with tables, no two of them share one, and each bus has the
+-- slot that is carried over
 pub record IsBridge (b : Bridge) : Type 0 where
   pub lawful : (bank : Bank) → IsLawful (bus_on b bank)
   pub frames : b.left.frames ≡ b.right.frames

@@ -1,5 +1,6 @@
--- What crosses a bridge: after each frame the words that were delivered in the carried slots, which are handed in on the other bus as its
--- next frame begins. Frames are paired by number; the time of one bus means nothing on the other.
+-- What crosses a bridge: after each frame the words that were delivered in the carried slots, which
+-- are handed in on the other bus as its next frame begins. Frames are paired by number; the time of
+-- one bus means nothing on the other.
 use Rattle.std.specs.Prelude.{ℕ, zero, suc, ◌+◌, ◌==◌, if◌then◌else◌, Option, Some, None, List, [], ◌∷◌, ◌++◌, filter, map}
 use Rattle.rb_base.specs.Nodes.Side.{Biu}
 use Rattle.rb_base.specs.declared.values.Delivery.{Delivery}
@@ -60,7 +61,8 @@ abbrev pub carried_to : Bridge → Hands → Bank → ℕ → List HandIn
 carried_to b hands bank frame =
     map (hand_in_of b hands bank frame) (filter (λ pair. is_good (bus_on b bank) Biu (biu_on bank pair) (frame + 1) 0) b.pairs)
 
--- all that is handed in up to the begin of a frame, each time by the records of both buses as they are with what was handed in before
+-- all that is handed in up to the start of a frame, each time by the records of both buses as they
+-- are with what was handed in before
 abbrev pub hands_up_to : Bridge → ℕ → Hands
 hands_up_to b zero = record { left = []; right = [] }
 hands_up_to b (suc frame) =
@@ -73,6 +75,7 @@ hands_of b = hands_up_to b b.left.frames
 
 -- What comes of it.
 
--- what the far side finds: the value that more than half of the first values are which a BIU delivered of the bridge's BIUs in a frame
+-- what the far side finds: the value that more than half of the first values are which a BIU
+-- delivered of the bridge's BIUs in a frame
 abbrev pub crossing_value : Bridge → Bank → ℕ → ℕ → Heard
 crossing_value b bank frame receiver = value_at Most (members_on b bank) (records_on b (hands_of b) bank) frame receiver

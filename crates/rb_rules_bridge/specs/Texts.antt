@@ -84,7 +84,7 @@ abbrev pub text_with : List ℕ → List ℕ → Option Break → List ℕ
 text_with lines others None = lines ++ others
 text_with lines others (Some break) = side_breach_text break.bank break.place break.cause
 
--- the text of so many frames from this one on
+-- the text of a number of frames from `frame` on
 abbrev pub text_from : Bridge → ℕ → ℕ → List ℕ
 text_from b frame zero = end_text frame
 text_from b frame (suc frames) = text_with (frame_text b frame) (text_from b (frame + 1) frames) (break_at b frame)
@@ -95,7 +95,7 @@ bridge_text b = text_from b 0 b.left.frames
 
 -- How it ends.
 
--- the first breach in so many frames from this one on
+-- the first breach in a number of frames from `frame` on
 abbrev pub break_from : Bridge → ℕ → ℕ → Option Break
 break_from b frame zero = None
 break_from b frame (suc frames) = option_or (break_at b frame) (break_from b (frame + 1) frames)

@@ -12,7 +12,7 @@ use Rattle.rb_run.proofs.UnderWay.{IsUnderWay, are-all, are-given, begins, finis
 use Rattle.rb_world.specs.Nexts.{is_last}
 use Rattle.rb_world.specs.Worlds.{KeptWorld}
 
--- so many turns were given, these are their numbers, and the run goes on
+-- `passed` turns were given, these are their numbers, and the run goes on
 pub record IsCounted (sc : Scenario) (is_plain : Bool) (told since : Option (List Turn)) (k : KeptWorld) (totals : Totals) (passed : ℕ) : Type 0 where
   pub turns : List Turn
   pub given : IsUnderWay sc is_plain told since k turns false

@@ -1,4 +1,5 @@
--- The turns of a plain drive are the records of the rounds: so are the report and the numbers of a run.
+-- The turns of a plain drive are the records of the rounds: so are the report and the numbers of a
+-- run.
 use Rattle.std.proofs.Common.{◌≡◌, ℕ, true, Option, List, [], ◌∷◌, ◌++◌, length, map, refl, sym, ap, ◌∙◌, subst, append_assoc, arith, length-append}
 use Rattle.std.proofs.lemmas.List.{append-nil, length-map}
 use Rattle.rb_rules.specs.Book.{Record}

@@ -91,7 +91,7 @@ tells-more (Some ts) None (Some vs) turns t before now = absurd (cc)
 tells-more (Some ts) (Some us) None turns t before now = tt
 tells-more (Some ts) (Some us) (Some vs) turns t before now = now ∙ ap (λ xs. xs ++ t ∷ []) before ∙ append_assoc ts turns (t ∷ [])
 
--- The begin.
+-- The start.
 
 pub no-record : (r : Record) (others : List Record) → [] ≡ others ++ r ∷ [] → ⊥
 no-record r [] e = absurd (cc)
@@ -188,7 +188,7 @@ many-given : (sc : Scenario) (is_plain : Bool) (told since : Option (List Turn))
 many-given sc is_plain told since k turns over is =
     sym (length-map turns bare) ∙ ap length is.alike ∙ length-map is.world.book.given (λ r. bare (turn_of r))
 
--- so many turns are few
+-- fewer than 2^31 turns were given
 pub few-turns : (sc : Scenario) (is_plain : Bool) (told since : Option (List Turn)) (k : KeptWorld) (turns : List Turn) (over : Bool) → IsUnderWay sc is_plain told since k turns over
     → length turns < 2 ^ 31
 few-turns sc is_plain told since k turns over is =

@@ -15,7 +15,8 @@ use Rattle.rb_run.specs.Tallies.{totals_of}
 use Rattle.rb_run.specs.Turns.{AreAll, AreGiven, text_of}
 use Rattle.rb_world.specs.Worlds.{KeptWorld, Stands}
 
--- no record of the run has been given yet, and no state was handed in. So it is with a world that has just been opened
+-- no record of the run has been given yet, and no state was handed in. So it is with a world that
+-- has just been opened
 pub record HasGivenNothing (k : KeptWorld) : Type 0 where
   pub world : World
   pub stands : Stands k world

@@ -53,8 +53,8 @@ abbrev pub greatest : List ℕ → ℕ
 greatest [] = 0
 greatest (n ∷ ns) = max n (greatest ns)
 
--- the number of frames, how much was delivered, how many nodes are convicted in the last block, and the greatest difference of times
--- within one block
+-- the number of frames, how much was delivered, how many nodes are convicted in the last block, and
+-- the greatest difference of times within one block
 abbrev pub tally_of : List Record → Totals
 tally_of records = record {
   frames = frames_in (last_or None (blocks_of records));

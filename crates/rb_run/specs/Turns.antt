@@ -24,8 +24,8 @@ TellsAll None after turns = after ≡ None
 TellsAll (Some told) None turns = ⊤
 TellsAll (Some told) (Some since) turns = since ≡ told ++ turns
 
--- A drive, plain or not, has given these turns, one for each of these first records of the run, in order: that record, but for ticks,
--- times, masks, states, losses and values
+-- A drive, plain or not, has given these turns, one for each of these first records of the run, in
+-- order: that record, but for ticks, times, masks, states, losses and values
 pub record AreGiven (sc : Scenario) (is_plain : Bool) (before after : Option (List Turn)) (turns : List Turn) : Type 0 where
   pub records : List Record
   pub first : IsPrefix records (records_of sc [])

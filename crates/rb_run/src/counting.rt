@@ -66,7 +66,7 @@ fn count(totals: &Totals, turn: &Turn) -> Totals
     }
 }
 
-/// Takes a run from its begin to its end, and counts what the drive's turns say; nothing is kept of
+/// Takes a run from its start to its end, and counts what the drive's turns say; nothing is kept of
 /// them. The numbers of a run that ends with a breach are those up to it. The world must be as
 /// `World::open` gives it.
 pub fn tally<D: Drive>(world: &mut World, apps: &Apps, drive: &mut D) -> (Ending, Totals)

@@ -40,7 +40,7 @@ first_broken t =
     (or_else (is_in_range t) OutOfRange
     (broken_by (scenario_of t)))))
 
--- the scenario is refused: for want of memory, or by the first rule that it breaks
+-- the scenario is refused: because memory ran out, or by the first rule that it breaks
 abbrev pub IsBrokenBy : Scenario → Refusal → Type 0
 IsBrokenBy sc why = (why ≡ OutOfMemory) ⊎ (broken_by sc ≡ Some why)
 
@@ -81,7 +81,8 @@ pub record IsBroken (bytes : List ℕ) (why : Refusal) : Type 0 where
   pub text : IsDocument bytes document
   pub broken : first_broken document ≡ Some why
 
--- why the bytes are refused. Want of memory may come at any time, and no document is refused for a node that is not there
+-- why the bytes are refused. Out of memory may be the answer at any time, and no document is
+-- refused for a node that is not there
 abbrev pub IsRefused : List ℕ → Refusal → Type 0
 IsRefused bytes NotToml = (t : Members) → ¬ IsDocument bytes t
 IsRefused bytes OutOfMemory = ⊤

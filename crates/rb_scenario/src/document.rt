@@ -117,8 +117,8 @@ fn read_table(alloc: Global, table: &Table) -> Result<Scenario, Refusal>
 }
 
 /// The scenario that the bytes of a TOML document say, or why there is none: the first rule of
-/// `Refusal` that is broken anywhere in the document. Want of memory may come at any time. The
-/// rules and the form are this project's own.
+/// `Refusal` that is broken anywhere in the document. Out of memory may be the answer at any time.
+/// The rules and the form are this project's own.
 pub fn read(alloc: Global, bytes: &[u8]) -> Result<Scenario, Refusal>
     ensures accepted { IfOk result (IsAccepted bytes.now) }
     ensures lawful { IfOk result (λ s. IsLawful (as_scenario s)) }

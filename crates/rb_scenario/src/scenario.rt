@@ -106,7 +106,7 @@ pub struct Scenario {
     pub delays: Delays,
     /// For each BIU the frame and the slot from which on it is not good, if it ever is not.
     pub biu_onset: [Option<(u32, u16)>; 16],
-    /// The same for each RMU.
+    /// For each RMU the first slot in which it is not good, if there is one.
     pub rmu_onset: [Option<(u32, u16)>; 16],
     /// What nodes that are not good say.
     pub says: SayList,

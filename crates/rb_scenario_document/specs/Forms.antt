@@ -29,7 +29,7 @@ abbrev pub is_array_of : (Data → Bool) → Data → Bool
 is_array_of test (array ds) = every_item test ds
 is_array_of test _ = false
 
--- an array of so many items
+-- the value is an array of `count` items
 abbrev pub has_length : ℕ → Data → Bool
 has_length count (array ds) = length_of ds == count
 has_length count _ = false
@@ -80,7 +80,7 @@ abbrev pub somewhere : (List Entry → Members → Bool) → Members → Bool
 somewhere breaks t =
     breaks root_fields t || passes (on_table (breaks plan_fields)) (get_member (codes "plan") t) || in_entries breaks t
 
--- a say entry says something: a word, Fault, a call to resynchronise, or raw bytes
+-- a say entry says something: a word, Fault, a call to resynchronize, or raw bytes
 abbrev pub says_something : Members → Bool
 says_something e =
     has_key (codes "word") e || has_key (codes "fault") e || has_key (codes "sync") e || has_key (codes "raw") e

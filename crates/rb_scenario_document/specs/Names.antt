@@ -1,4 +1,5 @@
--- Names of nodes: B for a BIU or R for an RMU, and the node's number in decimal without leading zero.
+-- Names of nodes: B for a BIU or R for an RMU, and the node's number in decimal without leading
+-- zero.
 use Rattle.std.specs.Prelude.{ℕ, ◌<◌, List, ◌∷◌, Bool, true, false, Option, Some, None, option_map, decimal, codes, if◌then◌else◌}
 use Rattle.std.specs.List.{find}
 use Rattle.std.specs.Option.{option_or}

@@ -90,7 +90,7 @@ pub fn is_array_of<T: Test>(test: &T, value: &Value) -> bool
     }
 }
 
-/// Whether the value is an array of so many items.
+/// Whether the value is an array of `count` items.
 pub fn has_length(count: usize, value: &Value) -> bool
     ensures { result ≡ has_length count (view value.now) }
 {

@@ -166,7 +166,7 @@ pub fn range_there(table: &Table, key: &str, low: u64, high: u64) -> (u64, u64)
     pair_at(table, key)
 }
 
-/// Whether an array of so many items that pass stands at a key, or nothing.
+/// Whether the key has an array of `count` items that pass, or is not there.
 pub fn may_have_list<T: Test>(table: &Table, key: &str, count: u8, test: &T) -> bool
     ensures { result ≡ may_have_list key.now count (T.holds test.now) (table_view table.now) }
 {

@@ -3,7 +3,7 @@ use Rattle.std.specs.Prelude.{ℕ, Option, Some, None}
 use Rattle.rb_scenario_entries.specs.declared.refusal.Refusal.{Refusal}
 use Rattle.rb_scenario_entries.specs.declared.refusal.Refusal.TheVariants.{NotToml, MissingKey, UnknownKey, WrongType, OutOfRange, PlanFails, ClockBounds, DelayBounds, StartApart, SayOfGood, TooMany, NoSuchNode, OutOfMemory}
 
--- the code of a refusal; want of memory has none
+-- the code of a refusal; out of memory has none
 abbrev pub code_of : Refusal → Option ℕ
 code_of NotToml = Some 1
 code_of MissingKey = Some 2

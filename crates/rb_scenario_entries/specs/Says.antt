@@ -42,7 +42,8 @@ is_sync_alone sync slots = (slots.0 == sync) && (slots.1 == sync)
 abbrev pub lies_in_stage : Plan → ℕ × ℕ → ℕ → ℕ → Bool
 lies_in_stage plan stages offset stage = not (is_in_range stages stage) || nat_lt offset (ticks_in_sync plan stage)
 
--- the offset lies in every window of the ranges: in those below the sync slot, and in the sync slot's
+-- the offset lies in every window of the ranges: in those below the sync slot, and in the sync
+-- slot's
 abbrev pub lies_in_all : Plan → ℕ → ℕ × ℕ → ℕ × ℕ → ℕ → Bool
 lies_in_all plan sync slots stages offset =
     (nat_le sync slots.0 || nat_lt offset plan.l)

@@ -51,7 +51,7 @@ impl Refusal {
     ghost use Rattle.std.specs.Prelude.{◌≡◌};
     ghost use Rattle.rb_scenario_entries.specs.Codes.{code_of, detail_of};
 
-    /// The code by which the refusal is printed. None exactly for want of memory.
+    /// The code by which the refusal is printed. `None` if and only if memory ran out.
     pub fn code(&self) -> Option<u8>
         ensures { result ≡ code_of self.now }
     {

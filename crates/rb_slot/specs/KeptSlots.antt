@@ -19,7 +19,8 @@ abbrev pub rmus_by : Side → ℕ → ℕ → ℕ
 rmus_by Biu near far = far
 rmus_by Rmu near far = near
 
--- whether node `index` of kind me speaks in a stage of a slot below the sync slot. A passive engine never does
+-- whether node `index` of kind me speaks in a stage of a slot below the sync slot. A passive engine
+-- never does
 abbrev pub speaks_of : Side → ℕ → Role → Sender → ℕ → Bool
 speaks_of me index role Nobody stage = false
 speaks_of me index role (Node i) stage =

@@ -12,7 +12,8 @@ use Rattle.rb_rules_bridge.specs.Bridges.{Bridge}
 
 -- Buses.
 
--- ticks of 10000 units, give or take one; calls are sent at offset 6 of windows of 15, 18 and 20 ticks
+-- ticks of 10000 units, give or take one; calls are sent at offset 6 of windows of 15, 18 and 20
+-- ticks
 abbrev pub plan : Plan
 plan = record {
   u = 10000;
@@ -29,7 +30,8 @@ plan = record {
   probation = 0;
 }
 
--- a bus whose BIUs have these words and tables, and ask for one data slot each. From these onsets on BIUs are not good
+-- a bus whose BIUs have these words and tables, and ask for one data slot each. From these onsets
+-- on BIUs are not good
 abbrev pub bus : Sizes → ℕ → List ℕ → List (Option (ℕ × ℕ)) → Scenario
 bus sizes frames words onsets = record {
   sizes = sizes;
@@ -45,7 +47,7 @@ bus sizes frames words onsets = record {
   says = [];
 }
 
--- one BIU, one RMU, and so many data slots
+-- one BIU, one RMU, and `slots` data slots
 abbrev pub single : ℕ → ℕ → ℕ → Option (ℕ × ℕ) → Scenario
 single slots frames word onset = bus (record { bius = 1; rmus = 1; data_slots = slots }) frames (word ∷ []) (onset ∷ [])
 
@@ -131,7 +133,8 @@ slot_each slot = if slot == 3 then Some 0 else (if slot == 4 then Some 1 else (i
 abbrev pub faulty_replica : Scenario
 faulty_replica = triple 10 10 30 (Some (0, 3))
 
--- the records of the bus without a fault, alone: those of frame 0, and the one with which frame 1 begins
+-- the records of the bus without a fault, alone: those of frame 0, and the one with which frame 1
+-- begins
 abbrev pub all_told : List Record
 all_told = records_of outvoted.right []
 

@@ -34,7 +34,8 @@ pub fn outvoted()
     ensures { bridge_text outvoted ≡ outvoted_text }
 {}
 
-/// Of two pairs it takes the majority away: nobody on the right finds a word.
+/// With only two pairs, a BIU that carries 0 takes the majority away: nobody on the right finds a
+/// word.
 pub fn no_majority()
     ensures { bridge_text no_majority ≡ no_majority_text }
 {}

@@ -67,7 +67,7 @@ impl Answerer {
         run_robus(alloc, words, input, output, &self.apps, drive, &self.voters) as u8
     }
 
-    // How robus ends with a drive that keeps so many turns, and counts those that it keeps.
+    // How robus ends with a drive that keeps `turns` turns, and counts those that it keeps.
     fn keeping(
         &self,
         alloc: Global,
@@ -125,7 +125,7 @@ impl Answerer {
         answer_of(alloc, end, output.bytes())
     }
 
-    // How robus answers where a call moves at most so many bytes, and this read fails.
+    // How robus answers if a call moves at most `step` bytes, and this read fails.
     fn in_pieces(
         &self,
         alloc: Global,

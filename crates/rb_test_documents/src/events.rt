@@ -24,7 +24,7 @@ fn take_first(alloc: Global, apps: &Apps, world: &mut World) -> Result<String, A
     format!(in alloc; "{due} {event:?} {frame:?}\n")
 }
 
-// Takes so many events, and writes what comes of each.
+// Takes `count` events, and writes what comes of each.
 fn take_events(
     alloc: Global,
     apps: &Apps,

@@ -14,9 +14,10 @@ pub(crate) enum Way {
     Picture,
     /// Robus, of whose reads and writes those with these numbers fail.
     Failing(u64, u64),
-    /// Robus, with at most so many bytes a call, of whose reads the one with this number fails.
+    /// Robus, with at most this number of bytes a call, of whose reads the one with this number
+    /// fails.
     Pieces(usize, u64),
-    /// Robus, with a drive that keeps so many turns, and may hide what was delivered.
+    /// Robus, with a drive that keeps this number of turns, and may hide what was delivered.
     Keeping(usize, bool),
 }
 
@@ -24,19 +25,19 @@ pub(crate) enum Way {
 #[derive(Clone, Copy)]
 pub(crate) enum Step<'a> {
     Call(Way, &'a str),
-    /// Leaves so many bytes, the first ones.
+    /// Leaves this number of bytes, the first ones.
     Cut(usize),
     /// Sets the byte at the place, or adds it at the end.
     Put(usize, u8),
     /// Spells the bytes in digits, 32 of them a line.
     Hex,
-    /// So many spaces.
+    /// This number of spaces.
     Spaces(usize),
     /// How many records the document's run has, if they are the same by these choices.
     Choices(Ties),
     /// How the document's run ends, and its numbers.
     Numbers,
-    /// So many events of the document's run.
+    /// This number of events of the document's run.
     Events(u64),
     /// What is changed where B0 is handed this state as frame 1 begins.
     Hand(u64),

@@ -54,7 +54,7 @@ fn reads<R: Read + Drop>(alloc: Global, reader: R) -> Result<bool, Unread> {
     Ok(bytes.as_slice() == TEXT)
 }
 
-// The same of a reader that acts so.
+// Whether a reader that acts so is read as it should be.
 fn reads_acting(alloc: Global, acts: &[u8]) -> Result<bool, Unread> {
     reads(alloc, Fake { acts, inner: TEXT })
 }

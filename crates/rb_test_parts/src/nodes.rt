@@ -26,14 +26,14 @@ fn bus() -> Option<Feasible> {
     Feasible::new(&Shape::new(4, 3, 8)?, &PLAN).ok()
 }
 
-// These bytes of this source come to a node, and then it has a tick.
+// Gives a node these bytes from this source, and then a tick.
 fn come_before_a_tick<K: Kind>(node: &mut Node<K>, from: u8, bytes: &[u8]) {
     node.arrive(from, bytes);
     let _act = node.tick(0);
 }
 
-// The ticks that a node has had, where one comes after each arrival: from every number that a
-// source may have, with so many bytes, up to 40.
+// The ticks that a node has had, if one comes after each arrival: from every number that a source
+// may have, with each number of bytes up to 40.
 fn ticks_between_arrivals<K: Kind>(node: &mut Node<K>) -> u64 {
     let bytes = [7; 40];
     for from in 0..=255u8 {

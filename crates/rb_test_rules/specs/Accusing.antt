@@ -15,7 +15,7 @@ use Rattle.rb_test_rules.specs.Parts.{sizes, biu, rmu, comes, accused}
 abbrev pub with_a_convict : Standing
 with_a_convict = record accused { trusted = 5 }
 
--- node 0 is accused directly, and so many frames have ended since without evidence against it
+-- node 0 is accused directly, and `frames` frames have ended since without evidence against it
 abbrev pub calm_for : ℕ → Standing
 calm_for frames = record accused { direct = 1; fresh = 0; calm = frames ∷ replicate 15 0 }
 

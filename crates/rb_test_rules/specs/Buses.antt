@@ -17,7 +17,8 @@ b i = Biu i
 abbrev pub r : ℕ → NodeName
 r i = Rmu i
 
--- ticks of 10000 units, give or take one; calls are sent at offset 6 of windows of 15, 18 and 20 ticks
+-- ticks of 10000 units, give or take one; calls are sent at offset 6 of windows of 15, 18 and 20
+-- ticks
 abbrev pub plan : Plan
 plan = record {
   u = 10000;
@@ -41,7 +42,8 @@ ticking start length = record { start = start; segments = (0, length) ∷ [] }
 abbrev pub steady : Timeline
 steady = ticking 0 10000
 
--- what a node says to others in these frames, slots and stages, at the offset at which a good node sends
+-- what a node says to others in these frames, slots and stages, at the offset at which a good node
+-- sends
 abbrev pub says : NodeName → Pattern → ℕ × ℕ → ℕ × ℕ → ℕ × ℕ → Content → Say
 says from to frames slots stages content = record {
   from = from;

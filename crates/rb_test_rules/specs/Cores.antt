@@ -24,12 +24,12 @@ after_tick k c = (tick usual_sizes plan Biu 0 (pass_to k c) 2).core
 abbrev pub busy_next : Core → Option ℕ
 busy_next c = next_tick usual_sizes plan Biu 0 c
 
--- so many ticks without a word
+-- n ticks without a word
 abbrev pub waits : ℕ → List CoreEvent
 waits n = replicate n (Tick 0)
 
--- what RMU 0 of the least bus gets of BIU 0 in a frame, and when: its request, its vote on that, its word, its vector, its vote on
--- that, what it relays of the RMU's own vector, and its two calls
+-- what RMU 0 of the least bus gets of BIU 0 in a frame, and when: its request, its vote on that,
+-- its word, its vector, its vote on that, what it relays of the RMU's own vector, and its two calls
 abbrev pub frame_of_rmu : List CoreEvent
 frame_of_rmu =
     waits 7

@@ -4,7 +4,8 @@ use Rattle.rb_rules.specs.Book.{Record}
 use Rattle.rb_rules.specs.Goodness.{Scenario}
 use Rattle.rb_rules.specs.WorldStep.{World, due_of, take, go_on, needs_no_event, first_world}
 
--- the place of the event that is taken, of so many that are due when so many steps may still come
+-- the place of the event that is taken, by the number of events that are due and the number of
+-- steps that may still come
 abbrev pub Rule : Type 0
 Rule = ℕ → ℕ → ℕ
 
@@ -22,7 +23,7 @@ abbrev pub one_step : Scenario → Rule → ℕ → World → World
 one_step sc rule left w =
     elim (needs_no_event sc w.book.upcoming) [ true ↦ go_on sc w | false ↦ take sc w (rule left (length (due_of sc w))) ]
 
--- at most so many steps
+-- the world after at most a number of steps
 abbrev pub run_by : Scenario → Rule → ℕ → World → World
 run_by sc rule zero w = w
 run_by sc rule (suc left) w = elim w.book.ended [ true ↦ w | false ↦ run_by sc rule left (one_step sc rule left w) ]

@@ -43,7 +43,8 @@ late_onset_records =
     ∷ Ended
     ∷ []
 
--- BIU 1 is heard by one of two RMUs in frame 0, and does right from then on; a probation of one frame
+-- BIU 1 is heard by one of two RMUs in frame 0, and does right from then on; a probation of one
+-- frame
 abbrev pub probation_passed : Scenario
 probation_passed = record ordinary_use {
   sizes = record { bius = 4; rmus = 2; data_slots = 8 };

@@ -1,4 +1,5 @@
--- Stages of a frame as they are judged: four trusted BIUs, of which two are good, and three RMUs, all good.
+-- Stages of a frame as they are judged: four trusted BIUs, of which two are good, and three RMUs,
+-- all good.
 use Rattle.std.specs.Prelude.{ℕ, ◌==◌, if◌then◌else◌}
 use Rattle.rb_base.specs.declared.values.Heard.TheVariants.{Word}
 use Rattle.rb_base.specs.declared.values.See.{See}

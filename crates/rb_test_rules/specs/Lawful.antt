@@ -1,4 +1,5 @@
--- Lies at the edges of what may be said in the sync slot, a rule of delay, and what lies beyond each edge.
+-- Lies at the edges of what may be said in the sync slot, a rule of delay, and what lies beyond
+-- each edge.
 use Rattle.std.specs.Prelude.{[], ◌∷◌, replicate, Some, None}
 use Rattle.rb_rules.specs.declared.link.Pattern.TheVariants.{One, AllBiu, AllRmu}
 use Rattle.rb_rules.specs.declared.link.Rule.{Rule}
@@ -24,8 +25,8 @@ rule_of_calls = record { from = AllBiu; to = AllRmu; frames = (0, 0); slots = (1
 abbrev pub ruled_by : Rule → Scenario
 ruled_by rule = record ordinary_use { delays = record { base = 10000; rules = rule ∷ [] } }
 
--- RMU 1 calls as early as it may, and at the last tick, and says 32 bytes at the latest offset in the tail. RMU 2 asks in a
--- schedule slot at the last tick of a window
+-- RMU 1 calls as early as it may, and at the last tick, and says 32 bytes at the latest offset in
+-- the tail. RMU 2 asks in a schedule slot at the last tick of a window
 abbrev pub lies_at_the_edge : Scenario
 lies_at_the_edge = record ordinary_use {
   rmu_onsets = None ∷ Some (0, 19) ∷ Some (0, 0) ∷ [];

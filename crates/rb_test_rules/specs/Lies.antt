@@ -131,7 +131,8 @@ too_few_good_records =
     ∷ Breach (at 0 0 2) FewGoodRmu
     ∷ []
 
--- what RMU 1 says after it has relayed BIU 0's request: all that is right for a node whose BIUs have these vectors
+-- what RMU 1 says after it has relayed BIU 0's request: all that is right for a node whose BIUs
+-- have these vectors
 abbrev pub rest_of_frame : ℕ → ℕ → ℕ → ℕ → List Say
 rest_of_frame v0 v1 v2 v3 =
     says (r 1) AllBiu (0, 0) (1, 3) (2, 2) (Word 2)

@@ -105,7 +105,8 @@ one_state_records =
     ∷ Ended
     ∷ []
 
--- what the BIUs call in stage 1 of the sync slot takes as long as it may; there is no rule for what comes back
+-- what the BIUs call in stage 1 of the sync slot takes as long as it may; there is no rule for what
+-- comes back
 abbrev pub slow_calls : Scenario
 slow_calls = record ordinary_use {
   delays = record {

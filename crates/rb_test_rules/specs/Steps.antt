@@ -26,7 +26,8 @@ use Rattle.rb_test_rules.specs.Told.{at}
 abbrev pub ticked_by : Plan → ℕ → Core → Core
 ticked_by p k c = (tick usual_sizes p Biu 0 (pass_to k c) 2).core
 
--- its own slot by ticks: it begins the frame, asks, and closes stage 1; then two RMUs relay 2 and the third 7; then it closes stage 2
+-- its own slot by ticks: it begins the frame, asks, and closes stage 1; then two RMUs relay 2 and
+-- the third 7; then it closes stage 2
 abbrev pub relays_to : Core → Core
 relays_to c =
     arrive usual_sizes Biu
@@ -45,12 +46,14 @@ late_plan = record plan { h = 14 }
 abbrev pub own_slot_by_last_ticks : Core
 own_slot_by_last_ticks = ticked_by late_plan 29 (relays_to (ticked_by late_plan 14 (ticked_by late_plan 0 (first_core usual_sizes Biu))))
 
--- BIU 0 at the last tick of stage 1 of the slot for its vector, at which it sends that, with noise from RMU 0 in its inbox
+-- BIU 0 at the last tick of stage 1 of the slot for its vector, at which it sends that, with noise
+-- from RMU 0 in its inbox
 abbrev pub vector_at_the_last_tick : Act
 vector_at_the_last_tick =
     tick usual_sizes late_plan Biu 0 (record { state = biu; had = 554; inbox = (0, record { stamp = 550; bytes = [] }) ∷ [] }) 0
 
--- RMU 0 of the usual bus that gets the request of BIU 0 with this stamp, after the close of stage 1 and after that of stage 2
+-- RMU 0 of the usual bus that gets the request of BIU 0 with this stamp, after the close of stage 1
+-- and after that of stage 2
 abbrev pub rmu_ticked : ℕ → Core → Core
 rmu_ticked k c = (tick usual_sizes plan Rmu 0 (pass_to k c) 0).core
 
@@ -63,7 +66,7 @@ in_time = rmu_ticked 14 (request_to (pass_to 14 (rmu_ticked 0 (first_core usual_
 abbrev pub too_late : Core
 too_late = rmu_ticked 29 (request_to (rmu_ticked 14 (rmu_ticked 0 (first_core usual_sizes Rmu))))
 
--- a core that has had so many ticks
+-- a core that has had `ticks` ticks
 abbrev pub core_after : ℕ → Core
 core_after ticks = record { state = biu; had = ticks; inbox = [] }
 

@@ -13,7 +13,8 @@ use Rattle.rb_rules.specs.Links.{DelayRules}
 use Rattle.rb_test_rules.specs.Ordinary.{ordinary_use}
 use Rattle.rb_test_rules.specs.Parts.{plan}
 
--- ticks that may be nearly twice as long as the nominal one, or a tenth of it. No bus could run by it
+-- ticks that may be nearly twice as long as the nominal one, or a tenth of it. No bus could run by
+-- it
 abbrev pub uneven_plan : Plan
 uneven_plan = record plan {
   u = 1000;
@@ -39,7 +40,8 @@ data_place = record { frame = 0; slot = 5; stage = 1 }
 abbrev pub word_sent : Sending
 word_sent = record { tick = 0; message = record { tag = Word; frame = 0; slot = 5; stage = 1; value = 1 } }
 
--- what the BIUs send takes 6 units, but from BIU 0 to RMU 1 it takes 7; there is no rule for the way back
+-- what the BIUs send takes 6 units, but from BIU 0 to RMU 1 it takes 7; there is no rule for the
+-- way back
 abbrev pub from_all_bius : Rule
 from_all_bius = record { from = AllBiu; to = AllRmu; frames = (0, 9); slots = (0, 9); stages = (1, 3); delay = 6 }
 

@@ -41,7 +41,7 @@ port biu state losses = record { biu = biu; state = state; losses = losses }
 abbrev pub usual_ports : List PortLine
 usual_ports = port 0 10 0 ∷ port 1 20 0 ∷ port 2 30 0 ∷ port 3 40 0 ∷ []
 
--- so many slots from one on without a delivery
+-- `count` slots from `first` on without a delivery
 abbrev pub silent : ℕ → ℕ → ℕ → List Record
 silent frame first count = map (λ slot. Slot frame slot []) (range_with_len first count)
 

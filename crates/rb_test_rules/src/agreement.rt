@@ -49,9 +49,9 @@ pub fn agreement_after_a_late_onset()
     ensures by_rmus { accused_by late_onset 3 6 Rmu ≡ 4 ∷ 4 ∷ 4 ∷ [] }
 {}
 
-/// Of two BIUs one says another vote in stage 3: the RMU takes two values, its vote is Fault, and
-/// it accuses the good BIU too. This is the stage of the breach. So no good node is accused after
-/// complete slots alone.
+/// One of two BIUs says another vote in stage 3: the RMU takes two values, its vote is Fault, and
+/// it accuses the good BIU too. This is the stage of the breach. Complete slots alone accuse no
+/// good node.
 pub fn a_good_node_is_accused_at_the_breach()
     ensures lawful { IsLawful other_vote }
     ensures breach { records_of other_vote [] ≡ other_vote_records }

@@ -15,7 +15,7 @@ pub fn runs_by_events()
     ensures smallest_bus_by_any { records_by smallest_bus any_of_them ≡ smallest_bus_records }
     // Four BIUs and three RMUs, always the first event.
     ensures ordinary_use_by_first { records_by ordinary_use the_first ≡ ordinary_use_records }
-    // The same, always the last.
+    // The last due event is always taken.
     ensures ordinary_use_by_last { records_by ordinary_use the_last ≡ ordinary_use_records }
     // The greatest drift that the plan allows.
     ensures greatest_drift_by_any { records_by greatest_drift any_of_them ≡ greatest_drift_records }

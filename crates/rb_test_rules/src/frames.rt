@@ -15,7 +15,7 @@ pub fn several_frames()
     ensures probation_passed { records_of probation_passed [] ≡ probation_passed_records }
     // Without a probation it is convicted.
     ensures no_probation { records_of no_probation [] ≡ no_probation_records }
-    // A state is handed to the port of BIU 0 at the begin of frame 1: it is what the BIU sends from
+    // A state is handed to the port of BIU 0 at the start of frame 1: it is what the BIU sends from
     // then on.
     ensures state_handed_in { records_of state_handed_in hand_ins ≡ state_handed_in_records }
     // An RMU that is convicted with frame 0 stays so in frame 1: what it says counts no more, also
@@ -29,6 +29,6 @@ pub fn buses_by_their_number()
     // same.
     ensures message_of_another_bus { records_of message_of_another_bus []
         ≡ message_of_another_bus_records }
-    // The same messages of the bus itself are taken, and the run ends with the breach.
+    // If the messages are the bus's own, they are accepted, and the run ends with the breach.
     ensures message_of_the_bus { records_of message_of_the_bus [] ≡ message_of_the_bus_records }
 {}

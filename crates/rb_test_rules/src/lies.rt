@@ -35,7 +35,7 @@ pub fn several_faulty_nodes()
     // Two of three RMUs lie: the run ends with the breach, in the stage in which something is taken
     // of them.
     ensures too_few_good { records_of too_few_good [] ≡ too_few_good_records }
-    // Of two faulty RMUs one is silent, and the other sends two messages, too few bytes, a wrong
+    // One of two faulty RMUs is silent, and the other sends two messages, too few bytes, a wrong
     // check and a Fault with a value: if one BIU took any of it, the good RMU would not outnumber
     // it, and the run would end there. All convict both.
     ensures ill_formed_messages { records_of ill_formed_messages [] ≡ ill_formed_messages_records }

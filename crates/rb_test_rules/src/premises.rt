@@ -60,8 +60,8 @@ pub fn stage_with_near_calls()
     ensures late { middle_kept late_listener ≡ Some 877 }
 {}
 
-/// Of a silent RMU nothing is taken up to the slot for its vector, and all good BIUs accuse it when
-/// they send theirs.
+/// Nothing is accepted from a silent RMU up to the slot for its vector, and all good BIUs accuse it
+/// when they send theirs.
 pub fn accused_by_all()
     ensures lawful { IsLawful silent_rmu }
     ensures complete { IsComplete silent_rmu [] 0 19 }

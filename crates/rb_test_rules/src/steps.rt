@@ -57,7 +57,7 @@ pub fn steps_of_a_world()
     ensures calls_in_the_tail { map (λ offset. is_said Rmu 0 1 short_tail (call_in_tail offset))
         (0 ∷ 2 ∷ 3 ∷ [])
         ≡ (true ∷ true ∷ false ∷ []) }
-    // A state is handed in at the begin of a frame alone, and to a BIU that is good there.
+    // A state is handed in at the start of a frame alone, and to a BIU that is good there.
     ensures at_first { map (λ p. p.state) (hand smallest_bus small_world 0 77).ports ≡ (7 ∷ []) }
     ensures after_a_slot { map (λ p. p.state) (hand smallest_bus at_slot 0 77).ports ≡ (7 ∷ []) }
     ensures after_the_frame { map (λ p. p.state) (hand smallest_bus at_frame 0 77).ports

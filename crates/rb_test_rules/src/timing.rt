@@ -22,8 +22,8 @@ pub fn inequalities_of_plans()
         ≡ (pos 61922 ∷ pos 76922 ∷ pos 61952 ∷ pos 101953 ∷ pos 61988 ∷ pos 126990 ∷ pos 60109
         ∷ []) }
     ensures none_fails { first_failing sizes plan ≡ None }
-    // Those of a plan in which each term weighs: a BIU's next epoch comes by its ticks where that
-    // is later, and where that is sooner.
+    // The inequalities of a plan in which each term weighs: a BIU's next epoch comes by its ticks
+    // if that is later, and also if that is sooner.
     ensures left_of_the_uneven { map (λ s. s.left) (inequalities_of sizes uneven_plan)
         ≡ (pos 1200 ∷ pos 2500 ∷ pos 10900 ∷ pos 3100 ∷ pos 11600 ∷ pos 3700 ∷ pos 90000 ∷ []) }
     ensures right_of_the_uneven { map (λ s. s.right) (inequalities_of sizes uneven_plan)
@@ -75,7 +75,7 @@ pub fn windows_and_ticks()
     ensures none { are_rising [] ≡ false }
 {}
 
-/// Of two rules for a link the later one counts, and only for the way that it names.
+/// If two rules are for one link, the later one counts, and only for the direction that it names.
 pub fn delays_of_links()
     ensures of_the_last_rule { map (λ i. delay_of two_rules (node.Biu i) (node.Rmu 1) data_place)
         (0 ∷ 1 ∷ []) ≡ (7 ∷ 6 ∷ []) }

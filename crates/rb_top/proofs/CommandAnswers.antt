@@ -389,7 +389,8 @@ log_answers accepted node status left left' reads reads' held held' writes write
       };
     }
 
--- the scenario that has been read has no such node or member, for which it is refused with this line
+-- the scenario that has been read has no such node or member, for which it is refused with this
+-- line
 pub record Lacks (line : List ℕ) (status : Status) (held held' : Option (List ℕ)) (writes writes' : ℕ) : Type 0 where
   pub refused : status ≡ Refused → Appends held held' line
   pub part : status ≡ WriteFault → AppendsPart held held' line

@@ -1,4 +1,5 @@
--- When each answer comes, and what it leaves written: of a command, and of the words that ask the top call for one.
+-- When each answer comes, and what it leaves written: of a command, and of the words that ask the
+-- top call for one.
 use Rattle.std.specs.Prelude.{⊤, ℕ, ◌≡◌, ◌≤◌, ◌⊎◌, Bool, List, [], length, String, Option, Some, None}
 use Rattle.std.specs.declared.alloc.Global.{Global}
 use Rattle.std.specs.Io.KnownBytes.{Appends}
@@ -40,7 +41,8 @@ pub record IsRefusedAlone (command : Command) (input : List ℕ) (told told' : O
   pub refused : command.is_refused input line
   pub silent : told' ≡ told
 
--- a write failed: the count of the sink's faults rose, and of the text that was due the first bytes are written
+-- a write failed: the count of the sink's faults rose, and of the text that was due the first bytes
+-- are written
 pub record CommandFailsToWrite (command : Command) (left left' held held' : Option (List ℕ)) (faults faults' : ℕ) (is_plain : Bool) (told told' : Option (List Turn)) : Type 0 where
   pub rose : Rose faults faults'
   pub input : List ℕ
@@ -73,7 +75,8 @@ pub record NothingFails (limit : Option ℕ) (input : List ℕ) (reads reads' wr
   pub no_read : ¬ Rose reads reads'
   pub no_write : ¬ Rose writes writes'
 
--- the answers that must come, where the source tells its input. Want of memory alone may come in their place
+-- the answers that must be given if the source tells its input. Only out of memory may be the
+-- answer in their place
 pub record CommandCompletes (command : Command) (status : Status) (left : Option (List ℕ)) (reads reads' writes writes' : ℕ) : Type 0 where
   pub ended : (input : List ℕ) (end : Status) → IsLeft command.limit left input → command.is_end input end
       → NothingFails command.limit input reads reads' writes writes' → (status ≡ end) ⊎ (status ≡ answer.OutOfMemory)

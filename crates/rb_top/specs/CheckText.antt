@@ -12,7 +12,7 @@ abbrev pub sides_text : ℕ → Option Sides → List ℕ
 sides_text n None = []
 sides_text n (Some sides) = side_text n sides.left sides.right
 
--- the line of the inequality that comes after so many
+-- the line of the inequality that comes after the first `before`
 abbrev pub text_after : Sizes → Plan → ℕ → List ℕ
 text_after sizes plan before = sides_text (before + 1) (sides_of sizes plan (before + 1))
 

@@ -1,4 +1,5 @@
--- The commands of the program, each by itself: what it reads, how it ends, what is due of it, and what refuses its input.
+-- The commands of the program, each by itself: what it reads, how it ends, what is due of it, and
+-- what refuses its input.
 use Rattle.std.specs.Prelude.{ℕ, ◌≡◌, ◌⊎◌, Bool, true, List, Option, Some, None, Ok}
 use Rattle.rb_base.specs.declared.event.Event.{Event}
 use Rattle.rb_base.specs.declared.node.NodeName.{NodeName}
@@ -37,7 +38,8 @@ pub record EndsAs (sc : Scenario) (status : Status) : Type 0 where
 
 -- What is due.
 
--- `run`, `letters` and `group` are due what they tell of the turns that the drive gave: all turns of the scenario that the input says
+-- `run`, `letters` and `group` are due what they tell of the turns that the drive gave: all turns
+-- of the scenario that the input says
 pub record IsReport (tells : Telling) (input : List ℕ) (is_plain : Bool) (told told' : Option (List Turn)) (status : Status) (text : List ℕ) : Type 0 where
   pub scenario : Scenario
   pub turns : List Turn
@@ -53,7 +55,8 @@ pub record IsGroupReport (which : Which) (members : ℕ) (input : List ℕ) (is_
   pub report : IsReport (told_by_group which members) input is_plain told told' status text
   pub there : AreMembers report.scenario.sizes members
 
--- `stress` is due the summary of the turns that the drive gave: all turns of the generated scenario. With a breach that is nothing
+-- `stress` is due the summary of the turns that the drive gave: all turns of the generated
+-- scenario. With a breach that is nothing
 pub record IsSummary (seed frames : ℕ) (is_plain : Bool) (told told' : Option (List Turn)) (status : Status) (text : List ℕ) : Type 0 where
   pub turns : List Turn
   pub lawful : IsLawful (generated seed frames)
@@ -68,8 +71,8 @@ pub record IsSides (input text : List ℕ) : Type 0 where
   pub says : IsTextOf input scenario
   pub text_is : text ≡ check_text scenario.sizes scenario.plan
 
--- `record` is due the log of all that its node is given in the run of the scenario that the input says, each event being the first that
--- is due
+-- `record` is due the log of all that its node is given in the run of the scenario that the input
+-- says, each event being the first that is due
 pub record IsLogOf (node : NodeName) (input text : List ℕ) : Type 0 where
   pub scenario : Scenario
   pub events : List Event
@@ -91,7 +94,8 @@ pub record IsReplay (input text : List ℕ) : Type 0 where
   pub spells : log_in input ≡ Ok log
   pub text_is : text ≡ replay_text log.timetable.sizes log.timetable.plan log.node log.events
 
--- `listen` is due what a passive listener tells when it is given the events of a BIU's log from a tick on
+-- `listen` is due what a passive listener tells when it is given the events of a BIU's log from a
+-- tick on
 pub record IsOverheard (skip : ℕ) (input text : List ℕ) : Type 0 where
   pub log : Log
   pub spells : log_in input ≡ Ok log
@@ -124,7 +128,8 @@ pub record Command : Type 1 where
   pub is_due_so_far : List ℕ → Bool → Option (List Turn) → Option (List Turn) → List ℕ → Type 0  -- its text, as far as it was due when a write failed
   pub is_refused : List ℕ → List ℕ → Type 0  -- its input is refused with this line
 
--- a command without an input whose text is fixed: `gen`, `spell`, and what the program says of itself
+-- a command without an input whose text is fixed: `gen`, `spell`, and what the program says of
+-- itself
 abbrev pub text_command : List ℕ → Command
 text_command text = record {
   limit = None;

@@ -29,7 +29,8 @@ scenario_limit = 4194304
 abbrev pub log_limit : ℕ
 log_limit = 67108864
 
--- within a limit this is all that the source had left, and without one nothing, since nothing is read
+-- within a limit this is all that the source had left, and without one nothing, since nothing is
+-- read
 abbrev pub IsReadBy : Option ℕ → Option (List ℕ) → Option (List ℕ) → List ℕ → Type 0
 IsReadBy None left left' input = input ≡ []
 IsReadBy (Some limit) left left' input = ReadsToEnd left left' input
@@ -42,7 +43,7 @@ pub record IsTextOf (input : List ℕ) (sc : Scenario) : Type 0 where
 
 -- Refusals.
 
--- the rule has a code; want of memory has none
+-- the rule has a code; out of memory has none
 abbrev pub HasCode : Refusal → Type 0
 HasCode rule = IsSome (code_of rule)
 
@@ -68,7 +69,8 @@ pub record LacksNode (node : NodeName) (input line : List ℕ) : Type 0 where
 abbrev pub member_text : List ℕ
 member_text = refused_text 14 None false
 
--- the input is the text of a scenario whose bus lacks one of these members, and this is the line that says so
+-- the input is the text of a scenario whose bus lacks one of these members, and this is the line
+-- that says so
 pub record LacksMember (members : ℕ) (input line : List ℕ) : Type 0 where
   pub scenario : Scenario
   pub says : IsTextOf input scenario
@@ -111,7 +113,8 @@ pub record IsOfRmu (input line : List ℕ) : Type 0 where
 
 -- Reading that doesn't come to the end.
 
--- TooLong comes exactly where the source gave more bytes than the limit, and ReadFault only where the count of its faults rose
+-- TooLong comes exactly where the source gave more bytes than the limit, and ReadFault only where
+-- the count of its faults rose
 pub record IsUnreadOver (limit : ℕ) (status : Status) (left left' : Option (List ℕ)) (faults faults' : ℕ) : Type 0 where
   pub too_long : status ≡ answer.TooLong → Gave left left' (λ n. limit < n)
   pub short_enough : ¬ (status ≡ answer.TooLong) → Gave left left' (λ n. n ≤ limit)

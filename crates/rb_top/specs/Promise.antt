@@ -56,7 +56,8 @@ pub record KeepsTheLog (node : NodeName) (left left' held held' : Option (List �
   pub read : ReadsToEnd left left' input  -- the input is read to its end
   pub accepted : IsTextOf input scenario  -- it is the text of an accepted scenario
   pub written : Appends held held' log  -- what was added to the sink is this log
-  -- if the node is good throughout and the run has no breach, what is due of `replay` for this log is what the run's report tells of the node
+  -- if the node is good throughout and the run has no breach, what is due of `replay` for this log
+  -- is what the run's report tells of the node
   pub replayed : EndsWithoutBreach scenario → IsGoodThroughout scenario node → IsReplay log (report_of_node node (records_of scenario []))
   pub promise : KeepsThePromise scenario []  -- the run keeps the promise of the bus up to its breach
 

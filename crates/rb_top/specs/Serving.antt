@@ -121,7 +121,8 @@ pub record WritesText {K : Type 0} (text : List ℕ) (status : Status) (held : K
   pub cause : status ≡ answer.WriteFault → Rose (writes sink) (writes sink')
   pub one_of : (status ≡ answer.Done) ⊎ (status ≡ answer.WriteFault)
 
--- such a text of the bytes of a log was written, or such a line that refuses them, or a first part of either and a write failed
+-- such a text of the bytes of a log was written, or such a line that refuses them, or a first part
+-- of either and a write failed
 pub record TellsOfLog {K : Type 0} (IsText IsLine : List ℕ → List ℕ → Type 0) (bytes : List ℕ) (status : Status) (held : K → Option (List ℕ)) (writes : K → ℕ) (sink sink' : K) : Type 0 where
   pub done : status ≡ answer.Done → WritesOf IsText bytes (held sink) (held sink')
   pub refused : status ≡ answer.Refused → WritesOf IsLine bytes (held sink) (held sink')

@@ -17,8 +17,8 @@ abbrev pub voter_text : Which → List ℕ
 voter_text Most = codes "most"
 voter_text Mid = codes "mid"
 
--- the words of a form. A number is written in decimal, without sign and without leading zero, a node as in a scenario, and a letter as two
--- hexadecimal digits for each byte, in lower case
+-- the words of a form. A number is written in decimal, without sign and without leading zero, a
+-- node as in a scenario, and a letter as two hexadecimal digits for each byte, in lower case
 abbrev pub words_of : Form → List (List ℕ)
 words_of Run = codes "run" ∷ []
 words_of Check = codes "check" ∷ []
@@ -43,7 +43,7 @@ pub record IsLetter (letter : List ℕ) : Type 0 where
   pub many : is_length (length letter) ≡ true
   pub all_bytes : IsBytes letter
 
--- the bytes that were read, if they are so many
+-- the bytes that were read, if there are as many as a letter may have
 abbrev pub letter_bytes : {E : Type 0} → Result (List ℕ) E → Option (List ℕ)
 letter_bytes (Err e) = None
 letter_bytes (Ok bytes) = if is_length (length bytes) then Some bytes else None

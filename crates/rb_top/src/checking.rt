@@ -11,7 +11,7 @@ use rb_plan::{Feasible, sides};
 use rb_report::side_line;
 use rb_scenario::Scenario;
 
-// The line of the inequality that comes after so many.
+// The line of the inequality that comes after the first `before`.
 fn line_after(plan: &Feasible, before: u8) -> ArrayString<96>
     requires { before < 7 }
     ensures { result.bytes ≡ text_after plan.now.sizes plan.now.plan before }

@@ -23,7 +23,7 @@ pub enum Form {
     Run,
     /// To check a scenario and show both sides of its plan's inequalities.
     Check,
-    /// To write the text of the scenario that is generated from a seed, for so many frames.
+    /// To write the text of the scenario that is generated from a seed, for a number of frames.
     Gen(u64, u32),
     /// To run that scenario and show its four numbers.
     Stress(u64, u32),

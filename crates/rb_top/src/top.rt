@@ -22,13 +22,20 @@ use std::alloc::Global;
 /// | `run` | reads a scenario, runs it and writes the report of the drive's turns |
 /// | `check` | reads a scenario and writes both sides of the seven inequalities of its plan |
 /// | `gen SEED FRAMES` | writes the text of the generated scenario; reads nothing |
-/// | `stress SEED FRAMES` | runs the generated scenario and writes four numbers of the drive's turns; reads nothing |
-/// | `record NODE` | reads a scenario, runs it by first choices and writes the log of all that the node is given |
+/// | `stress SEED FRAMES` | runs the generated scenario and writes four numbers of the drive's
+/// turns; reads nothing |
+/// | `record NODE` | reads a scenario, runs it by first choices and writes the log of all that the
+/// node is given |
 /// | `replay` | reads a log, gives it to its node and writes what that tells |
-/// | `listen SKIP` | reads the log of a BIU, gives it to a passive listener from tick SKIP on and writes what that tells |
-/// | `spell HEX` | writes the words that spell a letter of 1 to 255 bytes, each byte being two digits in lower case; reads nothing |
-/// | `letters` | reads a scenario, runs it and writes each letter that a port receives whole in the drive's turns |
-/// | `group most MASK`, `group mid MASK` | reads a scenario, runs it and writes what the good BIUs find for a group, by majority or as the middle word, in each complete frame of the drive's turns |
+/// | `listen SKIP` | reads the log of a BIU, gives it to a passive listener from tick SKIP on and
+/// writes what that tells |
+/// | `spell HEX` | writes the words that spell a letter of 1 to 255 bytes, each byte being two
+/// digits in lower case; reads nothing |
+/// | `letters` | reads a scenario, runs it and writes each letter that a port receives whole in the
+/// drive's turns |
+/// | `group most MASK`, `group mid MASK` | reads a scenario, runs it and writes what the good BIUs
+/// find for a group, by majority or as the middle word, in each complete frame of the drive's turns
+/// |
 /// | `--help`, `-h` | writes a page with these words and the statuses, at once; reads nothing |
 /// | `--version` | writes the name of the program and its version; reads nothing |
 ///

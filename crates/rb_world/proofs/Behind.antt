@@ -286,7 +286,7 @@ takes-first sc kept scene after until w v me i a time own site new lanes m sweep
 
 -- Which tick it is.
 
--- so many of the first kind, and of the other kind any number
+-- an index below n for BIUs, and any index for RMUs
 abbrev count_in : Side → ℕ → ℕ → Type 0
 count_in Biu n i = i < n
 count_in Rmu n i = ⊤

@@ -58,7 +58,7 @@ at-tick sizes plan me st k false e =
 some-same : {X : Type 0} (d a b : X) → Some a ≡ Some b → a ≡ b
 some-same d a b e = ap (λ o. unwrap_or o d) e
 
--- a window that begins is one of the node's frame, or of the next
+-- a window that starts is one of the node's frame, or of the next
 span-if : (b : Bool) (now : Span) (span : Span) → (elim b as (λ _. Option Span) [ true ↦ Some now | false ↦ None ]) ≡ Some span → now ≡ span
 span-if true now span e = some-same now now span e
 span-if false now span e = let never : None ≡ Some span = e in absurd cc
@@ -110,7 +110,7 @@ unsaid-out (Some onset) says place small out =
       | inr after ↦ absurd (omega (arith, after, small))
     ]
 
--- Of a calm node.
+-- A calm node.
 
 pub calm-good : (sc : Scenario) (me : Side) (i : ℕ) (span : Span) (frame : ℕ) → is_calm sc me i frame ≡ true → i < count_of me sc.sizes → frame < 4294967296
     → (span.place.frame ≡ frame) ⊎ (span.place.frame ≡ frame + 1) → is_good sc me i span.place.frame span.place.slot ≡ true

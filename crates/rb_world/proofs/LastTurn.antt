@@ -1,4 +1,5 @@
--- Once a run has ended, the last turn is its last record, and the last turn is always the record that was given last.
+-- Once a run has ended, the last turn is its last record, and the last turn is always the record
+-- that was given last.
 use Rattle.std.proofs.Common.{◌≡◌, ℕ, zero, suc, ◌==◌, ◌&&◌, ◌||◌, nat_lt, Bool, true, false, Option, Some, None, List, [], ◌∷◌, ◌++◌, flat_map, fold, length, slice_get, if◌then◌else◌, inl, inr, refl, sym, ap, ◌∙◌, subst}
 use Rattle.std.proofs.lemmas.List.{append-nil}
 use Rattle.rb_base.specs.Sizes.{Sizes, sync_slot_of}
@@ -20,7 +21,8 @@ use Rattle.rb_world.proofs.GoingOn.{ended-stays}
 not-both : {P : Type 0} (b : Bool) → b ≡ true → b ≡ false → P
 not-both b t f = absurd (cc)
 
--- a book with one record more than these has ended exactly where that is the last of a run, and one with no more has not
+-- a book with one record more than these has ended exactly where that is the last of a run, and one
+-- with no more has not
 abbrev Ends : List Record → Book → Type 0
 Ends given x = x.ended ≡ is_last (slice_get x.given (length given))
 

@@ -52,7 +52,7 @@ catch-told S step old new sc from time me n u kept lanes sites site at name name
     by false e = refl
     by true e = sym (left-own sc until sites me n h.next.s h.next.there) ∙ ap (left_for sc until sites) (sym (same-name me n name e))
 
--- The first so many.
+-- What is left behind of the first nodes of a kind.
 
 pub below-none : (sc : Scenario) (until : Side → ℕ → ℕ) (me : Side) (sites : Each Site) (name : NodeName) → left_below sc until me 0 sites name ≡ []
 below-none sc until me sites name =

@@ -100,7 +100,7 @@ some-record (shown.Slot s) no_record = refl
 some-record shown.Ended no_record = refl
 some-record (shown.Breach place cause) no_record = refl
 
--- so many steps always give a record
+-- n steps that give no record are fewer than 2^63
 pub not-so-many : (n : ℕ) (ties : Ties) (s0 s1 : ℕ) (before mid : KeptWorld) (w : World) → Stands before w → TakesSteps n ties s0 s1 before mid w → n < 2 ^ 63
 not-so-many n ties s0 s1 before mid w stands is = few-steps before.bus ties n (record { world = w; draws = s0 }) stands.lawful stands.reached is.quiet
 

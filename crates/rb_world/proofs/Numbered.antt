@@ -1,6 +1,8 @@
--- Each call gives the next record of the rounds. For callers: `next-in-rounds` is about one whose world goes to its next record, and `alike-in-rounds`
--- about one whose world does so by first choices, the turn being that record but for what a drive that is not plain may change (with
--- `alike-last`, that both are the last of a run or neither is). `take-in-rounds` is about an event that is taken.
+-- Each call gives the next record of the rounds. For callers: `next-in-rounds` is about one whose
+-- world goes to its next record, and `alike-in-rounds` about one whose world does so by first
+-- choices, the turn being that record but for what a drive that is not plain may change (with
+-- `alike-last`, that both are the last of a run or neither is). `take-in-rounds` is about an event
+-- that is taken.
 use Rattle.std.proofs.Common.{◌≡◌, ℕ, zero, suc, ◌<◌, ◌≤◌, ◌||◌, inl, inr, Bool, true, false, Option, Some, None, is_some, List, [], ◌∷◌, ◌++◌, flat_map, length, slice_get, refl, sym, ap, ◌∙◌, subst, arith}
 use Rattle.rb_rules.specs.Book.{Record, in_order}
 use Rattle.rb_rules.specs.Goodness.{Scenario}

@@ -1,4 +1,5 @@
--- Room for what is pending, and for windows that begin: the laws, at the worlds that some choices lead to.
+-- Room for what is pending, and for windows that start: the laws, at the worlds that some choices
+-- lead to.
 use Rattle.std.proofs.Common.{◌≡◌, ℕ, ◌+◌, ◌^◌, ◌<◌, ◌≤◌, sym, ◌∙◌, ap, subst, arith, List}
 use Rattle.std.proofs.lemmas.Option.{same_Some}
 use Rattle.rb_base.specs.Nodes.{Side}

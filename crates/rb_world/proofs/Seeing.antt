@@ -27,7 +27,7 @@ use Rattle.rb_rules.specs.Standing.{Standing, is_eligible, taken_of}
 use Rattle.rb_rules.specs.SyncStage.{close_sync, expects_call, see_time, sync_outcome_of}
 use Rattle.rb_world.specs.Sites.{ComeTogether}
 
--- Of a source of which nothing came nothing is taken.
+-- Nothing is accepted from a source from which nothing came.
 
 map-twice : {X Y Z : Type 0} (f : X → Y) (g : Y → Z) (xs : List X) → map g (map f xs) ≡ map (λ x. g (f x)) xs
 map-twice f g [] = refl

@@ -1,4 +1,5 @@
--- What is kept of a site stands for each that has heard the like of it, and an arrival that is taken in leaves the next tick.
+-- What is kept of a site stands for each that has heard the like of it, and an arrival that is
+-- taken in leaves the next tick.
 use Rattle.std.proofs.Common.{◌≡◌, ℕ, ◌<◌, ◌∙◌, Bool, true, false, List, [], ◌∷◌, length, sym, ap, subst, arith, inr}
 use Rattle.rb_base.specs.Nodes.{Side, has}
 use Rattle.rb_rules.specs.Core.{next_tick, of_source}

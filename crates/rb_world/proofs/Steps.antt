@@ -44,7 +44,8 @@ due-in-reached sc w lawful reached needs =
 pub some-due : (k : KeptWorld) (w : World) (n : ℕ) → Stands k w → NeedsEvent k.bus w → n ≡ length (due_of k.bus w) → 1 ≤ n
 some-due k w n is needs all = let some = due-in-reached k.bus w is.lawful is.reached needs in omega (arith, some, all)
 
--- in a world that some choices lead to, going on without an event gives a record, if no event is due
+-- in a world that some choices lead to, going on without an event gives a record, if no event is
+-- due
 go-on-gives : (sc : Scenario) (w : World) → IsLawful sc → IsReached sc w → length (due_of sc w) ≡ 0 → (go_on sc w).turn ≢ None
 go-on-gives sc w lawful reached none = by w.book.ended (needs_no_event sc w.book.upcoming) refl refl
   where
@@ -62,7 +63,7 @@ place-below (Seeded seed) state n some = mod_below (number_of state) n some
 
 -- Takes.
 
--- some choices lead to this world, of which so many took an event
+-- some choices lead to this world, n of which took an event
 record IsAfterTakes (sc : Scenario) (n : ℕ) (w : World) : Type 0 where
   choices : List Choice
   is : w ≡ world_after sc choices

@@ -34,7 +34,7 @@ use Rattle.rb_world.specs.Worlds.{HoldsPorts, Surrounds}
 use Rattle.rb_world.proofs.Around.{Tells, ports-more, told-more}
 use Rattle.rb_world.proofs.Sites.{at-id}
 
--- The begin of a frame.
+-- The start of a frame.
 
 pub begun-tells : (b : Begun) → Tells (with_begun b)
 begun-tells b = record { coming = λ s. refl; ahead = λ s. refl; runs = λ s. refl }

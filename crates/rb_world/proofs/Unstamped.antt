@@ -1,4 +1,5 @@
--- A node takes a tick that ends a window of a slot before the sync slot, and has taken in what came to it unstamped.
+-- A node takes a tick that ends a window of a slot before the sync slot, and has taken in what came
+-- to it unstamped.
 use Rattle.std.proofs.Common.{◌≡◌, ℕ, ◌+◌, ◌-◌, ◌^◌, ◌<◌, ◌≤◌, true, false, Some, None, Option, List, slice_get, refl, sym, ap, ◌∙◌, subst, arith}
 use Rattle.std.specs.Prelude.{All, length, slice_set}
 use Rattle.rb_base.specs.Nodes.{Side, other}

@@ -37,8 +37,8 @@ scenario_of plan frames requests words apps clocks delays onsets sayings = recor
   says = sayings.says;
 }
 
--- the scenario is lawful, and this is kept of who is good and of what is said, which are so many entries, and of the frames in which a
--- node may not be good or may be told something
+-- the scenario is lawful, and this is kept of who is good, of what is said, which are `count`
+-- entries, and of the frames in which a node may not be good or may be told something
 pub record IsBus (count : ℕ) (sc : Scenario) (onsets : Faults) (sayings : KeptSayings) (bius rmus : List Restless) : Type 0 where
   pub lawful : IsLawful sc
   pub onsets_are : onsets ≡ faults_of sc
@@ -47,8 +47,9 @@ pub record IsBus (count : ℕ) (sc : Scenario) (onsets : Faults) (sayings : Kept
   pub restless_bius : AreRestless sc.biu_onsets (kept_of sc) Biu sc.sizes.bius bius
   pub restless_rmus : AreRestless sc.rmu_onsets (kept_of sc) Rmu sc.sizes.rmus rmus
 
--- At a node of kind me there is room for all that is pending there, and, when an event has been taken, for all that may then come at
--- once: its next tick and what is said to it in a window, or a message
+-- At a node of kind me there is room for all that is pending there, and, when an event has been
+-- taken, for all that may then come at once: its next tick and what is said to it in a window, or a
+-- message
 abbrev pub HasRoom : Scenario → Side → Held → Type 0
 HasRoom sc me lane = most_pending sc me + length sc.says + 1 ≤ lane.room
 

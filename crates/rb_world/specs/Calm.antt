@@ -6,8 +6,8 @@ use Rattle.rb_rules.specs.Links.{name_of}
 use Rattle.rb_world_traffic.specs.Saying.{KeptSayings, entries_for, first_frame, kept_of, last_frame}
 use Rattle.rb_world.specs.declared.calm.Restless.{Restless}
 
--- the first frame in which a node with this onset may not be good, or something may be said to it, this being the first of which an entry
--- for it speaks
+-- the first frame in which a node with this onset may not be good, or something may be said to it,
+-- this being the first of which an entry for it speaks
 abbrev pub first_restless : Option (ℕ × ℕ) → ℕ → ℕ
 first_restless None first = first
 first_restless (Some onset) first = min first onset.0
@@ -26,13 +26,14 @@ pub record IsRestless (onsets : List (Option (ℕ × ℕ))) (sayings : KeptSayin
   pub first : r.first ≡ first_restless (get_or onsets i None) (first_frame (entries_for sayings (name_of me i)))
   pub last : r.last ≡ last_restless (get_or onsets i None) (last_frame (entries_for sayings (name_of me i)))
 
--- so of each of the first so many
+-- each of the first `count` nodes of kind me is restless as kept
 abbrev pub AreRestless : List (Option (ℕ × ℕ)) → KeptSayings → Side → ℕ → List Restless → Type 0
 AreRestless onsets sayings me count nodes =
     (i : ℕ) → i < count → IsRestless onsets sayings me i (get_or nodes i (record { first = 0; last = 0 }))
 
--- this frame and the next both come before all frames in which the node may not be good or an entry for it may speak, or both come after
--- them. So in both the node is good in every slot, and nothing is said to it
+-- this frame and the next both come before all frames in which the node may not be good or an entry
+-- for it may speak, or both come after them. So in both the node is good in every slot, and nothing
+-- is said to it
 abbrev pub is_calm : Scenario → Side → ℕ → ℕ → Bool
 is_calm sc me i frame =
     is_outside (first_restless (get_or (onsets_of me sc) i None) (first_frame (entries_for (kept_of sc) (name_of me i))))

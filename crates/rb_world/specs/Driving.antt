@@ -31,7 +31,8 @@ masked (turn.Slot s) = turn.Slot (record s { lines = record { items = map withou
 masked turn.Ended = turn.Ended
 masked (turn.Breach place cause) = turn.Breach place cause
 
--- a turn without what a drive that is not plain may change: ticks, times, masks, states, losses and values
+-- a turn without what a drive that is not plain may change: ticks, times, masks, states, losses and
+-- values
 abbrev pub bare : Turn → Turn
 bare turn.Quiet = turn.Quiet
 bare (turn.Frame f) =
@@ -40,7 +41,8 @@ bare (turn.Slot s) = masked (turn.Slot s)
 bare turn.Ended = turn.Ended
 bare (turn.Breach place cause) = turn.Breach place cause
 
--- the world goes to its next record by first choices, and this turn is that record but for ticks, times, masks, states, losses and values
+-- the world goes to its next record by first choices, and this turn is that record but for ticks,
+-- times, masks, states, losses and values
 pub record GoesAlike (before after : KeptWorld) (given : Turn) (w : World) : Type 0 where
   pub turn : Turn
   pub goes : GoesToNext First before after turn w
@@ -74,7 +76,8 @@ told_of k = if k.telling then Some k.turns else None
 abbrev pub given_for : Bool → Turn → Turn
 given_for mask turn = if mask then masked turn else turn
 
--- a turn is kept and told with those before it while there is room, and else nothing is told any more
+-- a turn is kept and told with those before it while there is room, and else nothing is told any
+-- more
 pub record Keeps (before after : KeptTurns) (turn : Turn) : Type 0 where
   pub kept : length before.turns < before.room → after.turns ≡ before.turns ++ turn ∷ []
   pub telling : length before.turns < before.room → after.telling ≡ before.telling

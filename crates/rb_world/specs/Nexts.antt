@@ -25,7 +25,7 @@ drawn First state = state
 drawn Last state = state
 drawn (Seeded seed) state = next_state state
 
--- the place of the event that is taken among so many, this being the state after the choice
+-- the place of the event that is taken among the due ones, `state` being the state after the choice
 abbrev pub place_among : Ties → ℕ → ℕ → ℕ
 place_among First state due = 0
 place_among Last state due = due - 1
@@ -38,7 +38,8 @@ pub record Standing : Type 0 where
   pub world : World
   pub draws : ℕ
 
--- a step where so many events are due: one of them is taken, and where none is, what needs no event is given
+-- a step if a number of events are due: one of them is taken, and if none is, what needs no event
+-- is given
 abbrev pub step_among : Scenario → Ties → ℕ → Standing → Standing
 step_among sc ties zero s = record s { world = go_on sc s.world }
 step_among sc ties (suc others) s =
@@ -47,7 +48,7 @@ step_among sc ties (suc others) s =
 unfoldable pub step : Scenario → Ties → Standing → Standing
 step sc ties s = step_among sc ties (length (due_of sc s.world)) s
 
--- after so many steps
+-- the state after a number of steps
 unfoldable pub after_steps : Scenario → Ties → ℕ → Standing → Standing
 after_steps sc ties zero s = s
 after_steps sc ties (suc n) s = step sc ties (after_steps sc ties n s)
@@ -61,7 +62,8 @@ pub record IsNext (sc : Scenario) (ties : Ties) (before after : Standing) : Type
 
 -- What a call makes of a world.
 
--- what is kept stands afterwards for the world of the next record, and that is the turn that is given. The draws go on
+-- what is kept stands afterwards for the world of the next record, and that is the turn that is
+-- given. The draws go on
 pub record GoesToNext (ties : Ties) (before after : KeptWorld) (turn : Turn) (w : World) : Type 0 where
   pub next : World
   pub is : IsNext before.bus ties (record { world = w; draws = (begun_with ties before.seeding).draws.state })
@@ -74,7 +76,7 @@ pub record TakesStep (ties : Ties) (state state_after : ℕ) (before after : Kep
   pub gives : Gives after turn (step before.bus ties (record { world = w; draws = state })).world
   pub draws : state_after ≡ (step before.bus ties (record { world = w; draws = state })).draws
 
--- so many steps, which gave no record
+-- n steps gave no record
 pub record TakesSteps (n : ℕ) (ties : Ties) (state state_after : ℕ) (before after : KeptWorld) (w : World) : Type 0 where
   pub stands : Stands after (after_steps before.bus ties n (record { world = w; draws = state })).world
   pub draws : state_after ≡ (after_steps before.bus ties n (record { world = w; draws = state })).draws

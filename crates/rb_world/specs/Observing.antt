@@ -27,14 +27,15 @@ use Rattle.rb_world.specs.declared.run.Run.{Run}
 
 -- Observers.
 
--- A step relates an observer, what it is told, and the observer then. It was told these in so many steps
+-- A step relates an observer, what it is told, and the observer then. The observer was told this
+-- list, in as many steps
 abbrev pub WasTold : (S : Type 0) → (S → Told → S → Type 0) → S → List Told → S → Type 0
 WasTold S step a [] b = b ≡ a
 WasTold S step a (t ∷ ts) b = (c : S) × (step a t c × WasTold S step c ts b)
 
 -- The run.
 
--- what node j of a kind is told in so many steps of first choices
+-- what node j of a kind is told in a number of steps of first choices
 abbrev pub told_by : Scenario → Side → ℕ → ℕ → Standing → List Told
 told_by sc side j zero s = []
 told_by sc side j (suc n) s = told_by sc side j n s ++ told_next sc side j (after_steps sc First n s).world
@@ -64,7 +65,7 @@ left_at sc until side j (Some s) = heard sc side j (until side j) s
 abbrev pub left_for : Scenario → (Side → ℕ → ℕ) → Each Site → NodeName → List Told
 left_for sc until sites name = left_at sc until (kind_of name) (number_in name) (slice_get (of_kind (kind_of name) sites) (number_in name))
 
--- so if it is one of the first so many of a kind
+-- what is left behind of the node with this name, if it is one of the first n nodes of kind me
 abbrev pub left_below : Scenario → (Side → ℕ → ℕ) → Side → ℕ → Each Site → NodeName → List Told
 left_below sc until me n sites name = if same_side (kind_of name) me && nat_lt (number_in name) n then left_for sc until sites name else []
 
@@ -76,7 +77,8 @@ alone_at sc w me i a side j (Some s) = told_alone sc w me i a side j s
 abbrev pub alone_for : Scenario → World → Side → ℕ → Timed → NodeName → List Told
 alone_for sc w me i a name = alone_at sc w me i a (kind_of name) (number_in name) (slice_get (of_kind (kind_of name) w.sites) (number_in name))
 
--- So many steps or more gave no record, and what the node was told in them was told but for what is left behind
+-- n steps or more gave no record, and what the node was told in them was told but for what is left
+-- behind
 pub record AlongTold (S : Type 0) (step : S → Told → S → Type 0) (name : NodeName) (a b : S) (sc : Scenario) (kept : Each KeptSite) (scene : Scene) (until : Side → ℕ → ℕ) (n : ℕ) (w0 : World) (d : ℕ) : Type 0 where
   pub on : Along sc kept scene until n w0 d
   pub held : List Told

@@ -9,7 +9,8 @@ use Rattle.rb_rules.specs.Sense.{Arrival}
 use Rattle.rb_rules.specs.WorldStep.{Site, coming_from, with_close, with_epoch}
 use Rattle.rb_node.specs.Cores.{IsCore, Running}
 
--- what is kept of a site: the node, whether it runs, and for each source the time of what came of it last
+-- what is kept of a site: the node, whether it runs, and for each source the time of what came of
+-- it last
 pub record KeptSite : Type 0 where
   pub node : Running
   pub runs : Bool
@@ -27,7 +28,8 @@ ComeTogether inbox got = map (λ (a : ℕ × Arrival). a.0) inbox ≡ map (λ (c
 abbrev pub HoldsTimes : List ℕ → List Coming → Type 0
 HoldsTimes times got = (j : ℕ) → j < 16 → (c : Coming) → coming_from got j ≡ c ∷ [] → slice_index times j ≡ c.time
 
--- what is kept stands for a site of a node of kind me, but for what is pending there and what it has told
+-- what is kept stands for a site of a node of kind me, but for what is pending there and what it
+-- has told
 pub record Stands (sc : Scenario) (me : Side) (k : KeptSite) (s : Site) : Type 0 where
   pub sizes : k.node.seat.sizes ≡ sc.sizes
   pub plan : k.node.seat.plan ≡ sc.plan
@@ -36,17 +38,20 @@ pub record Stands (sc : Scenario) (me : Side) (k : KeptSite) (s : Site) : Type 0
   pub together : s.core.had < 2 ^ 31 → ComeTogether s.core.inbox s.got
   pub times : HoldsTimes k.times s.got
 
--- the site after an arrival that is taken in before its stamp is known: it is stamped with the next tick, and is still pending
+-- the site after an arrival that is taken in before its stamp is known: it is stamped with the next
+-- tick, and is still pending
 abbrev pub taken_in : Scenario → Side → Coming → Site → Site
 taken_in sc me c s = record s { core = arrive sc.sizes me s.core c.from c.bytes; got = s.got ++ c ∷ [] }
 
--- what came of a source, as two nodes have it, is alike: nothing, one message with the same bytes and the same stamp, or more than one
+-- what came of a source, as two nodes have it, is alike: nothing, one message with the same bytes
+-- and the same stamp, or more than one
 pub data AreAlike (xs ys : List Arrival) : Type 0 where
   Nothing : xs ≡ [] → ys ≡ [] → AreAlike xs ys
   Single : (x y : Arrival) → xs ≡ x ∷ [] → ys ≡ y ∷ [] → y.bytes ≡ x.bytes → y.stamp ≡ x.stamp → AreAlike xs ys
   Several : 1 < length xs → 1 < length ys → AreAlike xs ys
 
--- a site t is in the state of s, and has heard the like of each source: what is kept of s can't tell them apart
+-- a site t is in the state of s, and has heard the like of each source: what is kept of s can't
+-- tell them apart
 pub record IsHeardAlike (s t : Site) : Type 0 where
   pub state : t.core.state ≡ s.core.state
   pub had : t.core.had ≡ s.core.had

@@ -35,8 +35,9 @@ use Rattle.rb_world.specs.Worlds.{AreNodes, IsNode, IsReached, Surrounds}
 abbrev pub moved : Side → ℕ → (Site → Site) → World → World
 moved me i change w = record w { sites = at_node me i change w.sites }
 
--- In a world in which no tick is pending at node i of kind me, its site is this. What is kept of it and around it stands for that, and
--- there is room for its next tick and for what is said to it in a window
+-- In a world in which no tick is pending at node i of kind me, its site is this. What is kept of it
+-- and around it stands for that, and there is room for its next tick and for what is said to it in
+-- a window
 pub record IsAt (sc : Scenario) (me : Side) (i : ℕ) (site : KeptSite) (scene : Scene) (w : World) (s : Site) : Type 0 where
   pub lawful : IsLawful sc
   pub within : i < count_of me sc.sizes
@@ -49,7 +50,7 @@ pub record IsAt (sc : Scenario) (me : Side) (i : ℕ) (site : KeptSite) (scene :
   pub surrounds : Surrounds sc scene w
   pub spare : length sc.says + 1 ≤ spare_of (lane_of scene.agenda (name_of me i))
 
--- a window that begins does so within the ticks that a node may have, and is a stage or the tail
+-- a window that starts does so within the ticks that a node may have, and is a stage or the tail
 pub record SpanFits (span : Span) : Type 0 where
   pub stage : 1 ≤ span.place.stage
   pub first : span.first ≤ 2 ^ 31
@@ -63,7 +64,8 @@ pub record MayProceed (sc : Scenario) (me : Side) (i : ℕ) (site : KeptSite) (s
   pub at : IsAt sc me i site scene w s
   pub spans : SpansFit sc me s.core
 
--- the site of this node in a world has this core, for which the node stands, and its next tick is not pending yet
+-- the site of this node in a world has this core, for which the node stands, and its next tick is
+-- not pending yet
 pub record IsCoreAt (sc : Scenario) (me : Side) (node : NodeName) (site : KeptSite) (c : Core) (w : World) : Type 0 where
   pub number : number_of site ≡ number_in node
   pub sizes : site.node.seat.sizes ≡ sc.sizes
@@ -96,7 +98,8 @@ abbrev pub HasProceeded : Scenario → Side → KeptSite → KeptSite → Scene 
 HasProceeded sc me before after around scene =
     (w : World) (s : Site) → MayProceed sc me (number_of before) before around w s → Proceeds sc me (number_of before) after around scene w s
 
--- this was kept of what surrounds the nodes of a world, and now that is, and stands for the world changed so
+-- this was kept of what surrounds the nodes of a world, and now that is, and stands for the world
+-- changed so
 abbrev pub Changes : Scenario → Scene → Scene → (World → World) → Type 0
 Changes sc before after change = (w : World) → Surrounds sc before w → Surrounds sc after (change w)
 
@@ -179,8 +182,9 @@ word_at sc w me i k s = word_of sc w.ports i (wants_in sc me i (pass_to k s.core
 
 -- Events.
 
--- The event that is due at place i has been taken out of what is pending: this event, at this time. What is kept of the nodes stands
--- for the world before, and what surrounds them for the world without it
+-- The event that is due at place i has been taken out of what is pending: this event, at this time.
+-- What is kept of the nodes stands for the world before, and what surrounds them for the world
+-- without it
 pub record MayHappen (sc : Scenario) (kept : Each KeptSite) (scene : Scene) (time : ℕ) (name : NodeName) (event : Event) (w : World) (i : ℕ) (d : Due) : Type 0 where
   pub lawful : IsLawful sc
   pub reached : IsReached sc w

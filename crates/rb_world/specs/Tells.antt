@@ -35,7 +35,8 @@ row_at me i st times c = record {
   line = option_map (λ d. record { receiver = i; sender = d.sender; value = d.value }) c.delivered;
 }
 
--- what it has told of the last stage once a tick has closed a window, or has not. Of the tail, stage 4, it tells nothing
+-- what it has told of the last stage once a tick has closed a window, or has not. Of the tail,
+-- stage 4, it tells nothing
 abbrev pub row_after : Side → KeptSite → Bool → Option Row → Option Row
 row_after me k closed before =
     if closed && not (k.node.shown.place.stage == 4)
@@ -47,8 +48,9 @@ abbrev pub begun_after : Scenario → List PortState → Side → ℕ → Option
 begun_after sc ports me i None before = before
 begun_after sc ports me i (Some e) before = Some (begun_of sc ports me i e)
 
--- tick k, before which the quiet ticks pass, is that of the site: what is kept afterwards stands for the site after it, the step is
--- what the tick gave, and what the site then has told is told by what is kept
+-- tick k, before which the quiet ticks pass, is that of the site: what is kept afterwards stands
+-- for the site after it, the step is what the tick gave, and what the site then has told is told by
+-- what is kept
 pub record IsTicked (sc : Scenario) (ports : List PortState) (me : Side) (before after : KeptSite) (step : Step) (k : ℕ) (s : Site) : Type 0 where
   pub stands : Stands sc me after (after_tick sc ports me (number_of before) (pass_and_tick sc ports me (number_of before) k s.core) s)
   pub core : IsCore after.node (pass_and_tick sc ports me (number_of before) k s.core).core
@@ -59,7 +61,8 @@ pub record IsTicked (sc : Scenario) (ports : List PortState) (me : Side) (before
 
 -- Next ticks.
 
--- Of each site for which this was kept the next tick that isn't quiet has been taken, and this step is what it gave
+-- Of each site for which this was kept the next tick that isn't quiet has been taken, and this step
+-- is what it gave
 abbrev pub TakesNext : Side → KeptSite → KeptSite → Step → Type 0
 TakesNext me before after step = (sc : Scenario) (ports : List PortState) (k : ℕ) (s : Site) → Stands sc me before s
     → next_tick sc.sizes sc.plan me (number_of before) s.core ≡ Some k → IsTicked sc ports me before after step k s

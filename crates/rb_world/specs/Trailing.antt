@@ -1,4 +1,5 @@
--- A run that goes from tick to tick: arrivals are left behind until a tick of their node comes, or a record.
+-- A run that goes from tick to tick: arrivals are left behind until a tick of their node comes, or
+-- a record.
 use Rattle.std.specs.Prelude.{ℕ, zero, suc, ◌≡◌, ◌+◌, ◌^◌, ◌<◌, ◌≤◌, nat_lt, All, true, false, Option, Some, None, List, length, slice_get}
 use Rattle.rb_base.specs.Nodes.{Side, other}
 use Rattle.rb_base.specs.Sizes.{Sizes}
@@ -54,7 +55,8 @@ pub record TakesTick (sizes : Sizes) (me : Side) (i until : ℕ) (lanes : Each H
 
 -- Sweeps.
 
--- what comes to the node before this time comes by a tick that its clock has, and no later than the tick that is pending
+-- what comes to the node before this time comes by a tick that its clock has, and no later than the
+-- tick that is pending
 pub record IsReachable (sc : Scenario) (me : Side) (i until : ℕ) (s : Site) : Type 0 where
   pub has_tick : s.runs ≡ true → (k : ℕ) × ((k < 2 ^ 31) × (until ≤ time_of (clock_of sc me i) k + 1))
   pub before : (a : Timed) → s.ahead ≡ Some a → until ≤ a.time + 1
@@ -92,12 +94,14 @@ pub record Sweeps (sc : Scenario) (me : Side) (i until : ℕ) (site : KeptSite) 
 
 -- Runs.
 
--- what comes to the node before this time comes by a tick that its clock has, and before the tick that is pending
+-- what comes to the node before this time comes by a tick that its clock has, and before the tick
+-- that is pending
 pub record IsBehind (sc : Scenario) (me : Side) (i until : ℕ) (s : Site) : Type 0 where
   pub has_tick : s.runs ≡ true → (k : ℕ) × ((k < 2 ^ 31) × (until ≤ time_of (clock_of sc me i) k + 1))
   pub before : (a : Timed) → s.ahead ≡ Some a → until ≤ a.time
 
--- What is kept stands for a world that is behind the run's: at each node arrivals before a time are left, and no others
+-- What is kept stands for a world that is behind the run's: at each node arrivals before a time are
+-- left, and no others
 pub record Trails (sc : Scenario) (kept : Each KeptSite) (scene : Scene) (until : Side → ℕ → ℕ) (w v : World) : Type 0 where
   pub lawful : IsLawful sc
   pub reached : IsReached sc w
@@ -121,13 +125,15 @@ alone sc me i a v = record v { sites = at_node me i (swept sc me i (a.time + 1))
 abbrev pub bare : Scenario → Side → ℕ → Timed → Site → Site
 bare sc me i a s = record (swept sc me i (a.time + 1) s) { ahead = None }
 
--- the node has been swept up to its tick and has taken it: what is kept of the nodes of its kind, and of the others, stands for that
+-- the node has been swept up to its tick and has taken it: what is kept of the nodes of its kind,
+-- and of the others, stands for that
 pub record TakesFirst (sc : Scenario) (v : World) (me : Side) (i : ℕ) (a : Timed) (own far : List KeptSite) (scene : Scene) : Type 0 where
   pub own_are : AreNodes sc me own (of_kind me (happens sc (alone sc me i a v) (record { side = me; node = i; pending = Tick a.tick })).sites)
   pub far_are : AreNodes sc (other me) far (of_kind (other me) (happens sc (alone sc me i a v) (record { side = me; node = i; pending = Tick a.tick })).sites)
   pub surrounds : Surrounds sc scene (happens sc (alone sc me i a v) (record { side = me; node = i; pending = Tick a.tick }))
 
--- the first tick, which is this, has been taken there: what is kept stands for what that makes of the world, before anything is settled
+-- the first tick, which is this, has been taken there: what is kept stands for what that makes of
+-- the world, before anything is settled
 pub record HappensFirst (sc : Scenario) (kept : Each KeptSite) (scene : Scene) (v : World) (me : Side) (i : ℕ) (a : Timed) : Type 0 where
   pub nodes : (side : Side) → AreNodes sc side (of_kind side kept) (of_kind side (happens sc (alone sc me i a v) (record { side = me; node = i; pending = Tick a.tick })).sites)
   pub surrounds : Surrounds sc scene (happens sc (alone sc me i a v) (record { side = me; node = i; pending = Tick a.tick }))
@@ -206,7 +212,7 @@ pub record MayRun (sc : Scenario) (kept : Each KeptSite) (scene : Scene) (w : Wo
   pub trails : Trails sc kept scene (λ side j. 0) w w
   pub going : w.book.ended ≡ false
 
--- so many steps or more gave no record, and what is kept now stands for a world behind
+-- n steps or more gave no record, and what is kept now stands for a world behind
 pub record Along (sc : Scenario) (kept : Each KeptSite) (scene : Scene) (until : Side → ℕ → ℕ) (n : ℕ) (w0 : World) (d : ℕ) : Type 0 where
   pub steps : ℕ
   pub many : n ≤ steps
@@ -228,7 +234,8 @@ pub record Comes (sc : Scenario) (kept : Each KeptSite) (scene : Scene) (until :
   pub turn_is : now.turn ≡ record_of turn
   pub quiet : (m : ℕ) → 1 ≤ m → m ≤ others → (after_steps sc First m (record { world = w0; draws = d })).world.turn ≡ None
 
--- it has come to its next record by steps of the first choice, and what is kept stands for its world
+-- it has come to its next record by steps of the first choice, and what is kept stands for its
+-- world
 pub record ComesToRecord (sc : Scenario) (kept : Each KeptSite) (scene : Scene) (turn : Turn) (w : World) (d : ℕ) : Type 0 where
   pub next : World
   pub is : IsNext sc First (record { world = w; draws = d }) (record { world = next; draws = d })

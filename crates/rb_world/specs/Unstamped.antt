@@ -1,4 +1,5 @@
--- A node before a tick that ends a window of a slot before the sync slot. What comes to it until then is taken in unstamped, in any order.
+-- A node before a tick that ends a window of a slot before the sync slot. What comes to it until
+-- then is taken in unstamped, in any order.
 use Rattle.std.specs.Prelude.{ℕ, ◌≡◌, ◌+◌, ◌<◌, nat_lt, All, Some, List, [], ◌∷◌, filter, slice_get, slice_set}
 use Rattle.rb_base.specs.Nodes.{Side, other}
 use Rattle.rb_base.specs.declared.node.NodeName.{NodeName}
@@ -42,8 +43,8 @@ with_nothing_before until node lanes = with_lane node (without_tick (without_bef
 abbrev pub bare_with : Scenario → Side → ℕ → Timed → Core → Site → Site
 bare_with sc me i a core s = record (bare sc me i a s) { core = core }
 
--- Of a node, of which the one was kept, the other is kept now: all that came to it up to its tick was taken in, and nothing of it nor the tick
--- is pending any more
+-- A node of which `before` was kept and `site` is kept now: all that came to it up to its tick was
+-- taken in, and neither that nor the tick is pending any more
 pub record TakenUp (sc : Scenario) (me : Side) (i : ℕ) (a : Timed) (held : Each Held) (before site : KeptSite) (lanes : Each Held) (s : Site) : Type 0 where
   pub seat : site.node.seat ≡ before.node.seat
   pub stands : StandsFor sc me site (taken_all sc me (due_before (a.time + 1) s.coming) s)
@@ -59,7 +60,8 @@ pub record MayTakeExactly (sc : Scenario) (kept : Each KeptSite) (scene : Scene)
   pub there : slice_get own i ≡ Some site
   pub ends : EndsExactly me site.node
 
--- the tick at this time, which is the first of all, is this node's and needs no stamps, and it is taken
+-- the tick at this time, which is the first of all, is this node's and needs no stamps, and it is
+-- taken
 abbrev pub TakesExactly : Scenario → Side → ℕ → ℕ → KeptSite → KeptSite → Scene → Scene → Type 0
 TakesExactly sc me i time before after around scene =
     (kept : Each KeptSite) (until : Side → ℕ → ℕ) (w v : World) (a : Timed) (own : List KeptSite)

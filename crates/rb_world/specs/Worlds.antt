@@ -23,7 +23,8 @@ use Rattle.rb_world.specs.declared.scene.Scene.{Scene}
 use Rattle.rb_world.specs.declared.ties.Seeding.{Seeding}
 use Rattle.rb_world.specs.Buses.{HaveRooms}
 
--- what is kept of a run: the bus, the nodes, what surrounds them, the draws among events that are due, and which turn came last
+-- what is kept of a run: the bus, the nodes, what surrounds them, the draws among events that are
+-- due, and which turn came last
 pub record KeptWorld : Type 0 where
   pub bus : Scenario
   pub nodes : Each KeptSite
@@ -40,7 +41,8 @@ pub record Awaits (sc : Scenario) (me : Side) (i : ℕ) (s : Site) : Type 0 wher
   pub tick_of_none : s.runs ≡ false → s.ahead ≡ None
   pub nothing : s.runs ≡ false → s.coming ≡ []
 
--- this is kept of node i of kind me, to which only nodes of the bus have said anything since its last close
+-- this is kept of node i of kind me, to which only nodes of the bus have said anything since its
+-- last close
 pub record IsNode (sc : Scenario) (me : Side) (i : ℕ) (k : KeptSite) (s : Site) : Type 0 where
   pub number : number_of k ≡ i
   pub site : StandsFor sc me k s
@@ -65,7 +67,8 @@ abbrev pub running_of : Side → Scene → ℕ
 running_of Biu scene = scene.running_biu
 running_of Rmu scene = scene.running_rmu
 
--- this is kept of what surrounds the nodes: what is pending, with room for more, what they told, the ports, and who runs
+-- this is kept of what surrounds the nodes: what is pending, with room for more, what they told,
+-- the ports, and who runs
 pub record Surrounds (sc : Scenario) (scene : Scene) (w : World) : Type 0 where
   pub counts : (me : Side) → length (of_kind me w.sites) ≡ count_of me sc.sizes
   pub lanes : HoldsSites sc.sizes scene.agenda w.sites
@@ -103,6 +106,7 @@ pub record NeedsEvent (sc : Scenario) (w : World) : Type 0 where
   pub going : w.book.ended ≡ false
   pub needs : needs_no_event sc w.book.upcoming ≡ false
 
--- how many events may be taken, by what is kept: none where the next record needs none, and none after the last
+-- how many events may be taken, by what is kept: none where the next record needs none, and none
+-- after the last
 abbrev pub due_in : KeptWorld → ℕ
 due_in k = elim (k.scene.book.ended || is_free k.scene.book) [ true ↦ 0 | false ↦ how_many k.scene.agenda ]

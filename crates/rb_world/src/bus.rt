@@ -130,7 +130,7 @@ impl Bus {
         u64::from(self.words[usize::from(i)])
     }
 
-    /// The book of a run of the bus at its begin.
+    /// The book of a run of the bus at its start.
     pub fn book(&self) -> Book
         ensures { Holds self.now result (first_world self.now) }
     {

@@ -30,7 +30,7 @@ fn restless_in(onset: Option<(u32, u16)>, first: u64, last: u64) -> Restless
     }
 }
 
-/// Those of so many nodes of a kind.
+/// The restless nodes among the first `count` of a kind.
 pub(crate) fn restless_nodes<K: Kind>(
     count: u8,
     onsets: &[Option<(u32, u16)>; 16],

@@ -134,7 +134,7 @@ fn given(turn: Turn, mask: bool) -> Turn
 }
 
 impl MemDrive {
-    /// A drive that tells at most so many turns. It takes memory for all of them here.
+    /// A drive that tells at most `room` turns. It takes memory for all of them here.
     pub fn new(alloc: Global, room: usize, mask: bool) -> Result<MemDrive, OutOfMemory>
         ensures { IfOk result (λ d. d
             ≡ record { turns = []; room = room; telling = true; mask = mask }) }

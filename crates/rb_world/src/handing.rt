@@ -13,7 +13,7 @@ use rb_base::{NodeName, Place};
 use rb_node::Span;
 use rb_port::Port;
 
-// Whether a BIU is good at the begin of a frame.
+// Whether a BIU is good at the start of a frame.
 fn is_good_at_begin(bus: &Bus, biu: u8, frame: u32) -> bool
     ensures { result ≡ is_good bus.now Biu biu frame 0 }
 {
@@ -41,7 +41,7 @@ fn set_state(ports: &mut Vec<Port>, biu: u8, state: u64)
 
 impl World {
     /// Hands a state to the application at BIU `biu`, where the last turn was the record of a
-    /// frame, no event was taken since, and the BIU is good at that frame's begin. It is the state
+    /// frame, no event was taken since, and the BIU is good at that frame's start. It is the state
     /// that the record's port line would have shown. Nothing else changes, and nothing at all
     /// elsewhere.
     pub fn hand(&mut self, biu: u8, state: u64)

@@ -51,7 +51,7 @@ fn add_site<K: Kind>(sites: &mut Vec<Site<K>>, site: Site<K>) -> Result<(), OutO
     sites.push(site).map_err(|_| OutOfMemory)
 }
 
-// The nodes of a kind, of which there are so many, before their first ticks.
+// The `count` nodes of a kind before their first ticks.
 fn open_sites<K: Kind>(alloc: Global, bus: &Bus, count: u8) -> Result<Vec<Site<K>>, OutOfMemory>
     requires { count ≡ count_of (side_of K.CODE) bus.now.sizes }
     ensures { IfOk result (λ sites. AreFresh bus.now (side_of K.CODE) sites.items) }

@@ -75,7 +75,7 @@ fn proceed_in_full<K: Kind>(bus: &Bus, node: NodeName, site: &mut Site<K>, scene
     await_tick(bus, node, site, scene);
 }
 
-/// The node goes on to its next tick. At a window's begin a node that is not good there stops, and
+/// The node goes on to its next tick. At a window's start a node that is not good there stops, and
 /// to the others comes what they are told in it. Without a look for calm nodes a frame of the
 /// generated run with seed 7 costs 1,474,800 instructions in place of 1,383,200.
 #[inline(always)]

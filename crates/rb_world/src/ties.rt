@@ -44,7 +44,7 @@ impl Seeding {
     }
 }
 
-/// The place of the event that is taken, among so many.
+/// The place of the event that is taken, among `due` of them.
 pub(crate) fn choose(ties: Ties, draws: &mut Draws, due: usize) -> usize
     requires some { 1 ≤ due }
     ensures below { result < due }

@@ -96,7 +96,8 @@ kept-high all leasts opened at j h few =
       | inr n ↦ subst (λ n. least_key all ≤ n) (sym (h.others j few n)) (four-high all (j * 4) (omega (arith, few, marks)))
     ]
 
--- what is kept of the first fours, with the four that are open, is no higher than any mark of those fours
+-- what is kept of the first fours, with the four that are open, is no higher than any mark of those
+-- fours
 below : (all leasts : List ℕ) (opened at own rest n : ℕ) → AreFours all leasts opened at → own ≡ four_at all (opened * 4) → own < 18446744073709551616 → n ≤ 32
     → ((j : ℕ) → j * 4 < n → rest ≤ get_or leasts j 0) → min own rest ≤ least_key (take n all)
 below all leasts opened at own rest n h is fits most low =

@@ -50,7 +50,8 @@ abbrev pub position_of : ℕ → NodeName → ℕ
 position_of bius (node.Biu i) = i
 position_of bius (node.Rmu i) = bius + i
 
--- the i-th of the events that are due at this time is the one at this place among the ready events of a node
+-- the i-th of the events that are due at this time is the one at this place among the ready events
+-- of a node
 pub record StandsAt (lanes : Each Held) (time i : ℕ) (name : NodeName) (place : ℕ) : Type 0 where
   pub position : ℕ
   pub within : position < length (in_order lanes)
@@ -64,8 +65,8 @@ pub record StandsAt (lanes : Each Held) (time i : ℕ) (name : NodeName) (place 
 abbrev pub due_now : Scenario → World → List Due
 due_now sc w = due_at sc w (least (flat_map times_of (in_order w.sites)))
 
--- The event at this place among the ready events of a node is the i-th that is due in a world: it is the node's, and stands in the
--- node's lane
+-- The event at this place among the ready events of a node is the i-th that is due in a world: it
+-- is the node's, and stands in the node's lane
 pub record IsDue (sc : Scenario) (w : World) (lanes : Each Held) (i : ℕ) (name : NodeName) (place : ℕ) : Type 0 where
   pub side : Side
   pub number : ℕ
@@ -88,8 +89,8 @@ abbrev pub IsAtTime : ℕ → Waits → Type 0
 IsAtTime time (Tick k) = ⊤
 IsAtTime time (Arrival place c) = c.time ≡ time
 
--- The i-th event that is due in a world is taken: this event of this node shows it, at this time, and the lanes hold afterwards what
--- waits without it
+-- The i-th event that is due in a world is taken: this event of this node shows it, at this time,
+-- and the lanes hold afterwards what waits without it
 pub record TakesDue (sc : Scenario) (w : World) (i time : ℕ) (name : NodeName) (event : Event) (after : Each Held) : Type 0 where
   pub due : Due
   pub site : Site
@@ -121,8 +122,8 @@ tick_times lanes = map tick_time_of (in_order lanes)
 abbrev pub first_tick_time : Each Held → ℕ
 first_tick_time lanes = least_key (tick_times lanes)
 
--- The mark of a tick at this position: marks are in the order of time, and at one time in that of nodes. From 2^59 on all times have one
--- mark
+-- The mark of a tick at this position: marks are in the order of time, and at one time in that of
+-- nodes. From 2^59 on all times have one mark
 abbrev pub mark_of : ℕ → ℕ → ℕ
 mark_of position time = if nat_lt time 576460752303423488 then time * 32 + position else 18446744073709551615
 
@@ -148,8 +149,8 @@ is_tick (kind.Tick word wanted) = true
 abbrev pub ticks_after : EventKind → ℕ → List ℕ → List ℕ
 ticks_after event place ticks = if is_tick event then slice_set ticks place 18446744073709551615 else ticks
 
--- The tick that is pending at node i of kind me is the first of all in time, and of those at its time the first in the order of nodes. It
--- comes at this time, which is not the last that there is
+-- The tick that is pending at node i of kind me is the first of all in time, and of those at its
+-- time the first in the order of nodes. It comes at this time, which is not the last that there is
 pub record IsFirstAhead (sites : Each Site) (me : Side) (i time : ℕ) : Type 0 where
   pub site : Site
   pub there : slice_get (of_kind me sites) i ≡ Some site

@@ -5,8 +5,8 @@ use Rattle.std.specs.Prelude.{◌≡◌, ℕ, ◌+◌, ◌*◌, ◌/◌, ◌<◌
 abbrev pub four_at : List ℕ → ℕ → ℕ
 four_at all i = min (min (get_or all i 0) (get_or all (i + 1) 0)) (min (get_or all (i + 2) 0) (get_or all (i + 3) 0))
 
--- Beside 32 marks the least of each four is kept, but of those that are open. There the last number stands. If a place is kept, its four
--- are open
+-- Beside 32 marks the least of each four is kept, but of those that are open. There the last number
+-- stands. If a place is kept, its four are open
 pub record AreFours (all leasts : List ℕ) (opened at : ℕ) : Type 0 where
   pub marks : length all ≡ 32
   pub many : length leasts ≡ 8

@@ -15,8 +15,8 @@ use Rattle.rb_queue.specs.Waiting.Ready.{Comes, Ticks}
 
 -- What a lane holds.
 
--- the lane of a node of a kind holds what is pending at its site: what comes to it, in the order of pushing, and its tick. All senders
--- are nodes of the bus
+-- the lane of a node of a kind holds what is pending at its site: what comes to it, in the order of
+-- pushing, and its tick. All senders are nodes of the bus
 pub record HoldsSite (sizes : Sizes) (me : Side) (lane : Held) (s : Site) : Type 0 where
   pub coming : lane.arrivals ≡ s.coming
   pub ahead : lane.tick ≡ option_map (λ a. a.time) s.ahead

@@ -340,7 +340,8 @@ with-rmus sc l w h sites is bius rmus = record {
   rmus = rmus;
 }
 
--- Of the tail a node tells nothing: its site shows the same. So it is with all else that changes neither rows nor begins.
+-- A node tells nothing of the tail: its site shows the same. That holds of all else that changes
+-- neither rows nor starts.
 pub same-shown : (sc : Scenario) (l : KeptBook) (w : World) (v : World) → Holds sc l w → v.book ≡ w.book
     → ((kind : Side) → map (λ s. s.row) (of_kind kind v.sites) ≡ map (λ s. s.row) (of_kind kind w.sites))
     → ((kind : Side) → map (λ s. s.begun) (of_kind kind v.sites) ≡ map (λ s. s.begun) (of_kind kind w.sites)) → Holds sc l v

@@ -193,7 +193,7 @@ frame-record sc frame bius rmus sites sizes same shape biu rmu =
     ∙ ap (frame_record frame (map (λ x. x.line) (bs ++ rs))) (sym ports)
     ∙ first-frame frame (bs ++ rs) ∙ ap (λ l. slice_get (frame_records frame l) 0) (sym all)
 
--- what follows the begin of a frame
+-- what follows the start of a frame
 pub coming-begun : (sc : Scenario) (frame : ℕ) (m : Kept) → frame ≤ sc.frames → milestone_of m ≡ after_begin frame sc.frames
     → IsComing sc m × ((p : Place) → m ≡ kept.Stage p → p.frame ≡ frame)
 coming-begun sc frame m h same = by (frame == sc.frames) refl m same

@@ -19,7 +19,7 @@ pub joined : (a b c : Bool) → ((a && b) && c) ≡ (a && (b && c))
 joined true b c = refl
 joined false b c = refl
 
--- node i is one of so many, and in the set
+-- node i is one of the first `count`, and in the set
 abbrev pub is_below : ℕ → ℕ → ℕ → Bool
 is_below count set i = nat_lt i count && has set i
 
@@ -120,7 +120,7 @@ found_on find told k (suc more) n is h none =
     ∙ append-nil (found_of find (k + more) told)
     ∙ found_on find told k more (k + more) refl (omega arith) (λ j low high. none j low (omega arith))
 
--- nothing is found of so many
+-- nothing is found of the first n nodes
 found_nothing : {X : Type 0} (find : ℕ → Told → Option X) (told : List Told) (n : ℕ) → n ≤ length told → ((j : ℕ) → j < n → find j (told_at told j) ≡ None) → found_of find n told ≡ []
 found_nothing find told n h none = found_on find told 0 n n (omega arith) h (λ j low high. none j high) ∙ found_none find told
 

@@ -71,7 +71,7 @@ seen_all among left sight i none e =
     ap (λ b. if b && not (has left i) then sight i else Nothing) e
     ∙ ap (λ b. if true && not b then sight i else Nothing) (ap (λ s. has s i) none ∙ has_none i)
 
--- some of these passes, where these are the good ones of so many
+-- some node of `among` passes if and only if some good one of the first `count` nodes does
 among_good : (count good among : ℕ) (p q : ℕ → Bool) → among ≡ set_of (is_below count good) → ((i : ℕ) → has among i ≡ true → p i ≡ q i)
     → some_node (λ i. has among i && p i) ≡ some_good count good q
 unfolding some_good

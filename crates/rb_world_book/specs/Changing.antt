@@ -27,7 +27,8 @@ number_in (node.Rmu i) = i
 abbrev pub line_from : ℕ → Option Delivery → Option SlotLine
 line_from i delivered = option_map (λ d. record { receiver = i; sender = d.sender; value = d.value }) delivered
 
--- what node i tells of a stage: what it shows, with these reference times in place of stamps, and these trusted nodes
+-- what node i tells of a stage: what it shows, with these reference times in place of stamps, and
+-- these trusted nodes
 abbrev pub row_shown : ℕ → Closed → List ℕ → ℕ → ℕ → Row
 row_shown i c times biu rmu = record {
   place = c.place;

@@ -28,7 +28,8 @@ use Rattle.rb_world_book.specs.Waiting.{all_but, waiting_for}
 
 -- Judging.
 
--- the stage, without what was seen of nodes that are good to the end of its frame: no verdict depends on that
+-- the stage, without what was seen of nodes that are good to the end of its frame: no verdict
+-- depends on that
 abbrev pub without_lasting : Scenario → ℕ → JudgedStage → JudgedStage
 without_lasting sc frame s = record s {
   sight = λ kind i j. elim (is_good sc (other kind) j frame (sync_slot_of sc.sizes)) [ true ↦ Nothing | false ↦ s.sight kind i j ];
@@ -52,14 +53,15 @@ IsComing sc (Begin frame) = frame ≤ sc.frames
 IsComing sc (Stage place) = IsStageOf sc place
 IsComing sc End = Unit {0}
 
--- a node is good to the end of a frame, these being the nodes that are, where the upcoming milestone is a stage of it
+-- a node is good to the end of a frame, these being the nodes that are, where the upcoming
+-- milestone is a stage of it
 pub record Lasts (m : Milestone) (frame lasting j : ℕ) : Type 0 where
   pub place : Place
   pub upcoming : m ≡ Stage place
   pub of_frame : place.frame ≡ frame
   pub member : has lasting j ≡ true
 
--- of so many nodes those that are not counted are so
+-- each of the first `count` nodes that is not counted lasts
 abbrev pub OthersLast : Milestone → ℕ → ℕ → ℕ → ℕ → Type 0
 OthersLast m frame count lasting counted = (j : ℕ) → nat_lt j count ≡ true → has counted j ≡ false → Lasts m frame lasting j
 

@@ -36,7 +36,7 @@ JudgesStage before after sizes eps place bius rmus =
     → Knows after (map (without_lasting sc place.frame)
     (judged_of sc place (told_by_good sc place.frame place.slot (λ s. row_for place s.row) sites) ∷ stages))
 
--- what comes after the begin of a frame of so many
+-- what comes after the start of frame `frame` of a run of `frames` frames
 abbrev pub after_begin : ℕ → ℕ → Milestone
 after_begin frame frames = if frame == frames then End else Stage (record { frame = frame; slot = 0; stage = 1 })
 
@@ -52,7 +52,8 @@ comes_when free way.ByItself = free
 abbrev pub is_due : KeptWay → KeptBook → Bool
 is_due w l = (l.bius.waiting == 0) && ((l.rmus.waiting == 0) && (comes_when (is_free l) w && not l.ended))
 
--- what the nodes of a kind told stays, and those are awaited that have not told of the upcoming milestone
+-- what the nodes of a kind told stays, and those are awaited that have not told of the upcoming
+-- milestone
 pub record GoesKind {K : Type 0} (kind : Side) (sizes : Sizes) (onsets : Faults) (place : Place) (before after : Group K) (m : KeptMilestone) : Type 0 where
   pub turns : (sc : Scenario) → sizes ≡ sc.sizes → before.good ≡ good_at sc kind place.frame place.slot
       → waiting_for (count_of kind sizes) before.good (kept.Stage place) before.told ≡ 0 → TurnsKind kind sizes before after m

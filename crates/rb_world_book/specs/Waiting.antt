@@ -16,15 +16,15 @@ use Rattle.rb_world_book.specs.declared.milestone.Milestone.{Milestone}
 use Rattle.rb_world_book.specs.declared.told.Told.{Told}
 use Rattle.rb_world_book.specs.Telling.{begun_told, has_told, row_seeing, row_told, see_of, told_at}
 
--- the good ones, of so many, that have not told of a milestone
+-- the good ones of the first `count` nodes that have not told of a milestone
 unfoldable pub waiting_for : ℕ → ℕ → Milestone → List Told → ℕ
 waiting_for count good m told = set_of (λ i. nat_lt i count && (has good i && not (has_told m (told_at told i))))
 
--- of so many nodes those that are not in a set
+-- the first `count` nodes that are not in a set
 abbrev pub all_but : ℕ → ℕ → ℕ
 all_but count out = set_of (λ j. nat_lt j count && not (has out j))
 
--- what is found of the first so many nodes, in their order
+-- what is found of the first n nodes, in their order
 unfoldable pub found_of : {X : Type 0} → (ℕ → Told → Option X) → ℕ → List Told → List X
 found_of find n told = present (map_from 0 find (take n told))
 
@@ -39,11 +39,11 @@ row_at good place i t = row_if place (has good i) t
 abbrev pub row_saw : (ℕ → ℕ → See) → ℕ → Place → ℕ → Told → Option Row
 row_saw saw good place i t = elim (has good i) [ true ↦ row_for place (row_seeing (saw i) t) | false ↦ None ]
 
--- what it told of the begin of a frame, likewise
+-- what it told of the start of a frame, likewise
 abbrev pub begun_at : Side → ℕ → ℕ → ℕ → Told → Option Begun
 begun_at kind good frame i t = elim (has good i) [ true ↦ begun_for frame (begun_told kind t) | false ↦ None ]
 
--- some good one, of so many, passes
+-- some good one of the first `count` nodes passes
 unfoldable pub some_good : ℕ → ℕ → (ℕ → Bool) → Bool
 some_good count good passes = some_node (λ i. nat_lt i count && (has good i && passes i))
 

@@ -145,7 +145,7 @@ fn keep_lines(lines: &mut ArrayVec<SlotLine, 16>, shape: &Shape, place: Place, b
     }
 }
 
-// What comes after the begin of a frame of so many.
+// What comes after the start of frame `frame` of a run of `frames` frames.
 fn after_begin(frame: u32, frames: u32) -> Milestone
     ensures { milestone_of result ≡ after_begin frame frames }
 {
@@ -223,7 +223,7 @@ fn is_at(upcoming: Milestone, place: Place) -> bool
 }
 
 impl Book {
-    /// The book of a run of so many frames at its begin. The times of one message may be `eps`
+    /// The book of a run of `frames` frames at its start. The times of one message may be `eps`
     /// reference units apart.
     pub fn new(shape: Shape, frames: u32, eps: u32, onsets: Onsets) -> Book
         ensures holds { (sc : Scenario) → shape ≡ sc.sizes → frames ≡ sc.frames
@@ -304,7 +304,7 @@ impl Book {
     }
 
     /// Settles what is due in this way, up to the first record, and at most two milestones: a last
-    /// stage of a frame, which gives no record, and the begin of the next frame. The turn is
+    /// stage of a frame, which gives no record, and the start of the next frame. The turn is
     /// `Quiet` before, and is written over by that record, if there is one. Where nothing is due
     /// this costs next to nothing.
     #[inline(always)]
@@ -456,7 +456,7 @@ impl Book {
         }
     }
 
-    // The begin of a frame is settled.
+    // The start of a frame is settled.
     fn pass_begin(&mut self, frame: u32, turn: &mut Turn)
         ensures passes { (sc : Scenario) (w : World) → Holds sc self.old w → self.old.ended ≡ false
             → self.old.upcoming ≡ coming.Begin frame → Passes sc w self.new turn.new }

@@ -1,7 +1,7 @@
 //! What is to be settled in a run.
 use rb_base::Place;
 
-/// What is to be settled: the begin of a frame, a stage of a slot, or the end.
+/// What is to be settled: the start of a frame, a stage of a slot, or the end.
 #[derive(Clone, Copy, Debug, PartialEq, Eq)]
 pub enum Milestone {
     Begin(u32),

@@ -16,7 +16,7 @@ use rb_slot::Shown;
 pub struct Begin {
     pub frame: u32,
     pub line: NodeLine,
-    /// Of a BIU. An RMU has none, and this is any.
+    /// The line of the BIU's port; meaningless for an RMU.
     pub port: PortLine,
 }
 

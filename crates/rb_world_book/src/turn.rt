@@ -14,7 +14,7 @@ pub enum Turn {
     Breach(Place, Cause),
 }
 
-/// A frame at its begin: a line for each good node, BIUs before RMUs, and the ports of the good
+/// A frame at its start: a line for each good node, BIUs before RMUs, and the ports of the good
 /// BIUs.
 #[derive(Clone, Debug, PartialEq, Eq, Drop)]
 pub struct FrameRecord {

@@ -12,7 +12,7 @@ use rb_base::{NodeId, NodeSet, Place};
 use rb_judge::SourceSights;
 use rb_rules::{NodeLine, PortLine, SlotLine};
 
-// Those of a set that are among so many nodes.
+// The nodes of a set that are among the first `count`.
 fn those_below<K: Copy>(count: u8, set: NodeSet<K>) -> NodeSet<K>
     requires { count ≤ 16 }
     ensures { result ≡ set_of (λ i. nat_lt i count && has set i) }
@@ -40,7 +40,7 @@ fn is_awaited(told: &Told, milestone: Milestone) -> bool
     !told.has_told(milestone)
 }
 
-/// The good ones, of so many nodes, that have not told of the milestone.
+/// The good ones of the first `count` nodes that have not told of the milestone.
 pub(crate) fn waiting_for<K: Copy>(
     count: u8,
     good: NodeSet<K>,
@@ -97,7 +97,7 @@ fn slot_line(told: &Told, place: Place) -> Option<SlotLine>
     }
 }
 
-/// Adds the lines of the good ones, of so many nodes, that began the frame.
+/// Adds the lines of the good ones of the first `count` nodes that began the frame.
 pub(crate) fn add_node_lines<K: Copy>(
     lines: &mut ArrayVec<NodeLine, 32>,
     count: u8,
@@ -118,7 +118,7 @@ pub(crate) fn add_node_lines<K: Copy>(
     }
 }
 
-/// The ports of the good ones, of so many BIUs, that began the frame.
+/// The ports of the good ones of the first `count` BIUs that began the frame.
 pub(crate) fn port_lines<K: Copy>(
     count: u8,
     good: NodeSet<K>,
@@ -137,7 +137,7 @@ pub(crate) fn port_lines<K: Copy>(
     lines
 }
 
-/// What the good ones, of so many BIUs, delivered in a stage, in place of the lines so far.
+/// What the good ones of the first `count` BIUs delivered in a stage, in place of the lines so far.
 pub(crate) fn slot_lines<K: Copy>(
     lines: &mut ArrayVec<SlotLine, 16>,
     count: u8,
@@ -166,8 +166,8 @@ fn trusted_in(told: &Told, place: Place) -> Option<(u16, u16)>
     }
 }
 
-/// The trusted nodes of both kinds, as masks, as the first good one, of so many nodes, held them
-/// that told of a stage.
+/// The trusted nodes of both kinds, as masks, as the first good one of the first `count` nodes that
+/// told of a stage held them.
 pub(crate) fn first_trusted<K: Copy>(
     count: u8,
     good: NodeSet<K>,
@@ -187,7 +187,7 @@ pub(crate) fn first_trusted<K: Copy>(
     None
 }
 
-/// What is kept of what the good ones, of so many receivers, saw of a source.
+/// What is kept of what the good ones of the first `count` receivers saw of a source.
 pub(crate) fn sights_of<K: Copy>(
     eps: u32,
     count: u8,

@@ -13,11 +13,12 @@ pub record Faults : Type 0 where
 abbrev pub faults_of : Scenario → Faults
 faults_of sc = record { sizes = sc.sizes; biu_onsets = sc.biu_onsets; rmu_onsets = sc.rmu_onsets }
 
--- one of so many nodes is good in this slot of this frame
+-- node i is one of the first `count` nodes, and good in this slot of this frame
 abbrev pub is_good_among : ℕ → List (Option (ℕ × ℕ)) → ℕ → ℕ → ℕ → Bool
 is_good_among count onsets frame slot i = nat_lt i count && is_before (get_or onsets i None) frame slot
 
--- the earlier of two onsets, of which the second counts only where it comes after this slot of this frame
+-- the earlier of two onsets, of which the second counts only where it comes after this slot of this
+-- frame
 abbrev pub earlier_after : ℕ → ℕ → Option (ℕ × ℕ) → Option (ℕ × ℕ) → Option (ℕ × ℕ)
 earlier_after frame slot next None = next
 earlier_after frame slot next (Some onset) = elim (is_before (Some onset) frame slot && is_before next onset.0 onset.1) [ true ↦ Some onset | false ↦ next ]
@@ -29,7 +30,8 @@ pub record Stops (sc : Scenario) (frame slot : ℕ) (change : ℕ × ℕ) : Type
   pub good : is_good sc side node frame slot ≡ true
   pub not_there : is_good sc side node change.0 change.1 ≡ false
 
--- from a slot of a frame on the same nodes are good before the change, and there one of them is not any more
+-- from a slot of a frame on the same nodes are good before the change, and there one of them is not
+-- any more
 pub record IsNextChange (sc : Scenario) (frame slot : ℕ) (change : Option (ℕ × ℕ)) : Type 0 where
   pub later : is_before change frame slot ≡ true
   pub steady : (side : Side) → (i f s : ℕ) → is_before (Some (frame, slot)) f s ≡ false → is_before change f s ≡ true → is_good sc side i f s ≡ is_good sc side i frame slot

@@ -47,7 +47,7 @@ fn onset_at(onsets: &[Option<(u32, u16)>; 16], index: u8) -> Option<(u32, u16)>
     onsets[usize::from(index)]
 }
 
-// Whether node `index` of so many is good in this slot of this frame.
+// Whether node `index` is one of the first `count` nodes and good in this slot of this frame.
 fn is_good_among(
     count: u8,
     onsets: &[Option<(u32, u16)>; 16],
@@ -61,7 +61,7 @@ fn is_good_among(
     index < count && is_before(onset_at(onsets, index), frame, slot)
 }
 
-// The nodes, of so many, that are good in this slot of this frame.
+// The nodes among the first `count` that are good in this slot of this frame.
 fn good_among<K: Copy>(
     count: u8,
     onsets: &[Option<(u32, u16)>; 16],
@@ -96,8 +96,8 @@ fn earlier_after(
     }
 }
 
-// The first of the onsets of so many nodes that comes after this slot of this frame, or `change` if
-// that is earlier.
+// The first of the onsets of the first `count` nodes that comes after this slot of this frame, or
+// `change` if that is earlier.
 fn next_among(
     count: u8,
     onsets: &[Option<(u32, u16)>; 16],

@@ -33,7 +33,8 @@ with_departure clock delays version d running lanes =
     lanes_with (other (kind_of d.from))
     (coming_to delays (record { from = d.from; time = time_of clock d.tick; place = place_of d }) (spelling_of version d.message)) (has running) lanes
 
--- the clock is the sender's, the delays and the version are those of the bus, and the sender is one of its nodes
+-- the clock is the sender's, the delays and the version are those of the bus, and the sender is one
+-- of its nodes
 pub record IsOfScenario (sc : Scenario) (clock : Timeline) (delays : DelayRules) (version : Version) (d : Departure) : Type 0 where
   pub clock_is : clock ≡ clock_of sc (kind_of d.from) (number_of d.from)
   pub delays_are : delays ≡ sc.delays

@@ -35,11 +35,12 @@ kept_of sc = record { faults = faults_of sc; version = sc.plan.version; says = s
 abbrev pub is_between : NodeName → NodeName → Say → Bool
 is_between from to s = same_node s.from from && stands_for s.to to
 
--- the entries for a node, of so many nodes of the other kind: by sender, and then in the order of the scenario
+-- the entries for a node from the first `senders` nodes of the other kind: by sender, and then in
+-- the order of the scenario
 unfoldable pub entries_to : NodeName → ℕ → List Say → List Say
 entries_to to senders says = flat_map (λ j. filter (is_between (name_of (other (kind_of to)) j) to) says) (numbers senders)
 
--- so many nodes of the other kind there are
+-- how many nodes of the other kind there are
 abbrev pub senders_to : Sizes → NodeName → ℕ
 senders_to sizes to = count_of (other (kind_of to)) sizes
 
@@ -90,7 +91,8 @@ pub record AreIndexed (sizes : Sizes) (says : List Say) (bius rmus : List (List 
 abbrev pub is_for : Place → Say → Bool
 is_for place s = covers s.frames s.slots s.stages place
 
--- the entry is said by its sender in a window: it is for the place, comes inside of the window, and the sender is not good there
+-- the entry is said by its sender in a window: it is for the place, comes inside of the window, and
+-- the sender is not good there
 abbrev pub is_said_in : Scenario → Span → Say → Bool
 is_said_in sc span s =
     covers s.frames s.slots s.stages span.place && nat_le (span.first + s.offset) span.last && not (is_node_good sc s.from span.place.frame span.place.slot)
@@ -112,13 +114,14 @@ with_arrivals more lane = record lane { arrivals = lane.arrivals ++ more }
 abbrev pub hears : Scenario → NodeName → Span → Site → Site
 hears sc name span s = record s { coming = s.coming ++ says_in sc (kind_of name) (number_of name) span }
 
--- what these entries bring in a window has come to the node, by this clock of it, in each scenario of which this is kept
+-- what these entries bring in a window has come to the node, by this clock of it, in each scenario
+-- of which this is kept
 abbrev pub Brings : KeptSayings → List Say → Timeline → NodeName → Span → Each Held → Each Held → Type 0
 Brings kept says clock to span before after =
     (sc : Scenario) → kept ≡ kept_of sc → after ≡ with_lane to (with_arrivals (all_brought sc clock span says) (lane_of before to)) before
 
--- what is said to a node in a window has come to it, in its lane and at its site, in each scenario of which this is kept and where this
--- is the node's clock
+-- what is said to a node in a window has come to it, in its lane and at its site, in each scenario
+-- of which this is kept and where this is the node's clock
 pub record SaysTo (kept : KeptSayings) (clock : Timeline) (to : NodeName) (span : Span) (before after : Each Held) : Type 0 where
   pub lanes : (sc : Scenario) → kept ≡ kept_of sc → clock ≡ clock_of sc (kind_of to) (number_of to)
       → after ≡ with_lane to (with_arrivals (says_in sc (kind_of to) (number_of to) span) (lane_of before to)) before

@@ -99,7 +99,7 @@ fn add_between(
     Ok(())
 }
 
-// The numbers of the entries for a node, of so many nodes of the other kind.
+// The numbers of the entries for a node, from the first `senders` nodes of the other kind.
 fn numbers_to(
     alloc: Global,
     says: &SayList,
@@ -122,7 +122,8 @@ fn add_list(lists: &mut Vec<Numbers>, list: Numbers) -> Result<(), OutOfMemory>
     lists.push(list).map_err(|_| OutOfMemory)
 }
 
-// For each of so many nodes, of the kind that this one sends to, the numbers of its entries.
+// For each of the first `count` nodes of the kind that `sender` sends to, the numbers of its
+// entries.
 pub(crate) fn lists_for(
     alloc: Global,
     says: &SayList,

@@ -32,7 +32,8 @@ fn arguments(rt: &HostRuntime) -> Result<Vec<String>, u8> {
     arguments.skip(1).collect(rt.alloc()).map_err(|_| NO_MEMORY)
 }
 
-/// The top call with the words and these applications, or want of memory for the voters.
+/// The top call with the words and these applications, or an error if there is no memory for the
+/// voters.
 fn serve_with(rt: &HostRuntime, words: &[String], apps: &Apps) -> Result<u8, AllocError> {
     let alloc = rt.alloc();
     let voters = voters!(alloc);
@@ -51,7 +52,8 @@ fn serve_with(rt: &HostRuntime, words: &[String], apps: &Apps) -> Result<u8, All
     Ok(status as u8)
 }
 
-/// The top call with the words, or want of memory for the applications or the voters.
+/// The top call with the words, or an error if there is no memory for the applications or the
+/// voters.
 fn serve(rt: &HostRuntime, words: &[String]) -> Result<u8, AllocError> {
     let alloc = rt.alloc();
     let apps = applications!(alloc);

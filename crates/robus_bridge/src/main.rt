@@ -49,7 +49,7 @@ fn serve_with(rt: &HostRuntime, words: &[String], apps: &Apps) -> u8 {
     status as u8
 }
 
-/// The top call with the words, or want of memory for the applications.
+/// The top call with the words, or an error if there is no memory for the applications.
 fn serve(rt: &HostRuntime, words: &[String]) -> Result<u8, AllocError> {
     let alloc = rt.alloc();
     let apps = applications!(alloc);

@@ -42,7 +42,8 @@ pub record KeepsTheBridge (status : Status) (input output : List ℕ) : Type 0 w
   pub is : output ≡ bridge_text bridge  -- the output is the text of that bridge
   pub ends : status ≡ end_of bridge  -- the answer is Breach if and only if the bridge ends with a breach
   pub promise : WordsCrossOn bridge  -- words cross the bridge up to a breach
-  -- each bus keeps the promise of the bus up to its breach, with the words that cross as its hand-ins
+  -- each bus keeps the promise of the bus up to its breach, with the words that cross as its
+  -- hand-ins
   pub buses : (bank : Bank) → KeepsThePromise (bus_on bridge bank) (hands_on bank (hands_of bridge))
 
 -- The answer to `run`

@@ -80,7 +80,8 @@ pub record KeepsTheGroup (which : Which) (members : ℕ) (status : Status) (inpu
 pub record KeepsTheLog (node : NodeName) (input output : List ℕ) : Type 0 where
   pub scenario : Scenario
   pub accepted : IsTextOf input scenario  -- the input is the text of an accepted scenario
-  -- if the node is good throughout and the run has no breach, what is due of `replay` for the output is what the run's report tells of the node
+  -- if the node is good throughout and the run has no breach, what is due of `replay` for the
+  -- output is what the run's report tells of the node
   pub replayed : EndsWithoutBreach scenario → IsGoodThroughout scenario node → IsReplay output (report_of_node node (records_of scenario []))
   pub promise : KeepsThePromise scenario []  -- the run keeps the promise of the bus up to its breach
 

@@ -24,7 +24,8 @@ number_of code.ReadFault = 5
 number_of code.WriteFault = 6
 number_of code.OutOfMemory = 7
 
--- the output is what the form asks for: the picture of these frames of the report that the input is, or what the flag asks for
+-- the output is what the form asks for: the picture of these frames of the report that the input
+-- is, or what the flag asks for
 abbrev pub Gives : Form → List ℕ → List ℕ → Type 0
 Gives (Draw frames) input output = IsPicture frames input output
 Gives (Show flag) input output = output ≡ page_text flag

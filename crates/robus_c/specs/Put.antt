@@ -4,8 +4,9 @@ use Rattle.std.specs.Str.{IsUtf8}
 use Rattle.robus_c.specs.Words.{words_in}
 use Rattle.robus_c.specs.declared.answer.Answer.{Answer}
 
--- These bytes stand at the front of `after`, or as many of them as it has room for, and the rest is as it was. The answer says how many
--- there are; it has this number where all of them fit, and else 9
+-- `after` begins with these bytes, or with as many of them as it has room for, and the rest is as
+-- it was. The answer says how many there are; it has this number if all of them fit, and otherwise
+-- 9
 pub record IsPut (number : ℕ) (bytes before after : List ℕ) (answer : Answer) : Type 0 where
   pub many : answer.length ≡ length bytes
   pub front : take (min (length bytes) (length before)) after ≡ take (min (length bytes) (length before)) bytes
@@ -18,7 +19,8 @@ pub record AreNoText (words before after : List ℕ) (answer : Answer) : Type 0 
   pub no_text : ¬ IsUtf8 words
   pub put : IsPut 8 [] before after answer
 
--- a program says this output, with a status of this number, to words and an input, and that output is put there
+-- a program says this output, with a status of this number, to words and an input, and that output
+-- is put there
 pub record IsAnswered (Says : List (List ℕ) → List ℕ → List ℕ → ℕ → Type 0) (words : List (List ℕ)) (input before after : List ℕ) (answer : Answer) : Type 0 where
   pub number : ℕ
   pub output : List ℕ

@@ -40,7 +40,7 @@ fn run_over(
     number_of(status)
 }
 
-// The same with the two voters, or want of memory for them.
+// The call with the two voters, or an error if there is no memory for them.
 fn run_with(
     alloc: Global,
     words: &[String],

@@ -38,7 +38,7 @@ pub extern "C" fn robus_call(alloc: Global, words: &[u8], input: &[u8], output: 
     call::<Robus>(alloc, words, input, output)
 }
 
-/// The same for `robus_bridge`.
+/// Does for `robus_bridge` what `robus_call` does for `robus`.
 #[unsafe(no_mangle)]
 pub extern "C" fn robus_bridge_call(
     alloc: Global,
@@ -51,7 +51,7 @@ pub extern "C" fn robus_bridge_call(
     call::<RobusBridge>(alloc, words, input, output)
 }
 
-/// The same for `robus_picture`, whose status is 0, 2 to 4 or 7.
+/// Does for `robus_picture`, whose status is 0, 2 to 4 or 7, what `robus_call` does for `robus`.
 #[unsafe(no_mangle)]
 pub extern "C" fn robus_picture_call(
     alloc: Global,

@@ -73,8 +73,8 @@ pub extern "C" fn robus_node_next_tick(alloc: Global, node: &mut Handle) -> u64
     calls::next_tick(alloc, node)
 }
 
-/// Quiet ticks pass: as many as there are before the next that isn't quiet, and at most so many.
-/// Gives how many did; 0 where there is no node.
+/// Lets quiet ticks pass: as many as there are before the next that is not quiet, and at most
+/// `ticks`. Gives how many did; 0 if there is no node.
 #[unsafe(no_mangle)]
 pub extern "C" fn robus_node_pass(alloc: Global, node: &mut Handle, ticks: u64) -> u64
     ensures passes { Becomes (λ n m. Passes n ticks result m) (node_in node.old)

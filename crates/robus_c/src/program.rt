@@ -12,8 +12,8 @@ pub(crate) trait Program {
     /// To these words and this input it gives this output, and a status of this number.
     ghost says: { List (List ℕ) → List ℕ → List ℕ → ℕ → Type 0 };
 
-    /// Runs it into an empty sink. Gives the number of its status, or want of memory for what it
-    /// works with.
+    /// Runs the program into an empty sink. Gives the number of its status, or an error if there is
+    /// no memory for what it works with.
     fn run(
         alloc: Global,
         words: &[String],

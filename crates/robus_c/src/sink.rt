@@ -27,7 +27,7 @@ impl Model for HeldSink {
 }
 
 impl HeldSink {
-    /// An empty sink. For so many bytes it has the memory at once.
+    /// An empty sink. It takes memory for `room` bytes at once.
     pub fn new(alloc: Global, room: usize) -> Result<HeldSink, OutOfMemory>
         ensures { IfOk result (λ s. s ≡ record { bytes = []; failed = false }) }
     {

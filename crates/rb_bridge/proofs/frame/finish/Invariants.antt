@@ -1,4 +1,4 @@
--- So many turns were asked for.
+-- The number of turns that were asked for.
 use Rattle.std.proofs.Common.{◌≡◌, List, Option}
 use Rattle.rb_rules.specs.Goodness.{Scenario}
 use Rattle.rb_rules.specs.Ports.{HandIn}

@@ -1,4 +1,4 @@
--- So many turns of the frame were given, and the run goes on.
+-- Some turns of the frame were given, and the run goes on.
 use Rattle.std.proofs.Common.{◌≡◌, Option, List, false}
 use Rattle.rb_rules.specs.Ports.{HandIn}
 use Rattle.rb_world_book.specs.declared.turn.Turn.{Turn}

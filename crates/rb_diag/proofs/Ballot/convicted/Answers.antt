@@ -1,4 +1,4 @@
--- Of the senders' vectors only the valid ones count.
+-- Only the valid vectors of the senders count.
 use Rattle.std.proofs.Common.{get_or, refl}
 use Rattle.rb_base.specs.declared.values.Heard.TheVariants.{Fault}
 use Rattle.rb_diag.proofs.Tallies.{convicted_is}

@@ -1,4 +1,4 @@
--- So many turns were given and written, and the run goes on.
+-- The turns so far were given and written, and the run goes on.
 use Rattle.std.proofs.Common.{◌≡◌, ◌≤◌}
 use Rattle.rb_long_run.proofs.Written.{IsWritten}
 use Rattle.rb_long_run.proofs.letters.write_letters.Given as goal

@@ -1,4 +1,4 @@
--- So many words are written, and the others wait.
+-- The words so far are written, and the others wait.
 use Rattle.std.proofs.Common.{◌≡◌, ◌≤◌, take}
 use Rattle.std.specs.Io.KnownBytes.{Appends}
 use Rattle.std.specs.List.{flat_map}

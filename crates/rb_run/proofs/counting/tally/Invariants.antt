@@ -1,4 +1,4 @@
--- So many turns were given and counted, and the run goes on.
+-- The turns so far were given and counted, and the run goes on.
 use Rattle.std.proofs.Common.{◌≡◌, ◌≤◌, ◌*◌}
 use Rattle.rb_run.proofs.Counted.{IsCounted}
 use Rattle.rb_run.proofs.counting.tally.Given as goal

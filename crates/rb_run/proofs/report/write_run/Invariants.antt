@@ -1,4 +1,4 @@
--- So many turns were given and written, and the run goes on.
+-- The turns so far were given and written, and the run goes on.
 use Rattle.std.proofs.Common.{◌≡◌, ◌≤◌}
 use Rattle.rb_run.proofs.Reported.{IsWritten}
 use Rattle.rb_run.proofs.report.write_run.Given as goal

@@ -1,4 +1,4 @@
--- So many lines have Fault for their value.
+-- The lines so far have Fault for their value.
 use Rattle.std.proofs.Common.{◌≡◌, ◌≤◌, map, take, length}
 use Rattle.rb_world.specs.Driving.{without_value}
 use Rattle.rb_world.proofs.drive.masked.Given as goal

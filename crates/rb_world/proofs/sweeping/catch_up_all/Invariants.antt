@@ -1,4 +1,4 @@
--- So many nodes have been swept.
+-- The nodes so far have been swept.
 use Rattle.std.proofs.Common.{◌≡◌, Some, length}
 use Rattle.rb_base.specs.Nodes.{side_of}
 use Rattle.rb_rules.specs.Book.{Each}

@@ -1,4 +1,4 @@
--- So many steps or more gave no record.
+-- At least this number of steps gave no record.
 use Rattle.std.proofs.Common.{◌≡◌, ℕ, ◌<◌, Some}
 use Rattle.std.specs.Prelude.{IfSome}
 use Rattle.rb_rules.specs.WorldStep.{World as RunWorld}

@@ -1,4 +1,4 @@
--- So many of the ticks in front are passed, and the others are still in front.
+-- Some of the ticks in front are passed, and the others are still in front.
 use Rattle.std.proofs.Common.{◌≡◌, ◌+◌, ◌-◌, ◌≤◌, drop, length}
 use Rattle.rb_log.specs.Cursor.{IsSound, events_left, quiet_in_front}
 use Rattle.rb_log.proofs.cursor.Cursor.skip.Given as goal

@@ -1,4 +1,4 @@
--- So many steps gave no record.
+-- The steps so far gave no record.
 use Rattle.std.proofs.Common.{◌≡◌}
 use Rattle.rb_rules.specs.WorldStep.{World as RunWorld}
 use Rattle.rb_world_book.specs.declared.turn.Turn.TheVariants as shown
