@@ -67,7 +67,7 @@ MayHave sc bus offered role (Node i) value =
     is_good sc (sender_kind role) i bus.frame bus.slot ≡ true → IsOfGood sc bus (offered i) role value
 MayHave sc bus offered role EachTrusted value = ⊤
 
--- the bus after a slot with this value. The schedule stands after the last schedule slot
+-- the bus after a slot with this value. It has the schedule after the last schedule slot
 abbrev pub bus_after_slot : Sizes → Heard → AbstractBus → AbstractBus
 bus_after_slot sizes value bus = record bus {
   slot = bus.slot + 1;
@@ -75,7 +75,7 @@ bus_after_slot sizes value bus = record bus {
   owners = if bus.slot + 1 == sizes.bius then owners_of sizes bus.bius (bus.values ++ value ∷ []) else bus.owners;
 }
 
--- one slot
+-- one slot of the bus: it goes from `before` to `after` with this value
 pub record SlotStep (sc : Scenario) (offered : ℕ → ℕ) (value : Heard) (before after : AbstractBus) : Type 0 where
   pub may_have : MayHave sc before offered (role_of sc.sizes before.slot) (sender_on sc.sizes before) value
   pub after_is : after ≡ bus_after_slot sc.sizes value before
@@ -98,8 +98,8 @@ bus_after_frame sizes low bus = record {
   rmus = without bus.rmus (convicted_on sizes Rmu bus);
 }
 
--- from one frame to the next: it takes at least the shortest ticks of all windows, and nobody who
--- is good there is convicted
+-- from one frame to the next: a frame takes at least the shortest ticks of all windows, and nobody
+-- who is good in the next frame is convicted
 pub record FrameStep (sc : Scenario) (before after : AbstractBus) : Type 0 where
   pub later : before.low + tail_start_of sc.sizes sc.plan * shortest_of sc.plan ≤ after.low
   pub after_is : after ≡ bus_after_frame sc.sizes after.low before

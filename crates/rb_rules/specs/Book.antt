@@ -29,16 +29,16 @@ of_kind Rmu xs = xs.rmus
 abbrev pub in_order : {X : Type 0} → Each X → List X
 in_order xs = xs.bius ++ xs.rmus
 
--- made for each node of a bus
+-- for each node of a bus of these sizes, the result of `make` for its kind and number
 abbrev pub each_of : {X : Type 0} → Sizes → (Side → ℕ → X) → Each X
 each_of sizes make = record { bius = map (make Biu) (numbers sizes.bius); rmus = map (make Rmu) (numbers sizes.rmus) }
 
--- made of each item and its number, the first having this one
+-- the results of `make` for the items in order, numbered from `i` on
 abbrev pub map_from : {X Y : Type 0} → ℕ → (ℕ → X → Y) → List X → List Y
 map_from i make [] = []
 map_from i make (x ∷ xs) = make i x ∷ map_from (i + 1) make xs
 
--- made of what is there of each node
+-- for each node of `xs`, the result of `make` for its kind, its number and its item
 abbrev pub map_each : {X Y : Type 0} → (Side → ℕ → X → Y) → Each X → Each Y
 map_each make xs = record { bius = map_from 0 (make Biu) xs.bius; rmus = map_from 0 (make Rmu) xs.rmus }
 
@@ -49,13 +49,13 @@ pub data Record : Type 0 where
   Ended : Record
   Breach : (place : Place) (cause : Cause) → Record
 
--- what a node tells of a frame that it begins
+-- what a node reports of a frame that it begins
 pub record Begun : Type 0 where
   pub frame : ℕ
   pub line : NodeLine
   pub port : Option PortLine  -- at a BIU
 
--- what a node tells of a stage that it has closed
+-- what a node reports of a stage that it has closed
 pub record Row : Type 0 where
   pub place : Place
   pub sees : List See  -- by source; a time is a reference time
@@ -85,7 +85,7 @@ abbrev pub trusted_in : Side → Row → ℕ
 trusted_in Biu r = r.biu
 trusted_in Rmu r = r.rmu
 
--- the trusted nodes of a kind as the first node held them
+-- the trusted nodes of a kind, as the first of the nodes with a row held them
 abbrev pub trusted_by : Side → List Row → ℕ
 trusted_by kind [] = 0
 trusted_by kind (r ∷ rs) = trusted_in kind r
@@ -94,7 +94,8 @@ abbrev pub see_in : Option Row → ℕ → See
 see_in None j = Nothing
 see_in (Some r) j = get_or r.sees j Nothing
 
--- a stage as it is judged. Its rows are those of the nodes good there, None at the others
+-- a stage as it is judged. `rows` has a row for each node that is good there, and None for the
+-- others
 abbrev pub judged_of : Scenario → Place → Each (Option Row) → JudgedStage
 judged_of sc place rows = record {
   good = λ kind. good_at sc kind place.frame place.slot;
@@ -103,23 +104,23 @@ judged_of sc place rows = record {
   sight = λ kind i j. see_in (get_or (of_kind kind rows) i None) j;
 }
 
--- a slot has three stages, and the frame after this one begins after the sync slot
+-- what follows a stage: a slot has three, and the next frame begins after the sync slot
 abbrev pub after_stage : Sizes → Place → Milestone
 after_stage sizes place =
     if nat_lt place.stage 3 then Stage (record place { stage = place.stage + 1 })
     else (if place.slot == sync_slot_of sizes then Begin (place.frame + 1)
     else Stage (record { frame = place.frame; slot = place.slot + 1; stage = 1 }))
 
--- what a node told of a delivery
+-- the delivery that a node reported in a row, if any
 abbrev pub line_in : Option Row → Option SlotLine
 line_in row = option_and_then (λ r. r.line) row
 
--- the record of a slot comes with its stage 3. The sync slot has none
+-- the record of a slot is made at the end of its stage 3. The sync slot has none
 abbrev pub slot_records : Sizes → Place → List SlotLine → List Record
 slot_records sizes place lines =
     if (place.stage == 3) && nat_lt place.slot (sync_slot_of sizes) then Slot place.frame place.slot lines ∷ [] else []
 
--- the book after a stage on which this is the verdict. Deliveries come in stage 2
+-- the book after a stage with this verdict. Deliveries are made in stage 2
 abbrev pub after_verdict : Sizes → Place → Each (Option Row) → List JudgedStage → Book → Option Cause → Book
 after_verdict sizes place rows stages b None = record {
   upcoming = after_stage sizes place;
@@ -130,7 +131,8 @@ after_verdict sizes place rows stages b None = record {
 }
 after_verdict sizes place rows stages b (Some cause) = record b { given = b.given ++ Breach place cause ∷ []; ended = true }
 
--- a stage is settled: all nodes good there have closed it. A book that has ended stays as it is
+-- the book after a stage is settled: all nodes good there have closed it. A book that has ended
+-- stays as it is
 unfoldable pub with_stage : Scenario → Place → Each (Option Row) → Book → Book
 with_stage sc place rows b =
     let stages : List JudgedStage = judged_of sc place rows ∷ b.stages in
@@ -138,12 +140,12 @@ with_stage sc place rows b =
 
 -- Frames.
 
--- the record of a frame that these nodes begin. It is left out where no node is good
+-- the record of a frame that these nodes begin. There is none if no node is good
 abbrev pub frame_records : ℕ → List Begun → List Record
 frame_records frame [] = []
 frame_records frame (b ∷ bs) = Frame frame (map (λ x. x.line) (b ∷ bs)) (filter_map (λ x. x.port) (b ∷ bs)) ∷ []
 
--- the start of a frame is settled: all nodes good there have begun it
+-- the book after the start of a frame is settled: all nodes good there have begun it
 unfoldable pub with_frame : Scenario → ℕ → List Begun → Book → Book
 with_frame sc frame begun b =
     elim b.ended [
@@ -157,6 +159,6 @@ with_frame sc frame begun b =
       }
     ]
 
--- the end is settled: the last frame of the run is over
+-- the book after the end is settled: the last frame of the run is over
 abbrev pub with_end : Book → Book
 with_end b = elim b.ended [ true ↦ b | false ↦ record b { given = b.given ++ Ended ∷ []; ended = true } ]

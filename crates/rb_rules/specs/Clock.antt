@@ -1,13 +1,14 @@
 -- Clocks: the time of each tick, and the stamp of each time.
 use Rattle.std.specs.Prelude.{◌≡◌, ℕ, zero, suc, ◌+◌, ◌<◌, ◌≤◌, ◌==◌, ◌&&◌, Bool, true, false, List, [], ◌∷◌, nat_le, nat_lt, if◌then◌else◌}
 
--- what a clock shows: the time of tick 0, and from which ticks on which lengths stand, each a first
--- tick and a length
+-- what a clock shows: the time of tick 0, and the segments of its ticks, each with its first tick
+-- and the length of its ticks
 pub record Timeline : Type 0 where
   pub start : ℕ
   pub segments : List (ℕ × ℕ)
 
--- the length that stands at a tick, where this one stood before the segments
+-- the length of a tick: that of the last of these segments that begins at or before it, or `before`
+-- if none does
 abbrev pub length_after : ℕ → List (ℕ × ℕ) → ℕ → ℕ
 length_after before [] tick = before
 length_after before (s ∷ ss) tick = length_after (if nat_le s.0 tick then s.1 else before) ss tick
@@ -26,7 +27,7 @@ pub record IsStamp (clock : Timeline) (time stamp : ℕ) : Type 0 where
   pub reached : time ≤ time_of clock stamp
   pub least : (tick : ℕ) → tick < stamp → time_of clock tick < time
 
--- the time comes by this tick: at it or at an earlier one
+-- some tick up to `last` is at or after the time
 pub record ComesBy (last : ℕ) (clock : Timeline) (time : ℕ) : Type 0 where
   pub tick : ℕ
   pub in_time : tick ≤ last
@@ -39,12 +40,12 @@ first_among clock zero tick now time = tick
 first_among clock (suc others) tick now time =
     elim (nat_le time now) [ true ↦ tick | false ↦ first_among clock others (suc tick) (now + tick_length clock tick) time ]
 
--- the stamp, looked for tick by tick. Each tick takes at least one unit, so there are no more ticks
--- than units
+-- the stamp, found tick by tick. Each tick takes at least one unit, so no more ticks than units
+-- have to be tried
 abbrev pub stamp_of : Timeline → ℕ → ℕ
 stamp_of clock time = first_among clock time 0 clock.start time
 
--- the first ticks rise strictly, each above the one before
+-- the first ticks of the segments rise strictly, from above `tick` on
 abbrev pub rise_above : ℕ → List (ℕ × ℕ) → Bool
 rise_above tick [] = true
 rise_above tick (s ∷ ss) = nat_lt tick s.0 && rise_above s.0 ss
@@ -54,7 +55,7 @@ abbrev pub are_rising : List (ℕ × ℕ) → Bool
 are_rising [] = false
 are_rising (s ∷ ss) = (s.0 == 0) && rise_above 0 ss
 
--- each length lies within the bounds
+-- the length of each segment is within the bounds
 abbrev pub are_within : ℕ → ℕ → List (ℕ × ℕ) → Bool
 are_within shortest longest [] = true
 are_within shortest longest (s ∷ ss) = (nat_le shortest s.1 && nat_le s.1 longest) && are_within shortest longest ss

@@ -9,7 +9,7 @@ use Rattle.rb_rules.specs.NodeState.{NodeState, fresh_state, trusted_of}
 use Rattle.rb_rules.specs.Slots.{count_of, first_diagnosis_of}
 use Rattle.rb_rules.specs.Standing.{standing_at_end, without}
 
--- a voted vector is valid where it is a mask of the nodes that there are, `others` of them
+-- a voted vector is valid if it is a mask of the nodes that there are, `others` of them
 abbrev pub is_valid : ℕ → Heard → Bool
 is_valid others (Word mask) = nat_lt mask (2 ^ others)
 is_valid others Fault = false
@@ -25,21 +25,21 @@ abbrev pub naming : ℕ → ℕ → (ℕ → Heard) → ℕ → ℕ
 naming others senders vector j =
     count_if (λ i. has senders i && is_valid others (vector i) && names j (vector i)) (numbers 16)
 
--- how many do not
+-- how many of the senders' valid vectors do not name node j
 abbrev pub sparing : ℕ → ℕ → (ℕ → Heard) → ℕ → ℕ
 sparing others senders vector j =
     count_if (λ i. has senders i && is_valid others (vector i) && not (names j (vector i))) (numbers 16)
 
--- convicted are the trusted nodes that more of the trusted senders' vectors name than spare
+-- the trusted nodes that more of the trusted senders' valid vectors name than spare
 unfoldable pub convicted_by : ℕ → ℕ → ℕ → (ℕ → Heard) → ℕ
 convicted_by others senders trusted vector =
     set_of (λ j. has trusted j && nat_lt (sparing others senders vector j) (naming others senders vector j))
 
--- the vote of a node of kind me on the vector of node i of a kind
+-- the vote of a node of kind me on the vector of node i of kind `senders`
 abbrev pub voted_vector : Sizes → Side → NodeState → ℕ → Heard
 voted_vector sizes senders st i = get_or st.votes (first_diagnosis_of senders sizes + i) Fault
 
--- the nodes of a kind that a node of kind me convicts at the end of the frame
+-- the nodes of kind `accused` that a node of kind me convicts at the end of the frame
 abbrev pub convicted_at : Sizes → Side → NodeState → Side → ℕ
 convicted_at sizes me st accused =
     convicted_by (count_of accused sizes) (trusted_of me (other accused) st) (trusted_of me accused st)

@@ -30,7 +30,8 @@ first_core sizes me = record { state = first_state sizes me; had = 0; inbox = []
 abbrev pub is_spent : Core → Bool
 is_spent c = nat_le (2 ^ 31) c.had
 
--- an arrival is stamped with the next tick. One from a node that there is not changes nothing
+-- the core after an arrival, which is stamped with the next tick. One from a number that no node
+-- has changes nothing
 unfoldable pub arrive : Sizes → Side → Core → ℕ → List ℕ → Core
 arrive sizes me c from bytes =
     elim (nat_lt from (count_of (other me) sizes) && not (is_spent c)) [
@@ -40,7 +41,7 @@ arrive sizes me c from bytes =
 
 -- What there is to do at a tick.
 
--- this is the tick, if there is one
+-- there is a tick, and it is `k`
 abbrev pub is_tick : Option ℕ → ℕ → Bool
 is_tick None k = false
 is_tick (Some tick) k = tick == k
@@ -54,14 +55,14 @@ state_at sizes plan me st k =
 abbrev pub window_here : Sizes → Plan → Side → NodeState → ℕ → Window
 window_here sizes plan me st k = unwrap_or (window_at sizes plan (k - st.epoch)) (tail_at sizes plan me st)
 
--- the message, if this is its tick
+-- the message of the sending if it is sent at tick `k`, and nothing otherwise
 abbrev pub if_at : ℕ → Option Sending → Option Message
 if_at k None = None
 if_at k (Some s) = elim (s.tick == k) [ true ↦ Some s.message | false ↦ None ]
 
 -- the message that node `index` of kind me sends at tick k, in one of the stages of the slot. A
--- call whose tick does not come before the next epoch is never sent: at that epoch the node forgets
--- the middles, and with them the ticks of its calls
+-- call whose tick does not precede the next epoch is never sent: at that epoch the node forgets the
+-- middles, and with them the ticks of its calls
 unfoldable pub said_at : Sizes → Plan → Side → ℕ → NodeState → ℕ → ℕ → Option Message
 said_at sizes plan me index st word k =
     let slot = (window_here sizes plan me st k).slot in
@@ -74,8 +75,8 @@ is_last sizes plan me st k = k == st.epoch + (window_here sizes plan me st k).la
 
 -- A tick.
 
--- what a tick gives: the core after it, the frame that begins with it, the message sent, and the
--- window closed
+-- the act of a tick: the core after it, the frame that begins with it, the message that is sent,
+-- and the window that is closed
 pub record Act : Type 0 where
   pub core : Core
   pub epoch : Option Epoch
@@ -90,12 +91,12 @@ abbrev pub state_kept : Sizes → Side → ℕ → NodeState → ℕ → Option 
 state_kept sizes me index st word None = st
 state_kept sizes me index st word (Some m) = keep_sent sizes me index st m.slot m.stage word
 
--- the arrivals of source j
+-- the arrivals from source j
 abbrev pub of_source : List (ℕ × Arrival) → ℕ → List Arrival
 of_source inbox j = map (λ a. a.1) (filter (λ a. a.0 == j) inbox)
 
--- the node has turned, if this is the tick of its next epoch, and stands in the state `st`, and
--- after its message in `kept`. It closes the window, if this is the last tick of it
+-- the act of a tick: `st` is the state after the turn, if there was one, and `kept` the state after
+-- the message. If the tick is the last of its window, the node closes the window
 unfoldable pub act_on : Sizes → Plan → Side → ℕ → Core → NodeState → Option Message → NodeState → Act
 act_on sizes plan me index c st message kept =
     let closing = close_window sizes plan me index kept (window_here sizes plan me st c.had) (of_source c.inbox) in
@@ -121,7 +122,7 @@ act_at sizes plan me index c word =
     let message = said_at sizes plan me index st word c.had in
     act_on sizes plan me index c st message (state_kept sizes me index st word message)
 
--- a tick; `word` is the request or the word, for the case that the node sends it
+-- the act of the next tick; `word` is the request or the word, in case that the node sends it
 unfoldable pub tick : Sizes → Plan → Side → ℕ → Core → ℕ → Act
 tick sizes plan me index c word =
     elim (is_spent c) [
@@ -141,7 +142,7 @@ wants sizes plan me index c = slot_wanted sizes (tick sizes plan me index c 0).m
 
 -- Quiet ticks.
 
--- a tick is busy where a frame begins, a window is closed, or a message is sent
+-- a tick is busy if a frame begins at it, a window is closed, or a message is sent
 unfoldable pub is_busy : Sizes → Plan → Side → ℕ → NodeState → ℕ → Bool
 is_busy sizes plan me index st k =
     let now = state_at sizes plan me st k in
@@ -153,7 +154,7 @@ busy_among sizes plan me index st zero k = None
 busy_among sizes plan me index st (suc others) k =
     elim (is_busy sizes plan me index st k) [ true ↦ Some k | false ↦ busy_among sizes plan me index st others (suc k) ]
 
--- the first tick from the next on that isn't quiet
+-- the first tick from the next on that is not quiet
 abbrev pub next_tick : Sizes → Plan → Side → ℕ → Core → Option ℕ
 next_tick sizes plan me index c = busy_among sizes plan me index c.state (2 ^ 31 - c.had) c.had
 

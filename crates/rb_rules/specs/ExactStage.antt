@@ -1,5 +1,5 @@
--- The stages below the sync slot: what a node says in one, and what it makes of the arrivals when
--- it closes one.
+-- The stages below the sync slot: what a node says in a stage, and what it makes of the arrivals
+-- when it closes the stage.
 use Rattle.std.specs.Prelude.{ℕ, ◌+◌, ◌%◌, ◌==◌, ◌&&◌, not, Bool, false, if◌then◌else◌, Option, Some, None, unwrap_or, is_some, List, map, get_or, slice_set, take}
 use Rattle.std.specs.List.{filter_map}
 use Rattle.rb_base.specs.Counting.{numbers}
@@ -37,20 +37,21 @@ own_value st (DiagBiu i) word = heard.Word (vector_of st.far)
 own_value st (DiagRmu i) word = heard.Word (vector_of st.far)
 own_value st Sync word = heard.Fault
 
--- node `index` is the slot's sender
+-- node `index` of kind me is the slot's sender
 abbrev pub is_sender : Side → ℕ → Role → Sender → Bool
 is_sender me index role Nobody = false
 is_sender me index role (Node i) = same_side me (sender_kind role) && (index == i)
 is_sender me index role EachTrusted = false
 
--- what a node says in a stage in which its kind may send: its own value in its own slot, then what
--- it took of the slot's sender, Fault where it took nothing, then its vote
+-- what a node says in a stage in which its kind may send: in stage 1 its own value, if it is the
+-- sender; in stage 2 what it accepted from the slot's sender, or Fault if it accepted nothing; in
+-- stage 3 its vote
 abbrev pub value_said : Side → ℕ → NodeState → ℕ → Role → Sender → ℕ → ℕ → Option Heard
 value_said me index st slot role sender stage word =
     if stage == 1 then (if is_sender me index role sender then Some (own_value st role word) else None)
     else (if stage == 2 then Some (unwrap_or st.got heard.Fault) else Some (get_or st.votes slot heard.Fault))
 
--- what it says, if anything. In an idle slot all are silent
+-- what a node says in a stage, if anything. In an idle slot all are silent
 abbrev pub says_of : Side → ℕ → NodeState → ℕ → Role → Sender → ℕ → ℕ → Option Heard
 says_of me index st slot role Nobody stage word = None
 says_of me index st slot role (Node i) stage word =
@@ -77,7 +78,7 @@ keep_sent sizes me index st slot stage word =
 
 -- What a node makes of the arrivals.
 
--- one for each node that there may be
+-- one value for each of the 16 nodes that there may be
 abbrev pub each_node : {X : Type 0} → (ℕ → X) → List X
 each_node of_node = map of_node (numbers 16)
 
@@ -85,54 +86,55 @@ each_node of_node = map of_node (numbers 16)
 abbrev pub present : {X : Type 0} → List (Option X) → List X
 present values = filter_map (λ v. v) values
 
--- the source's value
+-- the value of source j, if it has one
 abbrev pub at_source : {X : Type 0} → List (Option X) → ℕ → Option X
 at_source taken j = get_or taken j None
 
--- what is taken of each source, and the majority of it
+-- what the node accepted from each source, and the majority of the accepted values
 abbrev pub closing_of : Standing → (ℕ → Bool) → (ℕ → Sense) → Closing
 closing_of s expected sense =
     let taken = each_node (taken_of value_in s expected sense) in
     record { taken = taken; voted = majority_of (present taken) }
 
--- what a relay took of the slot's sender
+-- what a relay accepted from the slot's sender
 abbrev pub taken_of_sender : Sender → Closing → Option Heard
 taken_of_sender Nobody c = None
 taken_of_sender (Node i) c = at_source c.taken i
 taken_of_sender EachTrusted c = None
 
--- a node votes in each of the stages 2 and 3 in which it listens. The vote over nothing, as in an
+-- a node votes in each of the stages 2 and 3 in which it listens. The vote over no values, as in an
 -- idle slot, is Fault
 abbrev pub votes_in : Side → Role → ℕ → Bool
 votes_in me role stage = listens me role stage && not (stage == 1)
 
--- the value with which what was taken is compared: in stage 2 the sender's own, in stage 3 the
+-- the value with which accepted values are compared: in stage 2 the sender's own, in stage 3 the
 -- voter's vote
 abbrev pub reference_value : Side → ℕ → NodeState → Role → Sender → ℕ → Closing → Option Heard
 reference_value me index st role sender stage c =
     if (stage == 2) && is_sender me index role sender then st.sent
     else (if (stage == 3) && votes_in me role stage then Some c.voted else None)
 
--- a mismatch accusation of each source of which something other than the value was taken
+-- the standing after a mismatch accusation of each source from which something other than `value`
+-- was accepted
 abbrev pub with_unlike : Heard → List (Option Heard) → Standing → Standing
 with_unlike value taken s = with_mismatch (λ j. is_unlike value (at_source taken j)) s
 
--- these accusations by the reference value, where there is one
+-- the standing after mismatch accusations by the reference value; unchanged if there is none
 abbrev pub compare_with : Option Heard → Closing → Standing → Standing
 compare_with None c s = s
 compare_with (Some value) c s = with_unlike value c.taken s
 
--- the standing after a close: direct evidence, then mismatch accusations
+-- the standing after the node closes a stage: first direct evidence, then mismatch accusations
 abbrev pub standing_after : Side → ℕ → NodeState → Role → Sender → ℕ → (ℕ → Sense) → Closing → Standing
 standing_after me index st role sender stage sense c =
     compare_with (reference_value me index st role sender stage c) c
     (with_evidence (has_evidence st.far (expects me role sender st.far.trusted stage) sense) st.far)
 
--- the votes after a close
+-- the votes after the node closes a stage
 abbrev pub votes_after : Side → NodeState → ℕ → Role → ℕ → Closing → List Heard
 votes_after me st slot role stage c = if votes_in me role stage then slice_set st.votes slot c.voted else st.votes
 
--- the schedule stands from the close of the last stage of the last schedule slot on
+-- a node has the schedule from the close of the last stage of the last schedule slot on
 abbrev pub owners_after : Sizes → Side → NodeState → ℕ → ℕ → List Heard → List ℕ
 owners_after sizes me st slot stage votes =
     if (stage == 3) && (slot + 1 == sizes.bius)
@@ -154,7 +156,7 @@ pub record Outcome : Type 0 where
   pub state : NodeState
   pub closed : Closed
 
--- the close of a stage by what was taken in it
+-- the outcome of closing a stage in which this was accepted
 unfoldable pub outcome_of : Sizes → Side → ℕ → NodeState → ℕ → ℕ → Role → Sender → (ℕ → Sense) → Closing → Outcome
 outcome_of sizes me index st slot stage role sender sense c =
     let votes = votes_after me st slot role stage c in
@@ -173,7 +175,7 @@ outcome_of sizes me index st slot stage role sender sense c =
       };
     }
 
--- node `index` of kind me closes a stage below the sync slot, `sense` being what came of each
+-- node `index` of kind me closes a stage below the sync slot; `sense` says what came from each
 -- source
 unfoldable pub close_exact : Sizes → Side → ℕ → NodeState → ℕ → ℕ → (ℕ → Sense) → Outcome
 close_exact sizes me index st slot stage sense =

@@ -1,4 +1,4 @@
--- A scenario, and which nodes are good where.
+-- A scenario, and which nodes are good in which slot.
 use Rattle.std.specs.Prelude.{ℕ, ◌+◌, nat_lt, ◌==◌, ◌&&◌, ◌||◌, Bool, true, Option, Some, None, List, [], get_or}
 use Rattle.rb_base.specs.Nodes.{Side, set_of}
 use Rattle.rb_base.specs.Nodes.Side.{Biu, Rmu}
@@ -9,7 +9,8 @@ use Rattle.rb_rules.specs.Clock.{Timeline}
 use Rattle.rb_rules.specs.Links.{DelayRules}
 use Rattle.rb_rules.specs.Slots.{count_of}
 
--- a bus and what happens to it. An onset is the frame and the slot from which on a node is not good
+-- a bus and what happens to it. An onset is the frame and the slot from which on a node is not
+-- good, if it ever is not
 pub record Scenario : Type 0 where
   pub sizes : Sizes
   pub plan : Plan
@@ -27,7 +28,7 @@ abbrev pub onsets_of : Side → Scenario → List (Option (ℕ × ℕ))
 onsets_of Biu sc = sc.biu_onsets
 onsets_of Rmu sc = sc.rmu_onsets
 
--- a slot of a frame comes before the onset, if there is one
+-- a slot of a frame comes before the onset, or there is no onset
 abbrev pub is_before : Option (ℕ × ℕ) → ℕ → ℕ → Bool
 is_before None frame slot = true
 is_before (Some onset) frame slot = nat_lt frame onset.0 || ((frame == onset.0) && nat_lt slot onset.1)
@@ -36,7 +37,7 @@ is_before (Some onset) frame slot = nat_lt frame onset.0 || ((frame == onset.0) 
 abbrev pub is_good : Scenario → Side → ℕ → ℕ → ℕ → Bool
 is_good sc side i frame slot = nat_lt i (count_of side sc.sizes) && is_before (get_or (onsets_of side sc) i None) frame slot
 
--- the good nodes of a kind
+-- the good nodes of a kind in this slot of this frame
 abbrev pub good_at : Scenario → Side → ℕ → ℕ → ℕ
 good_at sc side frame slot = set_of (λ i. is_good sc side i frame slot)
 

@@ -50,14 +50,15 @@ abbrev pub DeliversOneValue : Scenario → List HandIn → ℕ → ℕ → Optio
 DeliversOneValue sc hands frame slot None = HasRecord sc hands frame slot []
 DeliversOneValue sc hands frame slot (Some owner) = (value : Heard) × HasRecord sc hands frame slot (lines_of sc frame slot owner value)
 
--- in each complete slot all good BIUs deliver one value, by whichever good node's schedule
+-- in each complete slot all good BIUs deliver one value, by the schedule of any good node
 abbrev pub DeliverAlike : Scenario → List HandIn → Type 0
 DeliverAlike sc hands =
     (frame slot : ℕ) → slot < sync_slot_of sc.sizes → IsComplete sc hands frame slot
     → (me : Side) (i : ℕ) (st : NodeState) → IsGoodBefore sc hands frame slot me i st
     → DeliversOneValue sc hands frame slot (owner_at sc.sizes st slot)
 
--- where the owner is good, the value is the word that its application offered
+-- in each complete slot with a good owner all good BIUs deliver the word that the owner's
+-- application offered
 abbrev pub DeliverTheWord : Scenario → List HandIn → Type 0
 DeliverTheWord sc hands =
     (frame slot : ℕ) → slot < sync_slot_of sc.sizes → IsComplete sc hands frame slot
@@ -84,7 +85,7 @@ ConvictAlike sc hands =
     → IsGoodBefore sc hands frame slot me i mine → IsGoodBefore sc hands frame slot you j yours
     → (kind : Side) → convicted_of sc.sizes kind me mine ≡ convicted_of sc.sizes kind you yours
 
--- and no good node is among them
+-- no good node holds a good node convicted, in a complete slot or at the start of a frame
 abbrev pub ConvictNoGoodNode : Scenario → List HandIn → Type 0
 ConvictNoGoodNode sc hands =
     (frame slot : ℕ) → slot ≤ sync_slot_of sc.sizes → IsSettled sc hands frame slot

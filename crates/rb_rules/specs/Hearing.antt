@@ -1,4 +1,4 @@
--- What a node sends in a window, and what it hears in one.
+-- What a node sends in a window, and what it hears in it.
 use Rattle.std.specs.Prelude.{ℕ, ◌+◌, ◌-◌, ◌%◌, ◌&&◌, nat_le, min, Bool, true, false, Option, Some, None, option_and_then, option_map, option_to_list, unwrap_or, List, [], ◌∷◌, filter, map, get_or, slice_get}
 use Rattle.rb_base.specs.Nodes.{Side, other}
 use Rattle.rb_base.specs.Sizes.{Sizes}
@@ -42,7 +42,7 @@ tail_at sizes plan me st = tail_of sizes plan (unwrap_or (new_epoch_of plan me s
 abbrev pub window_numbered : Sizes → Plan → Side → NodeState → ℕ → Window
 window_numbered sizes plan me st n = unwrap_or (slice_get (windows_of_frame sizes plan) n) (tail_at sizes plan me st)
 
--- a window as a node goes through it: its place, and its first and last tick
+-- a window of a node: its place, and its first and last tick
 pub record Span : Type 0 where
   pub place : Place
   pub first : ℕ
@@ -89,7 +89,7 @@ pub record Coming : Type 0 where
   pub from : ℕ
   pub bytes : List ℕ
 
--- what good source j sent in a frame comes to node i of kind me
+-- the message that good source j sent in a frame, on its way to node i of kind me
 abbrev pub coming_of : Scenario → Side → ℕ → ℕ → ℕ → Sending → Coming
 coming_of sc me i j frame s = record {
   time = time_of (clock_of sc (other me) j) s.tick
@@ -98,7 +98,8 @@ coming_of sc me i j frame s = record {
   bytes = spelling_of sc.plan.version s.message;
 }
 
--- a message with the header of a place. The tail has no stage of its own in messages
+-- a message with the header of a place. A message said in the tail has the sync slot's stage 3 in
+-- its header
 abbrev pub message_at : Place → Tag → ℕ → Message
 message_at place tag value =
     record { tag = tag; frame = place.frame % 65536; slot = place.slot; stage = min place.stage 3; value = value }
@@ -110,14 +111,14 @@ bytes_of version place Fault = spelling_of version (message_at place tag.Fault 0
 bytes_of version place Call = spelling_of version (message_at place tag.Sync 0)
 bytes_of version place (Raw bytes) = bytes.items
 
--- the entry is what source j says to node i of kind me in a window. An offset outside the window
--- isn't heard
+-- the entry is what source j says to node i of kind me in a window. An offset outside the window is
+-- not heard
 abbrev pub is_said : Side → ℕ → ℕ → Span → Say → Bool
 is_said me i j span s =
     same_node s.from (name_of (other me) j) && stands_for s.to (name_of me i) && covers s.frames s.slots s.stages span.place
     && nat_le (span.first + s.offset) span.last
 
--- the entry as it comes to a node
+-- the message of the entry, on its way to the node
 abbrev pub coming_said : Version → Timeline → ℕ → Span → Say → Coming
 coming_said version clock j span s = record {
   time = time_of clock (span.first + s.offset) - s.early;
@@ -131,8 +132,8 @@ abbrev pub said_by : Scenario → Side → ℕ → Span → ℕ → List Coming
 said_by sc me i span j =
     map (coming_said sc.plan.version (clock_of sc me i) j span) (filter (is_said me i j span) sc.says)
 
--- what node i of kind me hears of source j in a window, in which this is what the nodes of the
--- other kind send
+-- what node i of kind me hears from source j in a window, `sent` being what the nodes of the other
+-- kind send in it
 unfoldable pub heard_from : Scenario → Side → ℕ → Span → List (Option Sending) → ℕ → List Coming
 heard_from sc me i span sent j =
     elim (is_good sc (other me) j span.place.frame span.place.slot) [
@@ -140,11 +141,11 @@ heard_from sc me i span sent j =
       | false ↦ said_by sc me i span j
     ]
 
--- as the node knows it: with a stamp in place of the time
+-- the message as the node knows it: with a stamp in place of the time
 abbrev pub arrival_of : Timeline → Coming → Arrival
 arrival_of clock c = record { stamp = stamp_of clock c.time; bytes = c.bytes }
 
--- node `index` of kind me closes a window on the arrivals of each source
+-- node `index` of kind me closes a window on the arrivals from each source
 abbrev pub close_window : Sizes → Plan → Side → ℕ → NodeState → Window → (ℕ → List Arrival) → Outcome
 close_window sizes plan me index st w arrivals =
     close sizes me index st w.slot w.stage w.first
@@ -152,20 +153,21 @@ close_window sizes plan me index st w arrivals =
 
 -- What a node tells of itself.
 
--- the time of a sole message
+-- the time of the message, if there is only one
 abbrev pub sole_time : List Coming → ℕ
 sole_time [] = 0
 sole_time (c ∷ []) = c.time
 sole_time (c ∷ (d ∷ others)) = 0
 
--- a sight as it is judged: a stamp gives way to the reference time of the message taken
+-- a sight as it is judged: the stamp is replaced by the time of the accepted message in reference
+-- units
 abbrev pub judged_see : ℕ → See → See
 judged_see time Nothing = Nothing
 judged_see time (Value v) = Value v
 judged_see time (Time stamp) = Time time
 
--- what node i of kind me tells of a stage that it closed in this state, having heard this of each
--- source
+-- what node i of kind me reports of a stage that it closed in this state, having heard this from
+-- each source
 unfoldable pub row_of : Side → ℕ → NodeState → (ℕ → List Coming) → Closed → Row
 row_of me i st heard c = record {
   place = c.place;
@@ -175,17 +177,17 @@ row_of me i st heard c = record {
   line = option_map (λ d. record { receiver = i; sender = d.sender; value = d.value }) c.delivered;
 }
 
--- what a node tells of the frame that it is in
+-- what a node reports of the frame that it is in
 abbrev pub epoch_of : Sizes → Side → NodeState → Epoch
 epoch_of sizes me st =
     record { frame = st.frame; tick = st.epoch; biu = convicted_of sizes Side.Biu me st; rmu = convicted_of sizes Side.Rmu me st }
 
--- a BIU tells of its port, too
+-- a BIU reports its port too
 abbrev pub port_line : Side → ℕ → PortState → Option PortLine
 port_line Side.Biu i port = Some (record { biu = i; state = port.state; losses = losses_of port })
 port_line Side.Rmu i port = None
 
--- what node i of kind me tells of a frame that it begins
+-- what node i of kind me reports of a frame that it begins
 abbrev pub begun_of : Scenario → List PortState → Side → ℕ → Epoch → Begun
 begun_of sc ports me i e = record {
   frame = e.frame;

@@ -12,7 +12,8 @@ use Rattle.rb_rules.specs.declared.cause.Cause.TheVariants.{FewGoodBiu, FewGoodR
 use Rattle.rb_rules.specs.Links.{name_of, same_node}
 use Rattle.rb_rules.specs.Majority.{same_heard}
 
--- two sights of a source are alike: both nothing, equal values, or times that differ by at most eps
+-- two sights of a source are alike: both are nothing, or equal values, or times that differ by at
+-- most eps
 abbrev pub are_alike : ℕ → See → See → Bool
 are_alike eps Nothing Nothing = true
 are_alike eps Nothing (Value b) = false
@@ -29,33 +30,33 @@ is_something Nothing = false
 is_something (Value v) = true
 is_something (Time t) = true
 
--- a stage of a slot as it is judged. Sets are told by kind; a time in a sight is a reference time
+-- a stage of a slot as it is judged. The sets are by kind; a time in a sight is in reference units
 pub record JudgedStage : Type 0 where
   pub good : Side → ℕ  -- the nodes that are good at its place
   pub trusted : Side → ℕ  -- the trusted nodes
   pub eps : ℕ  -- how far apart the times of one message may be
   pub sight : Side → ℕ → ℕ → See  -- of receiver i of this kind, what it saw of source j of the other kind
 
--- one for each kind
+-- the first value for BIUs and the second for RMUs
 abbrev pub by_kind : {X : Type 0} → X → X → Side → X
 by_kind biu rmu Biu = biu
 by_kind biu rmu Rmu = rmu
 
--- a stage of which nothing was seen yet
+-- a stage in which nothing has been seen yet
 abbrev pub stage_begun : (Side → ℕ) → (Side → ℕ) → ℕ → JudgedStage
 stage_begun good trusted eps = record { good = good; trusted = trusted; eps = eps; sight = λ kind i j. Nothing }
 
--- the stage, in which this receiver saw this of source j
+-- the stage with `see` as what this receiver saw of source j
 abbrev pub with_sight : NodeName → ℕ → See → JudgedStage → JudgedStage
 with_sight receiver j see s = record s {
   sight = λ kind i k. if same_node (name_of kind i) receiver && (k == j) then see else s.sight kind i k;
 }
 
--- some good receiver of the sources of this kind passes
+-- some good node of the other kind, which receives from nodes of this kind, passes the test
 abbrev pub some_receiver : Side → (ℕ → Bool) → JudgedStage → Bool
 some_receiver kind passes s = list_any (λ i. has (s.good (other kind)) i && passes i) (numbers 16)
 
--- some good receiver took something of source j of this kind
+-- some good receiver accepted something from source j of this kind
 abbrev pub was_taken : Side → ℕ → JudgedStage → Bool
 was_taken kind j s = some_receiver kind (λ i. is_something (s.sight (other kind) i j)) s
 
@@ -66,12 +67,12 @@ was_unlike kind j s =
 
 -- The stages of a frame so far, the newest first.
 
--- in the newest stage this receiver saw this of source j
+-- the stages with `see` as what this receiver saw of source j in the newest one
 abbrev pub with_newest_sight : NodeName → ℕ → See → List JudgedStage → List JudgedStage
 with_newest_sight receiver j see [] = []
 with_newest_sight receiver j see (s ∷ earlier) = with_sight receiver j see s ∷ earlier
 
--- the sets of the newest stage; they are empty before the first
+-- the sets of the newest stage; they are empty before the first stage
 abbrev pub good_now : Side → List JudgedStage → ℕ
 good_now kind [] = 0
 good_now kind (s ∷ earlier) = s.good kind
@@ -91,11 +92,12 @@ pub record ClassSets : Type 0 where
   pub symmetric : ℕ  -- not good, and always seen alike
   pub asymmetric : ℕ  -- not good, and seen unlike
 
--- seen unlike in one of the stages
+-- two good receivers saw node j unlike in one of the stages
 abbrev pub is_asymmetric : Side → List JudgedStage → ℕ → Bool
 is_asymmetric kind stages j = list_any (was_unlike kind j) stages
 
--- taken in none of the stages. Who was seen unlike was taken
+-- no good receiver accepted anything from node j in any of the stages. If two saw it unlike, one of
+-- them accepted something
 abbrev pub is_benign : Side → List JudgedStage → ℕ → Bool
 is_benign kind stages j = not (list_any (was_taken kind j) stages)
 
@@ -107,20 +109,21 @@ classes_of kind stages = record {
   asymmetric = set_of (λ j. is_suspect kind stages j && is_asymmetric kind stages j);
 }
 
--- the good do not outnumber the symmetric and the asymmetric together
+-- the good nodes do not outnumber the symmetric and the asymmetric together
 abbrev pub are_few_good : ClassSets → Bool
 are_few_good c = not (nat_lt (size c.symmetric + size c.asymmetric) (size c.good))
 
 abbrev pub some_asymmetric : ClassSets → Bool
 some_asymmetric c = nat_lt 0 (size c.asymmetric)
 
--- the first cause for which the premise fails, by the classes of both kinds
+-- the first cause for which the fault premise fails, by the classes of both kinds
 abbrev pub cause_of : ClassSets → ClassSets → Option Cause
 cause_of biu rmu =
     if are_few_good biu then Some FewGoodBiu
     else (if are_few_good rmu then Some FewGoodRmu
     else (if some_asymmetric biu && some_asymmetric rmu then Some TwoSided else None))
 
--- the verdict on the newest stage, by all that was seen in the frame so far
+-- the verdict on the newest stage, by all that was seen in the frame so far: the cause for which
+-- the premise fails, if it does
 unfoldable pub verdict_of : List JudgedStage → Option Cause
 verdict_of stages = cause_of (classes_of Biu stages) (classes_of Rmu stages)

@@ -1,5 +1,5 @@
--- What is lawful: all that is known of a scenario that was accepted. Every law of the bus has it as
--- its premise.
+-- What is lawful: all that is known of an accepted scenario. It is the premise of every law of the
+-- bus.
 use Rattle.std.specs.Prelude.{⊤, ℕ, ◌≡◌, ◌⊎◌, ◌+◌, ◌-◌, ◌^◌, ◌<◌, ◌≤◌, ◌==◌, nat_lt, if◌then◌else◌, Bool, true, false, All, List, [], ◌∷◌, length, Option, Some, None}
 use Rattle.rb_base.specs.Nodes.{Side, other}
 use Rattle.rb_base.specs.Nodes.Side.{Biu, Rmu}
@@ -63,7 +63,7 @@ pub record IsRangeIn (low high : ℕ) (range : ℕ × ℕ) : Type 0 where
   pub order : range.0 ≤ range.1
   pub greatest : range.1 ≤ high
 
--- the number of the bus, where messages carry one, is a byte
+-- the number of the bus, if messages carry one, is a byte
 abbrev pub IsVersion : Version → Type 0
 IsVersion version.One = ⊤
 IsVersion (version.Two bus) = bus < 2 ^ 8
@@ -73,7 +73,7 @@ abbrev pub segments_of_all : List Timeline → ℕ
 segments_of_all [] = 0
 segments_of_all (clock ∷ clocks) = length clock.segments + segments_of_all clocks
 
--- how many ticks a stage of the sync slot has. The tail, stage 4, has fewer than these
+-- how many ticks a stage of the sync slot has. The tail, stage 4, has fewer than this number
 abbrev pub ticks_in_sync : Plan → ℕ → ℕ
 ticks_in_sync plan stage =
     if stage == 1 then plan.l
@@ -85,7 +85,7 @@ ticks_at sizes plan place = if nat_lt place.slot (sync_slot_of sizes) then plan.
 
 -- Faults, links, and what is said.
 
--- the onset, if there is one, lies in the run
+-- the onset, if there is one, is in the run
 abbrev pub IsOnsetOf : Scenario → Option (ℕ × ℕ) → Type 0
 IsOnsetOf sc None = ⊤
 IsOnsetOf sc (Some onset) = (onset.0 < sc.frames) × (onset.1 ≤ sync_slot_of sc.sizes)
@@ -95,7 +95,7 @@ pub record IsDelay (plan : Plan) (delay : ℕ) : Type 0 where
   pub least : plan.dmin ≤ delay
   pub greatest : delay ≤ plan.dmax
 
--- a rule is for messages between nodes of unlike kinds, in places of the run
+-- a rule is for messages between nodes of different kinds, in places of the run
 pub record IsRuleOf (sc : Scenario) (r : Rule) : Type 0 where
   pub from : IsPatternOf sc.sizes r.from
   pub to : IsPatternOf sc.sizes r.to
@@ -109,22 +109,22 @@ pub record IsRuleOf (sc : Scenario) (r : Rule) : Type 0 where
 abbrev pub IsSyncAlone : Sizes → ℕ × ℕ → Type 0
 IsSyncAlone sizes slots = (slots.0 ≡ sync_slot_of sizes) × (slots.1 ≡ sync_slot_of sizes)
 
--- 1 to 32 bytes
+-- the raw bytes are 1 to 32 bytes
 pub record IsRaw (bytes : List ℕ) : Type 0 where
   pub some : 1 ≤ length bytes
   pub most : length bytes ≤ 32
   pub each : All (λ byte. byte < 2 ^ 8) bytes
 
--- what is said is a word, a fault, a call, or bytes as they are
+-- what is said is a word, a fault, a call, or raw bytes
 abbrev pub IsContent : Content → Type 0
 IsContent (Word word) = word < 2 ^ 32
 IsContent Fault = ⊤
 IsContent Sync = ⊤
 IsContent (Raw bytes) = IsRaw bytes.items
 
--- An entry is said by a node that is not good at its first place, to nodes of the other kind, in
--- windows of the run. It comes in each window at one of the window's ticks, or in the sync slot
--- less than a tick before it
+-- An entry is said by a node that is not good at the entry's first place, to nodes of the other
+-- kind, in windows of the run. It comes in each window at one of the window's ticks, or in the sync
+-- slot less than a tick before the window
 pub record IsSayOf (sc : Scenario) (s : Say) : Type 0 where
   pub from : IsNodeOf sc.sizes s.from
   pub faulty : is_node_good sc s.from s.frames.0 s.slots.0 ≡ false

@@ -34,25 +34,25 @@ stands_for (One name) n = same_node name n
 stands_for AllBiu n = is_biu n
 stands_for AllRmu n = is_rmu n
 
--- the number lies between the two, both included
+-- the number lies in the range, its two ends included
 abbrev pub is_in_range : ℕ × ℕ → ℕ → Bool
 is_in_range range n = nat_le range.0 n && nat_le n range.1
 
--- the ranges of frames, slots and stages have this place
+-- the place lies in these ranges of frames, slots and stages
 abbrev pub covers : ℕ × ℕ → ℕ × ℕ → ℕ × ℕ → Place → Bool
 covers frames slots stages place =
     is_in_range frames place.frame && is_in_range slots place.slot && is_in_range stages place.stage
 
--- the rule is for the messages of this place between these two nodes
+-- the rule is for messages of this place between these two nodes
 abbrev pub applies : Rule → NodeName → NodeName → Place → Bool
 applies r from to place = stands_for r.from from && stands_for r.to to && covers r.frames r.slots r.stages place
 
--- the delays of a bus: the one of a message for which there is no rule, and the rules
+-- the delays of a bus: that of a message for which there is no rule, and the rules
 pub record DelayRules : Type 0 where
   pub base : ℕ
   pub rules : List Rule
 
--- the delay of the last of the rules that applies, else the one before them
+-- the delay of the last of these rules that applies to the message, or `delay` if none does
 abbrev pub delay_after : ℕ → List Rule → NodeName → NodeName → Place → ℕ
 delay_after delay [] from to place = delay
 delay_after delay (r ∷ rs) from to place = delay_after (if applies r from to place then r.delay else delay) rs from to place

@@ -19,12 +19,12 @@ times value values = count_if (same_heard value) values
 abbrev pub IsMajority : Heard → List Heard → Type 0
 IsMajority value values = length values < 2 * times value values
 
--- the first of the candidates that more than half of the values are, else Fault
+-- the first of the candidates that more than half of the values equal, or Fault if there is none
 abbrev pub winner_among : List Heard → List Heard → Heard
 winner_among values [] = Fault
 winner_among values (candidate ∷ others) =
     if nat_lt (length values) (2 * times candidate values) then candidate else winner_among values others
 
--- the value that more than half of the list is, else Fault
+-- the value that more than half of the list have, or Fault if there is none
 abbrev pub majority_of : List Heard → Heard
 majority_of values = winner_among values values

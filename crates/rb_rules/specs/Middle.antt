@@ -2,7 +2,7 @@
 use Rattle.std.specs.Prelude.{ℕ, ◌-◌, ◌*◌, ◌/◌, ◌<◌, ◌≤◌, List, [], ◌∷◌, length, nat_lt, nat_le, if◌then◌else◌, Option, slice_get}
 use Rattle.rb_base.specs.Counting.{count_if}
 
--- ascending stamps with one more in its place
+-- the ascending list with `new` inserted in order
 abbrev pub put : ℕ → List ℕ → List ℕ
 put new [] = new ∷ []
 put new (stamp ∷ stamps) = if nat_le new stamp then new ∷ (stamp ∷ stamps) else stamp ∷ put new stamps
@@ -12,8 +12,8 @@ abbrev pub ascending : List ℕ → List ℕ
 ascending [] = []
 ascending (stamp ∷ stamps) = put stamp (ascending stamps)
 
--- of n stamps in ascending order the one at place (n - 1) / 2, counted from 0, rounded down; none
--- where there is no stamp
+-- the item at place (n - 1) / 2, rounded down, of the n stamps in ascending order, counted from 0;
+-- none if there is no stamp
 abbrev pub middle_of : List ℕ → Option ℕ
 middle_of stamps = slice_get (ascending stamps) ((length stamps - 1) / 2)
 
@@ -26,7 +26,7 @@ abbrev pub up_to : ℕ → List ℕ → ℕ
 up_to m stamps = count_if (λ stamp. nat_le stamp m) stamps
 
 -- the middle by counts: fewer than half of the stamps are below it, and at least half are at most
--- it
+-- as great
 pub record IsMiddle (m : ℕ) (stamps : List ℕ) : Type 0 where
   pub few_below : 2 * below m stamps < length stamps
   pub half_up_to : length stamps ≤ 2 * up_to m stamps

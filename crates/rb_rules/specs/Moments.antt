@@ -1,4 +1,4 @@
--- The moments of a run by their place, what is complete by then, and who is good there.
+-- The moments of a run by their place, what is complete by then, and which nodes are good there.
 use Rattle.std.specs.Prelude.{⊤, ℕ, zero, suc, ◌≡◌, ◌+◌, ◌-◌, ◌*◌, ◌⊎◌, true, false, Option, Some, List, slice_get}
 use Rattle.rb_base.specs.Nodes.{Side}
 use Rattle.rb_base.specs.Sizes.{Sizes, sync_slot_of}
@@ -12,8 +12,8 @@ use Rattle.rb_rules.specs.Rounds.{Moment, moment, windows_in}
 
 -- The moments.
 
--- the moment before a stage of a slot of a frame. Before a frame come the windows of those before
--- it, and as many turns
+-- the moment before a stage of a slot of a frame: earlier frames have `windows_in + 1` steps each,
+-- one for each window and one for the turn
 abbrev pub before_stage : Scenario → List HandIn → ℕ → ℕ → ℕ → Moment
 before_stage sc hands frame slot stage = moment sc hands (frame * (windows_in sc.sizes + 1) + 3 * slot + stage - 1)
 
@@ -62,7 +62,8 @@ pub record IsGoodAfter (sc : Scenario) (hands : List HandIn) (frame slot : ℕ) 
   pub good : is_good sc me i frame slot ≡ true
   pub state : slice_get (of_kind me (after_slot sc hands frame slot).nodes) i ≡ Some st
 
--- the time of a tick, of that many ticks after the frame's first, at node i of a kind
+-- the time, by the clock of node i of kind me, of the tick that is `offset` ticks after the first
+-- tick of its frame
 abbrev pub time_in_frame : Scenario → Side → ℕ → NodeState → ℕ → ℕ
 time_in_frame sc me i st offset = time_of (clock_of sc me i) (st.epoch + offset)
 

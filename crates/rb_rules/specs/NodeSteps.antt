@@ -1,4 +1,4 @@
--- What one node does in a window of any slot, and what it tells of itself.
+-- What one node does in a window of any slot, and what it reports about itself.
 use Rattle.std.specs.Prelude.{ℕ, ◌+◌, ◌%◌, ◌==◌, ◌&&◌, not, nat_lt, true, false, if◌then◌else◌, Option, Some, None, option_map, slice_get}
 use Rattle.rb_base.specs.Nodes.{Side, has, set_of}
 use Rattle.rb_base.specs.Sizes.{Sizes, sync_slot_of}
@@ -15,7 +15,8 @@ use Rattle.rb_rules.specs.NodeState.{NodeState, trusted_of}
 use Rattle.rb_rules.specs.Slots.{count_of, role_of}
 use Rattle.rb_rules.specs.SyncStage.{calls, close_sync, new_epoch_of}
 
--- what a message must have that is meant for a window of the node's frame
+-- the frame, the slot, the stage and the form that a message needs if it is meant for a window of
+-- the node's frame
 abbrev pub expect_of : Sizes → Version → NodeState → ℕ → ℕ → Expect
 expect_of sizes version st slot stage =
     record { frame = st.frame % 65536; slot = slot; stage = stage; sync = slot == sync_slot_of sizes; version = version }
@@ -27,8 +28,8 @@ message_said sizes me index st slot stage word =
     if slot == sync_slot_of sizes then calls sizes me st stage
     else option_map (message_of st slot stage) (says sizes me index st slot stage word)
 
--- node `index` of kind me closes a window that begins at the offset `first`, `sense` being what
--- came of each source
+-- node `index` of kind me closes a window that begins at the offset `first`; `sense` says what came
+-- from each source
 abbrev pub close : Sizes → Side → ℕ → NodeState → ℕ → ℕ → ℕ → (ℕ → Sense) → Outcome
 close sizes me index st slot stage first sense =
     elim (slot == sync_slot_of sizes) [
@@ -41,7 +42,7 @@ abbrev pub turn_if_known : Sizes → Plan → Side → NodeState → NodeState
 turn_if_known sizes plan me st =
     elim (new_epoch_of plan me st) [ None ↦ st | Some epoch ↦ turn sizes plan.probation me epoch st ]
 
--- the owner of a slot, where it is a data slot that has one and the schedule stands
+-- the owner of a slot, if it is a data slot that has one and the schedule is known
 abbrev pub owner_for : NodeState → Role → Option ℕ
 owner_for st (Schedule i) = None
 owner_for st (Data n) = slice_get st.owners n

@@ -1,4 +1,4 @@
--- Who owns the data slots.
+-- Which BIU owns which data slot.
 use Rattle.std.specs.Prelude.{ℕ, nat_lt, ◌&&◌, List, filter, take, get_or}
 use Rattle.std.specs.List.{flat_map}
 use Rattle.rb_base.specs.Counting.{numbers}
@@ -22,8 +22,8 @@ abbrev pub owners_in_passes : Sizes → ℕ → List Heard → ℕ → List ℕ
 owners_in_passes sizes trusted requests passes =
     take sizes.data_slots (flat_map (owners_in_pass sizes trusted requests) (numbers passes))
 
--- the owners of the data slots in order; a slot past the end has none. A pass in which nobody asks
--- is followed by no other, so as many passes as there are slots are enough
+-- the owners of the data slots in order; a slot past the end has none. After a pass in which nobody
+-- asks all others are empty, so as many passes as there are slots are enough
 abbrev pub owners_of : Sizes → ℕ → List Heard → List ℕ
 owners_of sizes trusted requests =
     take sizes.data_slots (flat_map (owners_in_pass sizes trusted requests) (numbers sizes.data_slots))

@@ -25,7 +25,7 @@ f0_of sizes plan = 3 * sync_slot_of sizes * plan.l
 abbrev pub tail_start_of : Sizes → Plan → ℕ
 tail_start_of sizes plan = f0_of sizes plan + plan.l + plan.v + plan.z
 
--- a shortest and a longest tick
+-- the least and the greatest length of a tick
 abbrev pub shortest_of : Plan → ℕ
 shortest_of plan = plan.u - plan.r
 
@@ -41,8 +41,8 @@ drift_in plan ticks = 2 * plan.r * ticks
 abbrev pub skew_of : Sizes → Plan → ℕ
 skew_of sizes plan = plan.p + drift_in plan (f0_of sizes plan + plan.h)
 
--- how long the ticks of a window after the sending tick take at least; less than nothing where it
--- has no such tick
+-- the least time that the ticks of a window of `ticks` ticks take after the sending tick; negative
+-- if the window has no such tick
 abbrev pub rest_of : Plan → ℕ → ℤ
 rest_of plan ticks = (pos ticks -ℤ pos (1 + plan.h)) *ℤ pos (shortest_of plan)
 
@@ -52,14 +52,15 @@ next_skew_of plan =
     2 * (plan.dmax - plan.dmin) + 2 * longest_of plan + drift_in plan (plan.l + plan.v + plan.z)
     + max (plan.c * longest_of plan) (plan.dmax + longest_of plan) - min (plan.c * shortest_of plan) plan.dmin
 
--- the two sides of an inequality; the left is to be at least the right
+-- the two sides of an inequality; it holds if the left is at least the right
 pub record Sides : Type 0 where
   pub left : ℤ
   pub right : ℤ
 
--- the seven inequalities in order. Of the first six the odd ones keep a message from coming before
--- its window, the even ones from coming after it: below the sync slot and in its stage 1, in stage
--- 2, in stage 3. The last bounds the next skew
+-- the seven inequalities in order. Of the first six the odd ones keep a message from arriving
+-- before its window, and the even ones from arriving after it: the first two below the sync slot
+-- and in its stage 1, the next two in stage 2, the last two in stage 3. The seventh bounds the next
+-- skew
 abbrev pub inequalities_of : Sizes → Plan → List Sides
 inequalities_of sizes plan =
     record { left = pos (plan.h * shortest_of plan + plan.dmin); right = pos (skew_of sizes plan) }
@@ -75,10 +76,10 @@ inequalities_of sizes plan =
 abbrev pub sides_of : Sizes → Plan → ℕ → Option Sides
 sides_of sizes plan n = slice_get (inequalities_of sizes plan) (n - 1)
 
--- all seven hold
+-- all seven inequalities hold
 abbrev pub IsFeasible : Sizes → Plan → Type 0
 IsFeasible sizes plan = All (λ sides. sides.right ≤ℤ sides.left) (inequalities_of sizes plan)
 
--- the number of the first that fails, counted from 1
+-- the number of the first inequality that fails, counted from 1
 abbrev pub first_failing : Sizes → Plan → Option ℕ
 first_failing sizes plan = option_map suc (position (λ sides. int_lt sides.left sides.right) (inequalities_of sizes plan))

@@ -1,11 +1,11 @@
--- What stands behind a BIU: its application, and the port that hands words over.
+-- What is behind a BIU: its application, and the port that hands words over.
 use Rattle.std.specs.Prelude.{ℕ, zero, suc, ◌+◌, ◌*◌, ◌^◌, ◌%◌, ◌==◌, Bool, true, false, if◌then◌else◌, Option, Some, None, List, [], ◌∷◌, take}
 use Rattle.rb_base.specs.Counting.{count_if}
 use Rattle.rb_base.specs.declared.values.Heard.{Heard}
 use Rattle.rb_base.specs.declared.values.Heard.TheVariants.{Word, Fault}
 
--- the word that an application offers for a slot: `table` (0) and `counter` (1) their state,
--- `follow` (2) what the slot adds to it
+-- the word that an application offers for a slot: `table` (0) and `counter` (1) offer their state,
+-- `follow` (2) its state plus the number of the slot
 abbrev pub offered_by : ℕ → ℕ → ℕ → ℕ
 offered_by app state slot = (if app == 2 then state + slot else state) % 2 ^ 32
 
@@ -13,13 +13,13 @@ abbrev pub word_or_0 : Option ℕ → ℕ
 word_or_0 None = 0
 word_or_0 (Some word) = word
 
--- its state after a delivery; none where the delivery is Fault. `table` keeps its state, `counter`
--- counts, `follow` mixes
+-- an application's state after a delivery; `word` is none if the delivery is Fault. `table` keeps
+-- its state, `counter` counts, `follow` mixes the word in
 abbrev pub learned_by : ℕ → ℕ → Option ℕ → ℕ
 learned_by app state word =
     if app == 1 then (state + 1) % 2 ^ 64 else (if app == 2 then (31 * state + word_or_0 word) % 2 ^ 64 else state)
 
--- the word that a value is
+-- the word of a value, if it is one
 abbrev pub word_in : Heard → Option ℕ
 word_in (Word word) = Some word
 word_in Fault = None
@@ -28,8 +28,8 @@ abbrev pub is_fault : Heard → Bool
 is_fault (Word word) = false
 is_fault Fault = true
 
--- a port: its application, that one's state, and for each delivery whether it was Fault, the newest
--- first
+-- a port: its application, the state of that, and for each delivery whether it was Fault, the
+-- newest first
 pub record PortState : Type 0 where
   pub app : ℕ
   pub state : ℕ
@@ -57,7 +57,7 @@ pub record HandIn : Type 0 where
   pub biu : ℕ
   pub state : ℕ
 
--- the ports, of which that of BIU i has this state
+-- the ports, with the state of BIU i's port replaced by `state`
 abbrev pub with_state : ℕ → ℕ → List PortState → List PortState
 with_state i state [] = []
 with_state zero state (port ∷ ports) = record port { state = state } ∷ ports

@@ -16,7 +16,7 @@ use Rattle.rb_rules.specs.Ports.{PortState, HandIn, delivered_to, hand_over}
 use Rattle.rb_rules.specs.Slots.{role_of}
 use Rattle.rb_rules.specs.Windows.{windows_of_frame}
 
--- all nodes before a window, the ports, and the book
+-- a moment of a run: all nodes before a window, the ports, and the book
 pub record Moment : Type 0 where
   pub frame : ℕ
   pub window : ℕ  -- the number of the window in its frame
@@ -26,11 +26,11 @@ pub record Moment : Type 0 where
 
 -- A window.
 
--- the windows of a frame, the tail with them
+-- how many windows a frame has, the tail included
 abbrev pub windows_in : Sizes → ℕ
 windows_in sizes = 3 * sync_slot_of sizes + 4
 
--- this moment's window at a node in this state
+-- the window of this moment at a node in this state
 abbrev pub window_in : Scenario → Moment → Side → NodeState → Window
 window_in sc m me st = window_numbered sc.sizes sc.plan me st m.window
 
@@ -44,23 +44,23 @@ sending_in sc m me i st w = sending sc.sizes sc.plan me i st w.slot w.stage (wor
 unfoldable pub sent_in : Scenario → Moment → Each (Option Sending)
 sent_in sc m = map_each (λ me i st. sending_in sc m me i st (window_in sc m me st)) m.nodes
 
--- what a window makes of a node: its state after it, and what it tells of it
+-- what a window makes of a node: its state after it, and what it reports of it
 pub record Result : Type 0 where
   pub state : NodeState
   pub row : Option Row
 
--- node i of kind me closes a window on what it heard of each source
+-- node i of kind me closes a window on what it heard from each source
 unfoldable pub close_on : Scenario → Side → ℕ → NodeState → Window → (ℕ → List Coming) → Result
 close_on sc me i st w heard =
     let x = close_window sc.sizes sc.plan me i st w (λ j. map (arrival_of (clock_of sc me i)) (heard j)) in
     record { state = x.state; row = Some (row_of me i x.state heard x.closed) }
 
--- what node i of kind me hears of each source in a window, in which this is sent
+-- what node i of kind me hears from each source in a window, `sent` being what all nodes send in it
 abbrev pub heard_at : Scenario → Side → ℕ → NodeState → Window → Each (Option Sending) → ℕ → List Coming
 heard_at sc me i st w sent = heard_from sc me i (span_of st w) (of_kind (other me) sent)
 
--- a good node says what it has to say, and closes the window on what it hears. An empty tail is
--- passed over
+-- a good node says what it has to say, and closes the window on what it hears. It skips an empty
+-- tail
 unfoldable pub go_through : Scenario → Moment → Each (Option Sending) → Side → ℕ → NodeState → Window → Result
 go_through sc m sent me i st w =
     elim (is_good sc me i m.frame w.slot && nat_le w.first w.last) [
@@ -81,7 +81,7 @@ port_after (Some line) port = delivered_to port line.value
 abbrev pub ports_after : List (Option Row) → List PortState → List PortState
 ports_after rows ports = map_from 0 (λ i port. port_after (line_in (get_or rows i None)) port) ports
 
--- the tail is no stage, and isn't judged
+-- the book after a window. The tail is no stage, and is not judged
 abbrev pub book_after : Scenario → ℕ → Option Window → Each (Option Row) → Book → Book
 book_after sc frame None rows b = b
 book_after sc frame (Some w) rows b = with_stage sc (record { frame = frame; slot = w.slot; stage = w.stage }) rows b
@@ -106,8 +106,8 @@ IsGoodIn sc m me i st =
 abbrev pub IsTickOf : Span → ℕ → Type 0
 IsTickOf span tick = (span.first ≤ tick) × (tick ≤ span.last)
 
--- the window is timely: good nodes send at ticks of their own window, and what good nodes hear of
--- good nodes comes with a stamp in theirs
+-- the window is timely: good nodes send at ticks of their own window, and what good nodes hear from
+-- good nodes has a stamp in the receiver's window
 pub record IsTimely (sc : Scenario) (m : Moment) : Type 0 where
   pub sent : (me : Side) (i : ℕ) (st : NodeState) → IsGoodIn sc m me i st
       → IfSome (sending_in sc m me i st (window_in sc m me st)) (λ s. IsTickOf (span_of st (window_in sc m me st)) s.tick)
@@ -121,7 +121,8 @@ abbrev pub begun_if_good : Scenario → ℕ → List PortState → Side → ℕ 
 begun_if_good sc frame ports me i st =
     elim (is_good sc me i frame 0) [ true ↦ Some (begun_of sc ports me i (epoch_of sc.sizes me st)) | false ↦ None ]
 
--- a frame begins at these nodes. What is handed to a port comes after the frame's record
+-- the moment at which a frame begins: its record is added to the book, and then the hand-ins of
+-- this frame are made to the ports
 unfoldable pub begin_frame : Scenario → List HandIn → ℕ → Each NodeState → List PortState → Book → Moment
 begin_frame sc hands frame nodes ports b = record {
   frame = frame;
@@ -141,12 +142,12 @@ abbrev pub next_frame : Scenario → List HandIn → Moment → Moment
 next_frame sc hands m =
     begin_frame sc hands (m.frame + 1) (map_each (λ me i st. turn_if_known sc.sizes sc.plan me st) m.nodes) m.ports m.book
 
--- one window, and after the tail the next frame
+-- the moment after one window, or after the tail the moment at which the next frame begins
 abbrev pub move_on : Scenario → List HandIn → Moment → Moment
 move_on sc hands m =
     elim (nat_lt m.window (windows_in sc.sizes)) [ true ↦ after_window sc m (results_of sc m) | false ↦ next_frame sc hands m ]
 
--- a step. Once the frame after the last has begun the end is given, and the states alone go on
+-- a step. Once the frame after the last has begun the end is given, and then only the states go on
 unfoldable pub step : Scenario → List HandIn → Moment → Moment
 step sc hands m =
     let next : Moment = move_on sc hands m in
@@ -162,10 +163,10 @@ abbrev pub until_end : Scenario → List HandIn → ℕ → Moment → Moment
 until_end sc hands zero m = m
 until_end sc hands (suc n) m = elim m.book.ended [ true ↦ m | false ↦ until_end sc hands n (step sc hands m) ]
 
--- enough steps for all frames, and one for the end
+-- enough steps for all frames, and one more for the end
 abbrev pub steps_of : Scenario → ℕ
 steps_of sc = sc.frames * (windows_in sc.sizes + 1) + 1
 
--- the records of a scenario with these hand-ins
+-- the records of the run of a scenario with these hand-ins
 abbrev pub records_of : Scenario → List HandIn → List Record
 records_of sc hands = (until_end sc hands (steps_of sc) (first_moment sc hands)).book.given

@@ -15,7 +15,7 @@ pub record Arrival : Type 0 where
   pub stamp : ℕ
   pub bytes : List ℕ
 
--- calls to resynchronize belong in the sync slot, words and faults in the other slots
+-- a call to resynchronize suits the sync slot; a word and a fault suit the other slots
 abbrev pub tag_suits : Bool → Tag → Bool
 tag_suits in_sync tag.Word = if in_sync then false else true
 tag_suits in_sync tag.Fault = if in_sync then false else true
@@ -30,8 +30,8 @@ abbrev pub sense_of_one : Expect → ℕ → Option Message → Sense
 sense_of_one e stamp None = Bad
 sense_of_one e stamp (Some m) = if suits e m then One stamp m else Bad
 
--- the sense of all arrivals of a source: silent where there is none, bad where there is more than
--- one. Bytes are read in the bus's own version, its number included
+-- the sense of all arrivals from a source: silent if there is none, bad if there is more than one.
+-- Bytes are read in the bus's own version, its number included
 abbrev pub sense_of : Expect → List Arrival → Sense
 sense_of e [] = Silent
 sense_of e (a ∷ []) = sense_of_one e a.stamp (message_in e.version a.bytes)
@@ -53,7 +53,7 @@ value_of tag.Word value = Some (heard.Word value)
 value_of tag.Fault value = Some heard.Fault
 value_of tag.Sync value = None
 
--- the value that came
+-- the value of the message that came, if one came
 abbrev pub value_in : Sense → Option Heard
 value_in Silent = None
 value_in (One stamp m) = value_of m.tag m.value

@@ -1,4 +1,4 @@
--- The slots of a frame: what each is for, who sends in it, and whom a node expects.
+-- The slots of a frame: what each is for, who sends in it, and which messages a node expects in it.
 use Rattle.std.specs.Prelude.{ℕ, ◌+◌, ◌-◌, ◌*◌, nat_lt, ◌==◌, ◌&&◌, ◌||◌, Bool, true, false, if◌then◌else◌, Option, Some, None, List, slice_get}
 use Rattle.rb_base.specs.Nodes.{Side, has, set_of}
 use Rattle.rb_base.specs.Nodes.Side.{Biu, Rmu}
@@ -17,8 +17,8 @@ abbrev pub count_of : Side → Sizes → ℕ
 count_of Biu sizes = sizes.bius
 count_of Rmu sizes = sizes.rmus
 
--- the first diagnosis slot of a kind: those of the BIUs come after the data slots, those of the
--- RMUs after these
+-- the first diagnosis slot of a kind: those of the BIUs come after the data slots, and those of the
+-- RMUs after the BIUs'
 abbrev pub first_diagnosis_of : Side → Sizes → ℕ
 first_diagnosis_of Biu sizes = sizes.bius + sizes.data_slots
 first_diagnosis_of Rmu sizes = 2 * sizes.bius + sizes.data_slots
@@ -47,8 +47,8 @@ has_third_stage (DiagBiu i) = true
 has_third_stage (DiagRmu i) = true
 has_third_stage Sync = true
 
--- the kind that sends in stage 1 listens in stage 2, the other kind in stages 1 and 3. A kind sends
--- where the other listens
+-- the kind that sends in stage 1 listens in stage 2, and the other kind in stages 1 and 3. A kind
+-- sends in the stages in which the other kind listens
 abbrev pub listens : Side → Role → ℕ → Bool
 listens me role stage =
     if same_side me (sender_kind role) then stage == 2 else ((stage == 1) || ((stage == 3) && has_third_stage role))
@@ -63,7 +63,7 @@ pub data Sender : Type 0 where
 abbrev pub if_trusted : ℕ → ℕ → Sender
 if_trusted trusted i = if has trusted i then Node i else Nobody
 
--- the owner of a data slot, where there is one
+-- the owner of a data slot sends in it, if there is one
 abbrev pub if_owned : Option ℕ → Sender
 if_owned None = Nobody
 if_owned (Some i) = Node i
@@ -76,8 +76,8 @@ sender_in bius rmus owners (DiagBiu i) = if_trusted bius i
 sender_in bius rmus owners (DiagRmu i) = if_trusted rmus i
 sender_in bius rmus owners Sync = EachTrusted
 
--- whether a node that listens in a stage expects source j: the sender alone in stage 1, and each
--- trusted one in the stages in which all relay or repeat
+-- whether a node that listens in a stage expects source j: in stage 1 the sender alone, and each
+-- trusted source in the stages in which all relay or repeat
 abbrev pub expects_of : Sender → ℕ → ℕ → ℕ → Bool
 expects_of Nobody trusted stage j = false
 expects_of (Node i) trusted stage j = if stage == 1 then j == i else has trusted j

@@ -37,7 +37,7 @@ pub record IsMessage (m : Message) : Type 0 where
 abbrev pub check_of : List ℕ → ℕ
 check_of bytes = fold bit_xor 0 bytes
 
--- the ten bytes that both versions begin with: tag, frame, slot, stage, value
+-- the ten bytes with which both versions begin: tag, frame, slot, stage, value
 abbrev pub fields_of : Message → List ℕ
 fields_of m = tag_byte m.tag ∷ to_be_bytes w16 m.frame ++ to_be_bytes w16 m.slot ++ m.stage ∷ to_be_bytes w32 m.value
 
@@ -50,26 +50,26 @@ body_of (Two bus) m = fields_of m ++ bus ∷ []
 abbrev pub spelling_of : Version → Message → List ℕ
 spelling_of version m = body_of version m ++ check_of (body_of version m) ∷ []
 
--- the bytes spell the message
+-- the bytes are the spelling of the message
 abbrev pub Spells : Version → List ℕ → Message → Type 0
 Spells version bytes m = IsMessage m × (bytes ≡ spelling_of version m)
 
--- the numbers are bytes, as those of a slice are
+-- the numbers are bytes, as the numbers of a slice of bytes are
 abbrev pub AreBytes : List ℕ → Type 0
 AreBytes numbers = (k : ℕ) → slice_index numbers k < 2 ^ 8
 
--- the tag with this byte
+-- the tag that this byte spells
 abbrev pub tag_in : ℕ → Option Tag
 tag_in byte = if byte == 1 then Some Word else (if byte == 2 then Some Fault else (if byte == 3 then Some Sync else None))
 
--- whether the value may stand beside the tag
+-- whether a message with this tag may have this value
 abbrev pub may_have : Tag → ℕ → Bool
 may_have Word value = true
 may_have Fault value = value == 0
 may_have Sync value = value == 0
 
--- the message with these fields, where the tag is one, the stage is 1 to 3 and the value may stand
--- beside the tag
+-- the message with these fields, if there is a tag, the stage is 1 to 3, and a message with the tag
+-- may have the value
 abbrev pub message_with : Option Tag → ℕ → ℕ → ℕ → ℕ → Option Message
 message_with None frame slot stage value = None
 message_with (Some tag) frame slot stage value =

@@ -1,5 +1,5 @@
--- What a node holds of the nodes of the other kind: whom it trusts, whom it accuses, and of whom it
--- takes.
+-- What a node holds of the nodes of the other kind: whom it trusts, whom it accuses, and from whom
+-- it accepts messages.
 use Rattle.std.specs.Prelude.{ℕ, ◌+◌, min, nat_lt, nat_le, ◌&&◌, ◌||◌, not, Bool, if◌then◌else◌, Option, None, Some, false, List, map, replicate, slice_index}
 use Rattle.rb_base.specs.Counting.{numbers}
 use Rattle.rb_base.specs.Nodes.{has, set_of}
@@ -15,23 +15,23 @@ pub record Standing : Type 0 where
   pub fresh : ℕ  -- those with direct evidence in this frame
   pub calm : List ℕ  -- for each accused node the frames in a row that ended without direct evidence
 
--- at first the nodes below the count are trusted, and nobody is accused
+-- at first the nodes below `count` are trusted, and nobody is accused
 abbrev pub first_standing : ℕ → Standing
 first_standing count =
     record { trusted = set_of (λ j. nat_lt j count); direct = 0; mismatch = 0; fresh = 0; calm = replicate 16 0 }
 
--- a node is eligible where it is trusted and not accused directly. A mismatch accusation changes
+-- a node is eligible if it is trusted and not accused directly. A mismatch accusation changes
 -- nothing here
 abbrev pub is_eligible : Standing → ℕ → Bool
 is_eligible s j = has s.trusted j && not (has s.direct j)
 
--- what is taken of a source, `part` being what is wanted of a message: something only where it is
--- expected and eligible
+-- what a node accepts from source `j`: the result of `part` for its sense if the source is expected
+-- and eligible, and nothing otherwise
 abbrev pub taken_of : {X : Type 0} → (Sense → Option X) → Standing → (ℕ → Bool) → (ℕ → Sense) → ℕ → Option X
 taken_of part s expected sense j = if expected j && is_eligible s j then part (sense j) else None
 
--- a source does wrong where it was expected and not exactly its message came, or where it was not
--- and something came
+-- a source does wrong in a window if it was expected and anything but its one message arrived, or
+-- if it was not expected and something arrived
 abbrev pub does_wrong : Bool → Sense → Bool
 does_wrong expected sense = if expected then not (is_one sense) else not (is_silent sense)
 
@@ -39,14 +39,15 @@ does_wrong expected sense = if expected then not (is_one sense) else not (is_sil
 abbrev pub has_evidence : Standing → (ℕ → Bool) → (ℕ → Sense) → ℕ → Bool
 has_evidence s expected sense j = has s.trusted j && does_wrong (expected j) (sense j)
 
--- the standing after direct evidence: its nodes are accused, and the evidence is of this frame
+-- the standing after direct evidence against some nodes: they are accused, and the evidence is of
+-- this frame
 abbrev pub with_evidence : (ℕ → Bool) → Standing → Standing
 with_evidence evidence s = record s {
   direct = set_of (λ j. has s.direct j || evidence j);
   fresh = set_of (λ j. has s.fresh j || evidence j);
 }
 
--- something other than the value was taken
+-- something was accepted, and it is not the value
 abbrev pub is_unlike : Heard → Option Heard → Bool
 is_unlike value None = false
 is_unlike value (Some taken) = not (same_heard value taken)
@@ -55,12 +56,12 @@ is_unlike value (Some taken) = not (same_heard value taken)
 abbrev pub with_mismatch : (ℕ → Bool) → Standing → Standing
 with_mismatch differs s = record s { mismatch = set_of (λ j. has s.mismatch j || differs j) }
 
--- the vector that a node sends: the trusted nodes that it accuses in one way or the other
+-- the vector that a node sends: the trusted nodes that it accuses, directly or by mismatch
 abbrev pub vector_of : Standing → ℕ
 vector_of s = set_of (λ j. has s.trusted j && (has s.direct j || has s.mismatch j))
 
--- a node's calm when a frame ends: none where there was evidence in it, else one frame more,
--- counted up to 4096
+-- a node's calm when a frame ends: 0 if there was evidence in the frame, and otherwise one frame
+-- more, counted up to 4096
 abbrev pub calm_after : Standing → ℕ → ℕ
 calm_after s j = if has s.fresh j then 0 else min (slice_index s.calm j + 1) 4096
 

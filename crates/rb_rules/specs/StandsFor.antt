@@ -1,5 +1,5 @@
--- What it is that the rounds of a scenario stand for a run of the abstract bus: what all good nodes
--- have in common.
+-- When the rounds of a scenario stand for a run of the abstract bus: all good nodes hold what that
+-- bus holds.
 use Rattle.std.specs.Prelude.{ℕ, ◌≡◌, ◌+◌, ◌*◌, ◌<◌, ◌≤◌, max, Bool, true, false, if◌then◌else◌, Some, List, [], get_or}
 use Rattle.rb_base.specs.Nodes.{Side, other, has}
 use Rattle.rb_base.specs.Nodes.Side.{Biu, Rmu}
@@ -30,13 +30,13 @@ value_on bus slot = get_or bus.values slot Fault
 
 -- What holds of a good node.
 
--- the node begins offset o of the frame in the band of the bus. So two good nodes differ by at most
--- p + 2 r o
+-- the node begins offset o of the frame in the band of the bus. Two good nodes therefore differ by
+-- at most p + 2 r o
 pub record IsInBand (sc : Scenario) (bus : AbstractBus) (me : Side) (i : ℕ) (st : NodeState) (o : ℕ) : Type 0 where
   pub not_early : bus.low + o * shortest_of sc.plan ≤ time_in_frame sc me i st o
   pub not_late : time_in_frame sc me i st o ≤ bus.low + sc.plan.p + o * longest_of sc.plan
 
--- the node trusts whom the bus trusts
+-- the node trusts the nodes that the bus trusts
 pub record HoldsTrusted (bus : AbstractBus) (me : Side) (st : NodeState) : Type 0 where
   pub bius : trusted_of Biu me st ≡ bus.bius
   pub rmus : trusted_of Rmu me st ≡ bus.rmus
@@ -45,7 +45,7 @@ pub record HoldsTrusted (bus : AbstractBus) (me : Side) (st : NodeState) : Type 
 abbrev pub HoldsOwners : Scenario → AbstractBus → NodeState → Type 0
 HoldsOwners sc bus st = sc.sizes.bius ≤ bus.slot → st.owners ≡ bus.owners
 
--- a node of this kind votes in the slot: of data slots only BIUs do
+-- a node of this kind votes in the slot. In data slots only BIUs vote
 abbrev pub votes_on : Sizes → ℕ → Side → Bool
 votes_on sizes slot me = if has_third_stage (role_of sizes slot) then true else same_side me Biu
 
@@ -81,7 +81,7 @@ pub record AgreesAfter (sc : Scenario) (frame slot : ℕ) (next : AbstractBus) (
 
 -- What holds of a slot.
 
--- what is delivered in a data slot: the value, at each good BIU; nothing where the slot is idle
+-- what is delivered in a data slot: the value, at each good BIU; nothing if the slot is idle
 abbrev pub lines_on : Scenario → ℕ → ℕ → Sender → Heard → List SlotLine
 lines_on sc frame slot Nobody value = []
 lines_on sc frame slot (Node owner) value = lines_of sc frame slot owner value
@@ -110,17 +110,17 @@ pub record IsLow (sc : Scenario) (hands : List HandIn) (frame low : ℕ) : Type 
   pub begins : IsGoodBefore sc hands frame 0 me i st
   pub time : time_in_frame sc me i st 0 ≡ low
 
--- what all good nodes have in common at the start of a frame. Its first time is free where no node
--- is good there
+-- what all good nodes have in common at the start of a frame. Its first time is free if no node is
+-- good there
 pub record FrameAgrees (sc : Scenario) (hands : List HandIn) (frame : ℕ) (bus : AbstractBus) : Type 0 where
   pub good_nodes : (me : Side) (i : ℕ) (st : NodeState) → IsGoodBefore sc hands frame 0 me i st → AgreesBefore sc bus me i st
   pub low : (me : Side) (i : ℕ) (st : NodeState) → IsGoodBefore sc hands frame 0 me i st → IsLow sc hands frame bus.low
 
 -- The run.
 
--- the rounds stand for a run of the bus: up to each frame that is reached, and up to and with each
--- slot that is complete without a breach, the bus makes its steps, and what all good nodes hold
--- there is what the bus holds
+-- the rounds stand for a run of the bus: up to each frame that is reached, and up to and including
+-- each slot that is complete without a breach, the bus makes its steps, and what all good nodes
+-- hold there is what the bus holds
 pub record StandsFor (sc : Scenario) (hands : List HandIn) : Type 0 where
   pub bus : ℕ → AbstractBus
   pub run_to_frame : (frame : ℕ) → IsReached sc hands frame → IsRun sc (offered_in sc hands) (steps_to sc.sizes frame 0) bus

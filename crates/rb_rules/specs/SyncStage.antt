@@ -1,5 +1,5 @@
 -- The sync slot, in which all nodes resynchronize: the BIUs call, the RMUs call at the middle of
--- these calls, and the BIUs once more at the middle of those.
+-- the BIUs' calls, and the BIUs call once more at the middle of the RMUs' calls.
 use Rattle.std.specs.Prelude.{ℕ, ◌+◌, ◌%◌, ◌==◌, ◌&&◌, Bool, if◌then◌else◌, Option, Some, None, option_map, unwrap_or, map}
 use Rattle.rb_base.specs.Nodes.{Side, other}
 use Rattle.rb_base.specs.Nodes.Side.{Biu, Rmu}
@@ -31,18 +31,19 @@ call_of sizes st stage =
 abbrev pub calls : Sizes → Side → NodeState → ℕ → Option Message
 calls sizes me st stage = if listens (other me) Sync stage then Some (call_of sizes st stage) else None
 
--- the stamps that are taken of each source, and the middle of them; where none is taken, the
+-- the stamps that are accepted from each source, and the middle of them; if none is accepted, the
 -- window's first tick
 abbrev pub sync_closing_of : Standing → (ℕ → Bool) → (ℕ → Sense) → ℕ → SyncClosing
 sync_closing_of s expected sense first =
     let taken = each_node (taken_of stamp_in s expected sense) in
     record { taken = taken; middle = unwrap_or (middle_of (present taken)) first }
 
--- whom a node of kind me expects in a stage of the sync slot; in the tail, stage 4, nobody
+-- whether a node of kind me expects source j in a stage of the sync slot; in the tail, stage 4, it
+-- expects nobody
 abbrev pub expects_call : Side → NodeState → ℕ → ℕ → Bool
 expects_call me st stage j = expects me Sync EachTrusted st.far.trusted stage j
 
--- the middle of a stage, kept where the node listens in it
+-- the middle of a stage, kept if the node listens in the stage
 abbrev pub middle_after : Side → ℕ → Option ℕ → ℕ → ℕ → Option ℕ
 middle_after me of_stage before stage middle = if listens me Sync stage && (stage == of_stage) then Some middle else before
 
@@ -50,7 +51,7 @@ abbrev pub see_time : Option ℕ → See
 see_time None = Nothing
 see_time (Some stamp) = Time stamp
 
--- the close of a stage by what was taken in it
+-- the outcome of closing a stage in which these stamps were accepted
 unfoldable pub sync_outcome_of : Sizes → Side → NodeState → ℕ → (ℕ → Sense) → SyncClosing → Outcome
 sync_outcome_of sizes me st stage sense c = record {
   state = record st {
@@ -72,8 +73,8 @@ unfoldable pub close_sync : Sizes → Side → NodeState → ℕ → ℕ → (�
 close_sync sizes me st stage first sense =
     sync_outcome_of sizes me st stage sense (sync_closing_of st.far (expects_call me st stage) sense first)
 
--- the tick at which the call of a stage is sent. In stages 2 and 3 the middle of the stage before
--- fixes it, so there is none until the node has taken that middle in this frame
+-- the tick at which the call of a stage is sent. In stages 2 and 3 it follows from the middle of
+-- the stage before, so there is none until the node has that middle in this frame
 abbrev pub call_tick_of : Sizes → Plan → NodeState → ℕ → Option ℕ
 call_tick_of sizes plan st stage =
     if stage == 1 then Some (st.epoch + f0_of sizes plan + plan.h)
@@ -84,7 +85,7 @@ abbrev pub send_tick_of : Sizes → Plan → NodeState → ℕ → ℕ → Optio
 send_tick_of sizes plan st slot stage =
     if slot == sync_slot_of sizes then call_tick_of sizes plan st stage else Some (st.epoch + send_offset_of plan slot stage)
 
--- the tick of the next epoch. There is none until the node has taken the middle that fixes it in
+-- the tick of the next epoch. There is none until the node has the middle from which it follows in
 -- this frame
 abbrev pub new_epoch_of : Plan → Side → NodeState → Option ℕ
 new_epoch_of plan Biu st = option_map (λ k2. k2 + plan.v + plan.z + plan.c) st.k2

@@ -22,7 +22,7 @@ sync_windows sizes plan =
     ∷ window_of (sync_slot_of sizes) 3 (f0_of sizes plan + plan.l + plan.v) plan.z
     ∷ []
 
--- the windows of a frame in order, but for the tail
+-- the windows of a frame in order, without the tail
 abbrev pub windows_of_frame : Sizes → Plan → List Window
 windows_of_frame sizes plan =
     map (exact_window plan) (range_with_len 0 (3 * sync_slot_of sizes)) ++ sync_windows sizes plan
@@ -35,8 +35,8 @@ holds_offset offset window = nat_le window.first offset && nat_le offset window.
 abbrev pub window_at : Sizes → Plan → ℕ → Option Window
 window_at sizes plan offset = find (holds_offset offset) (windows_of_frame sizes plan)
 
--- the tail lies between the windows and the offset of the next frame's first tick. Where they meet
--- it is empty
+-- the tail, from the end of the windows to the tick before the next frame's first, which has the
+-- offset `epoch`. It is empty if the windows end there
 abbrev pub tail_of : Sizes → Plan → ℕ → Window
 tail_of sizes plan epoch =
     record { slot = sync_slot_of sizes; stage = 4; first = tail_start_of sizes plan; last = epoch - 1 }

@@ -1,5 +1,5 @@
--- The world's step: all node cores of a run with what is pending at each, one event after another
--- in the order of time.
+-- A step of the world: all node cores of a run with what is pending at each, one event after
+-- another in the order of time.
 use Rattle.std.specs.Prelude.{◌≡◌, ℕ, zero, suc, ◌-◌, min, ◌==◌, ◌&&◌, ◌||◌, not, Bool, true, false, Option, Some, None, is_some, option_and_then, option_map, option_to_list, List, [], ◌∷◌, ◌++◌, filter, flat_map, fold, length, map, remove, slice_get, slice_set}
 use Rattle.std.specs.List.{enumerate_from, list_all}
 use Rattle.rb_base.specs.Counting.{numbers}
@@ -60,7 +60,7 @@ least (t ∷ ts) = Some (elim (least ts) [ None ↦ t | Some u ↦ min t u ])
 abbrev pub times_of : Site → List ℕ
 times_of s = option_to_list (option_map (λ a. a.time) s.ahead) ++ map (λ c. c.time) s.coming
 
--- what may be taken at a node: its tick, or what stands at this place among all that comes to it
+-- what may be taken at a node: its tick, or the arrival at this place among all that comes to it
 pub data Pending : Type 0 where
   Tick : (tick : ℕ) → Pending
   Arrival : (place : ℕ) (coming : Coming) → Pending
@@ -70,7 +70,7 @@ pub record Due : Type 0 where
   pub node : ℕ
   pub pending : Pending
 
--- what comes at a time from source j, in the order of pushing
+-- what comes to a node at a time from source j, in the order of pushing
 abbrev pub arrivals_at : Side → ℕ → ℕ → Site → ℕ → List Due
 arrivals_at me i time s j =
     map (λ c. record { side = me; node = i; pending = Arrival c.0 c.1 })
@@ -86,7 +86,8 @@ abbrev pub unless_any : List Due → List Due → List Due
 unless_any [] later = later
 unless_any (d ∷ ds) later = d ∷ ds
 
--- what may be taken at a node at this time: what comes then, by sender, else its tick
+-- what may be taken at a node at this time: what comes then, by sender, or its tick if nothing
+-- comes
 unfoldable pub ready_at : Sizes → ℕ → Side → ℕ → Site → List Due
 ready_at sizes time me i s =
     unless_any (flat_map (arrivals_at me i time s) (numbers (count_of (other me) sizes))) (tick_at me i time s.ahead)
@@ -99,14 +100,14 @@ due_at sc w (Some time) = flat_map (λ due. due) (in_order (map_each (ready_at s
 abbrev pub nobody_good : Scenario → ℕ → ℕ → Bool
 nobody_good sc frame slot = (good_at sc Biu frame slot == 0) && (good_at sc Rmu frame slot == 0)
 
--- it is settled without an event
+-- the milestone is settled without an event: it is the end, or no node is good there
 abbrev pub needs_no_event : Scenario → Milestone → Bool
 needs_no_event sc (Begin frame) = nobody_good sc frame 0
 needs_no_event sc (Stage place) = nobody_good sc place.frame place.slot
 needs_no_event sc End = true
 
--- the events of the least time, node by node. None may be taken where the next record needs none,
--- and after the last
+-- the events of the least time, node by node. None may be taken if the next record needs none, nor
+-- after the last record
 unfoldable pub due_of : Scenario → World → List Due
 due_of sc w =
     elim (w.book.ended || needs_no_event sc w.book.upcoming) [
@@ -129,7 +130,7 @@ says_in sc me i span =
     flat_map (λ j. elim (is_good sc (other me) j span.place.frame span.place.slot) [ true ↦ [] | false ↦ said_by sc me i span j ])
     (numbers (count_of (other me) sc.sizes))
 
--- the node's next tick that isn't quiet is pending, and this comes to it, too
+-- the site with its next busy tick pending, and with `more` added to what is on its way to it
 abbrev pub await : Scenario → Side → ℕ → List Coming → Site → Site
 await sc me i more s = record s {
   ahead = option_map (λ k. record { tick = k; time = time_of (clock_of sc me i) k }) (next_tick sc.sizes sc.plan me i s.core);
@@ -140,8 +141,8 @@ await sc me i more s = record s {
 abbrev pub stop : Site → Site
 stop s = record s { runs = false; ahead = None; coming = [] }
 
--- at a window's start a node that is not good there stops, and to the others comes what they are
--- told in it
+-- if the node begins a window (`span`), it stops if it is not good in that slot, and otherwise what
+-- faulty nodes say to it in the window is on its way to it
 abbrev pub enter : Scenario → Side → ℕ → Option Span → Site → Site
 enter sc me i None s = await sc me i [] s
 enter sc me i (Some span) s =
@@ -153,28 +154,28 @@ proceed sc me i s = enter sc me i (span_from sc.sizes sc.plan me s.core.state s.
 
 -- An event happens at a node.
 
--- what was got of source j
+-- what the node got from source j
 abbrev pub coming_from : List Coming → ℕ → List Coming
 coming_from got j = filter (λ c. c.from == j) got
 
--- what the node has told after a tick at which it closed this. The tail is no stage, so it tells
--- nothing of it
+-- the node's site after a tick that closed this window: it keeps what it reports of it. The tail is
+-- no stage, so nothing is reported of it
 abbrev pub with_close : Side → ℕ → NodeState → Option Closed → Site → Site
 with_close me i st None s = s
 with_close me i st (Some c) s =
     record s { got = []; row = elim (c.place.stage == 4) [ true ↦ s.row | false ↦ Some (row_of me i st (coming_from s.got) c) ] }
 
--- and after one with which this frame began
+-- the node's site after a tick that began frame `e`: it keeps what it reports of that frame
 abbrev pub with_epoch : Scenario → List PortState → Side → ℕ → Option Epoch → Site → Site
 with_epoch sc ports me i None s = s
 with_epoch sc ports me i (Some e) s = record s { begun = Some (begun_of sc ports me i e) }
 
--- the node after a tick that gave this
+-- the node's site after a tick with this act
 unfoldable pub after_act : Scenario → List PortState → Side → ℕ → Act → Site → Site
 after_act sc ports me i x s =
     proceed sc me i (with_epoch sc ports me i x.epoch (with_close me i x.core.state x.closed (record s { core = x.core })))
 
--- a node after an arrival, which stood at this place. Before it the ticks up to its stamp pass
+-- a node after the arrival that was at this place. The ticks up to its stamp pass first
 unfoldable pub after_arrival : Scenario → Side → ℕ → ℕ → Coming → Site → Site
 after_arrival sc me i place c s = record s {
   core = arrive sc.sizes me (pass_to (stamp_of (clock_of sc me i) c.time) s.core) c.from c.bytes;
@@ -199,19 +200,19 @@ with_message sc me j frame tick (Some m) sites = map_each (sent_to sc me j frame
 abbrev pub at_node : Side → ℕ → (Site → Site) → Each Site → Each Site
 at_node me i change sites = map_each (λ side n s. elim (same_side side me && (n == i)) [ true ↦ change s | false ↦ s ]) sites
 
--- what a BIU delivers goes to its port
+-- what a BIU delivers changes its port
 abbrev pub with_delivery : Scenario → ℕ → Option Delivery → List PortState → List PortState
 with_delivery sc i None ports = ports
 with_delivery sc i (Some d) ports = slice_set ports i (delivered_to (port_at sc ports i) d.value)
 
--- the world after a tick of node i of kind me that gave this
+-- the world after tick k of node i of kind me with this act
 unfoldable pub with_act : Scenario → World → Side → ℕ → ℕ → Act → World
 with_act sc w me i k x = record w {
   sites = with_message sc me i x.core.state.frame k x.message (at_node me i (after_act sc w.ports me i x) w.sites);
   ports = with_delivery sc i (option_and_then (λ c. c.delivered) x.closed) w.ports;
 }
 
--- the word for a tick: the request or the word of the slot for which one is wanted, else 0
+-- the word for a tick: the request or the word of the slot for which one is wanted, or 0 if none is
 abbrev pub word_of : Scenario → List PortState → ℕ → Option ℕ → ℕ
 word_of sc ports i None = 0
 word_of sc ports i (Some slot) = word_for sc ports i slot (role_of sc.sizes slot)
@@ -220,7 +221,7 @@ word_of sc ports i (Some slot) = word_for sc ports i slot (role_of sc.sizes slot
 abbrev pub wants_in : Scenario → Side → ℕ → Core → Option ℕ
 wants_in sc me i c = wants sc.sizes sc.plan me i c
 
--- tick k of a node's core. Before it the quiet ticks pass
+-- tick k of a node's core, after the quiet ticks before it
 unfoldable pub pass_and_tick : Scenario → List PortState → Side → ℕ → ℕ → Core → Act
 pass_and_tick sc ports me i k c =
     let ready = pass_to k c in
@@ -230,7 +231,7 @@ abbrev pub with_pending : Scenario → World → Side → ℕ → Site → Pendi
 with_pending sc w me i s (Tick k) = with_act sc w me i k (pass_and_tick sc w.ports me i k s.core)
 with_pending sc w me i s (Arrival place c) = record w { sites = at_node me i (after_arrival sc me i place c) w.sites }
 
--- the event happens, before anything is settled
+-- the world after the event, before anything is settled
 unfoldable pub happens : Scenario → World → Due → World
 happens sc w d =
     elim (slice_get (of_kind d.side w.sites) d.node) [ None ↦ w | Some s ↦ with_pending sc w d.side d.node s d.pending ]
@@ -240,7 +241,7 @@ happens sc w d =
 abbrev pub same_place : Place → Place → Bool
 same_place a b = (a.frame == b.frame) && (a.slot == b.slot) && (a.stage == b.stage)
 
--- what a node has told of a stage, if that is the last that it closed
+-- what a node has reported of a stage, if that is the last that it closed
 abbrev pub row_for : Place → Option Row → Option Row
 row_for place None = None
 row_for place (Some row) = elim (same_place row.place place) [ true ↦ Some row | false ↦ None ]
@@ -249,17 +250,17 @@ abbrev pub begun_for : ℕ → Option Begun → Option Begun
 begun_for frame None = None
 begun_for frame (Some b) = elim (b.frame == frame) [ true ↦ Some b | false ↦ None ]
 
--- what the nodes that are good in a slot have told
+-- what the nodes that are good in a slot have reported
 abbrev pub told_by_good : {X : Type 0} → Scenario → ℕ → ℕ → (Site → Option X) → Each Site → Each (Option X)
 told_by_good sc frame slot tells sites =
     map_each (λ me i s. elim (is_good sc me i frame slot) [ true ↦ tells s | false ↦ None ]) sites
 
--- each of them has told something
+-- every node that is good in the slot has reported what `tells` asks for
 abbrev pub all_have_told : {X : Type 0} → Scenario → ℕ → ℕ → (Site → Option X) → Each Site → Bool
 all_have_told sc frame slot tells sites =
     list_all (λ told. told) (in_order (map_each (λ me i s. not (is_good sc me i frame slot) || is_some (tells s)) sites))
 
--- all good nodes have told of it
+-- all nodes that are good at the milestone have reported it
 abbrev pub is_complete : Scenario → Each Site → Milestone → Bool
 is_complete sc sites (Begin frame) = all_have_told sc frame 0 (λ s. begun_for frame s.begun) sites
 is_complete sc sites (Stage place) = all_have_told sc place.frame place.slot (λ s. row_for place s.row) sites
@@ -271,17 +272,17 @@ book_with sc sites b (Begin frame) =
 book_with sc sites b (Stage place) = with_stage sc place (told_by_good sc place.frame place.slot (λ s. row_for place s.row) sites) b
 book_with sc sites b End = with_end b
 
--- how a milestone comes to be settled
+-- how a milestone is settled
 pub data Way : Type 0 where
   ByAnEvent : Way
   ByItself : Way
 
--- this is the way in which a milestone is settled
+-- the milestone is settled in this way: by an event if it needs one, by itself otherwise
 abbrev pub comes_so : Scenario → Way → Milestone → Bool
 comes_so sc ByAnEvent m = not (needs_no_event sc m)
 comes_so sc ByItself m = needs_no_event sc m
 
--- the next milestone is settled, if this is its way and all that it needs has been told
+-- the next milestone is settled, if this is its way and all that it needs has been reported
 abbrev pub settle_next : Scenario → Way → World → World
 settle_next sc way w =
     elim (comes_so sc way w.book.upcoming && is_complete sc w.sites w.book.upcoming) [
@@ -303,21 +304,21 @@ settle sc way (suc others) w =
 
 -- The step.
 
--- an event happens, and what it completes is settled: at most a last stage of a frame, which gives
--- no record, and the start of the next frame
+-- the world after an event, with what it completes settled: at most a last stage of a frame, which
+-- gives no record, and the start of the next frame
 abbrev pub take_if_due : Scenario → World → Option Due → World
 take_if_due sc w None = w
 take_if_due sc w (Some d) = settle sc ByAnEvent 2 (happens sc w d)
 
--- the due event at place i is taken
+-- the world after the due event at place i
 unfoldable pub take : Scenario → World → ℕ → World
 take sc w i = take_if_due sc w (slice_get (due_of sc w) i)
 
--- a record that needs no event is given
+-- the world after a record that needs no event
 unfoldable pub go_on : Scenario → World → World
 go_on sc w = elim w.book.ended [ true ↦ w | false ↦ settle sc ByItself 2 w ]
 
--- the frame whose record it is
+-- the frame of a frame's record
 abbrev pub frame_in : Option Record → Option ℕ
 frame_in None = None
 frame_in (Some (Record.Frame frame nodes ports)) = Some frame
@@ -370,8 +371,8 @@ choose sc w (Hand biu state) = hand sc w biu state
 abbrev pub world_after : Scenario → List Choice → World
 world_after sc choices = fold (choose sc) (first_world sc) choices
 
--- what happens at node i of kind me, as it is shown: the quiet ticks that pass before it, and what
--- then comes
+-- what happens at node i of kind me, as it is shown: the quiet ticks that pass before it, and then
+-- the arrival or the tick
 abbrev pub event_of : Scenario → List PortState → Side → ℕ → Core → Pending → Event
 event_of sc ports me i c (Tick k) =
     let slot = wants_in sc me i (pass_to k c) in
