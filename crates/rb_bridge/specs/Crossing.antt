@@ -61,12 +61,12 @@ drives_over is_plain told l l' r r' = record { left = drive_of (is_plain l) (tol
 abbrev pub drives_now : {D : Type 0} → (D → Bool) → (D → Option (List Turn)) → D → D → Drives
 drives_now is_plain told l r = drives_over is_plain told l l r r
 
--- where `both` is true, both are plain
+-- if `both` is true, both are plain
 pub record ArePlain (both lp rp : Bool) : Type 0 where
   pub left : both ≡ true → lp ≡ true
   pub right : both ≡ true → rp ≡ true
 
--- a run of a bridge, with what is seen of its drives. Where `both` is true, both are plain
+-- a run of a bridge, with what is seen of its drives. If `both` is true, both are plain
 pub record BridgeRun : Type 0 where
   pub b : Bridge
   pub both : Bool
@@ -79,19 +79,19 @@ run_of b both left right = record { b = b; both = both; left = left; right = rig
 
 -- Both sides.
 
--- they go into a frame
+-- both sides go into a frame
 pub record AreReady (x : BridgeRun) (frame : ℕ) (l r : Side) : Type 0 where
   pub left : BeforeFrame x.b Left frame x.both x.left l
   pub right : BeforeFrame x.b Right frame x.both x.right r
 
--- they have gone through it
+-- both sides have gone through a frame
 pub record AreThrough (x : BridgeRun) (frame : ℕ) (l r : Side) : Type 0 where
   pub left : AfterFrame x.b Left frame x.both x.left l
   pub right : AfterFrame x.b Right frame x.both x.right r
   pub unbroken : AreUnbroken frame l r
 
--- they are those of a bridge with these pairs, and have gone through a frame. With two plain
--- drives, it has no breach
+-- both sides belong to a bridge with these pairs, and have gone through a frame. With two plain
+-- drives, the frame has no breach
 pub record HaveCrossed (x : BridgeRun) (pairs : List Pair) (frame : ℕ) (l r : Side) : Type 0 where
   pub bridge : IsBridge x.b
   pub pairs_are : x.b.pairs ≡ pairs
@@ -101,17 +101,17 @@ pub record HaveCrossed (x : BridgeRun) (pairs : List Pair) (frame : ℕ) (l r : 
   pub right : AfterFrame x.b Right frame x.both x.right r
   pub unbroken : x.both ≡ true → AreUnbroken frame l r
 
--- their drives gave the first turns of their runs
+-- the drives of both sides gave the first turns of their runs
 pub record GiveSome (x : BridgeRun) : Type 0 where
   pub left : GivesSome x.b Left x.both x.left
   pub right : GivesSome x.b Right x.both x.right
 
--- or all of them
+-- the drives of both sides gave all turns of their runs
 pub record GiveAll (x : BridgeRun) (frame : ℕ) : Type 0 where
   pub left : GivesAll x.b Left frame x.both x.left
   pub right : GivesAll x.b Right frame x.both x.right
 
--- that of one bank gave all of its turns
+-- the drive of one bank gave all turns of its run
 abbrev pub GivesAllOn : BridgeRun → ℕ → Bank → Type 0
 GivesAllOn x frame Left = GivesAll x.b Left frame x.both x.left
 GivesAllOn x frame Right = GivesAll x.b Right frame x.both x.right
@@ -135,16 +135,17 @@ pub record AtFrame (frame : ℕ) (d : Drives) (l r : Side) : Type 0 where
   pub plain : ArePlain both d.left.is_plain d.right.is_plain
   pub ready : AreReady (run_of b both (drive_of d.left.is_plain left_told d.left.told) (drive_of d.right.is_plain right_told d.right.told)) frame l r
 
--- the same run as the call ends
+-- the run of the bridge as it is when the call ends
 abbrev pub run_after : {frame : ℕ} {d : Drives} {l r : Side} → AtFrame frame d l r → BridgeRun
 run_after {frame} {d} {l} {r} x = run_of x.b x.both (drive_of d.left.is_plain x.left_told d.left.since) (drive_of d.right.is_plain x.right_told d.right.since)
 
--- such a run of a bridge with these pairs
+-- both sides belong to such a run of a bridge with these pairs
 pub record MayCross (pairs : List Pair) (frame : ℕ) (d : Drives) (l r : Side) : Type 0 where
   pub run : AtFrame frame d l r
   pub pairs_are : run.b.pairs ≡ pairs
 
--- they went through a frame, with this breach or none. Its bus gave all of its turns
+-- both sides went through a frame, with this breach or none. A bus with a breach gave all of its
+-- turns
 pub record GoThrough (x : BridgeRun) (frame : ℕ) (l r : Side) (breach : Option Break) : Type 0 where
   pub some : GiveSome x
   pub through : breach ≡ None → AreThrough x frame l r
@@ -198,19 +199,19 @@ EndsAs x ending.Ended =
 EndsAs x ending.Breach =
     (k : Break) × ((x.both ≡ true → break_of x.b ≡ Some k) × ((frame : ℕ) × GivesAllOn x frame k.bank))
 
--- all was written that is said of the bridge, where both drives are plain. The drives gave turns of
+-- all that is said of the bridge was written, if both drives are plain. The drives gave turns of
 -- its runs
 pub record WritesAll (x : BridgeRun) (held after : Option (List ℕ)) (e : Ending) : Type 0 where
   pub some : GiveSome x
   pub text : x.both ≡ true → Appends held after (bridge_text x.b)
   pub ends : EndsAs x e
 
--- or a first part of it
+-- a first part of what is said of the bridge was written
 pub record WritesPart (x : BridgeRun) (held after : Option (List ℕ)) : Type 0 where
   pub some : GiveSome x
   pub text : x.both ≡ true → AppendsPart held after (bridge_text x.b)
 
--- all of it was written, or where a write failed a first part
+-- all that is said of the bridge was written, or a first part of it if a write failed
 pub record Writes {E : Type 0} (b : Bridge) (d : Drives) (held after : Option (List ℕ)) (result : Result Ending E) : Type 0 where
   pub all : (both : Bool) → ArePlain both d.left.is_plain d.right.is_plain → IfOk result (WritesAll (run_of b both d.left d.right) held after)
   pub part : (both : Bool) → ArePlain both d.left.is_plain d.right.is_plain → OnErr result (WritesPart (run_of b both d.left d.right) held after)

@@ -24,12 +24,12 @@ bridge_refusals =
 abbrev pub bridge_refusal_of : ℕ → Refusal
 bridge_refusal_of code = slice_index_or bridge_refusals (code - 21) (rule [])
 
--- a refusal has the code, and a number is given exactly where that refusal has one
+-- a refusal has the code, and a number is given if and only if that refusal has one
 pub record IsBridgeRefusal (code : ℕ) (detail : Option ℕ) : Type 0 where
   pub least : 21 ≤ code
   pub most : code ≤ 25
   pub number : is_some detail ≡ (bridge_refusal_of code).has_number
 
--- refused CODE NAME, and the number where there is one
+-- the line refused CODE NAME, and the number if there is one
 abbrev pub bridge_refused_text : ℕ → Option ℕ → List ℕ
 bridge_refused_text code detail = line_of (codes "refused") (decimal code ∷ (bridge_refusal_of code).name ∷ last_field detail)

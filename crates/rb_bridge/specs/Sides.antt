@@ -70,14 +70,13 @@ pub record Driven : Type 0 where
   pub told : Option (List Turn)
   pub since : Option (List Turn)
 
--- a drive that is plain or not, had told this at first, and has told that since
+-- a drive that is plain or not, with what it had told before the call and what it has told since
 abbrev pub drive_of : Bool → Option (List Turn) → Option (List Turn) → Driven
 drive_of is_plain told since = record { is_plain = is_plain; told = told; since = since }
 
 -- Between two frames, with any drive.
 
--- these turns were given, and the last one, which is beyond the frame of which all is kept that
--- they tell
+-- these turns were given. The last one is beyond the frame of which all is kept that the turns tell
 pub record HasPassed (sc : Scenario) (handed : List HandIn) (is_plain : Bool) (told since : Option (List Turn)) (s : Side) (before : List Turn) : Type 0 where
   pub given : IsUnderWay sc handed is_plain told since s.world (before ++ s.turn ∷ []) (is_last (record_of s.turn))
   pub going : AreNotLast before
@@ -112,8 +111,8 @@ pub record IsInStep (b : Bridge) (bank : Bank) (frame : ℕ) (handed : List Hand
   pub begins : is_last (record_of s.turn) ≡ false → s.passage.ports.frame ≡ frame
   pub breaks : is_last (record_of s.turn) ≡ true → frame < b.left.frames → ¬ (break_by bank frame (record_of s.turn) ≡ None)
 
--- It was handed what the bridge carries. A breach of this frame is the last turn, and else all of
--- the frame is told
+-- The side was handed what the bridge carries. A breach of this frame is the last turn; if there is
+-- none, all of the frame is told
 pub record HasTold (b : Bridge) (bank : Bank) (frame : ℕ) (handed : List HandIn) (s : Side) : Type 0 where
   pub handed_is : handed ≡ hands_on bank (hands_up_to b frame)
   pub breach : break_in bank frame (records_on b (hands_of b) bank) ≡ break_by bank frame (record_of s.turn)
@@ -162,7 +161,7 @@ pub record RunsOut (sc : Scenario) (handed : List HandIn) (is_plain : Bool) (tol
   pub turns : List Turn
   pub given : AreGivenOf sc handed is_plain told since turns (records_of sc handed)
 
--- The first turns of the run of the bus on a bank were given. Where both drives are plain, it was
+-- The first turns of the run of the bus on a bank were given. If both drives are plain, it was
 -- handed what the bridge carries, up to the start of a frame, and they are the first of the run
 -- with all that the bridge carries
 pub record GivesSome (b : Bridge) (bank : Bank) (both : Bool) (d : Driven) : Type 0 where
@@ -174,8 +173,8 @@ pub record GivesSome (b : Bridge) (bank : Bank) (both : Bool) (d : Driven) : Typ
   pub plain : both ≡ true → handed ≡ hands_on bank (hands_up_to b frame)
   pub crosses : both ≡ true → IsPrefix records (records_on b (hands_of b) bank)
 
--- All of them were, with what it was handed up to the start of this frame. Where both drives are
--- plain, that is the run with all that the bridge carries
+-- All turns of the run of the bus on a bank were given, with what it was handed up to the start of
+-- this frame. If both drives are plain, that is the run with all that the bridge carries
 pub record GivesAll (b : Bridge) (bank : Bank) (frame : ℕ) (both : Bool) (d : Driven) : Type 0 where
   pub handed : List HandIn
   pub turns : List Turn

@@ -74,7 +74,7 @@ bridge_of left right t = record {
 
 -- Ranges.
 
--- the item, where the test holds
+-- the item, if the test holds
 abbrev pub when : {X : Type 0} → Bool → X → Option X
 when test x = if test then Some x else None
 
@@ -83,7 +83,7 @@ abbrev pub is_below : ℕ → Option Data → Bool
 is_below count (Some (integer (pos n))) = nat_lt n count
 is_below count _ = false
 
--- it is the number of a BIU, whose application is a table
+-- the number is that of a BIU whose application is a table
 abbrev pub is_head : Scenario → Option Data → Bool
 is_head sc d = is_below sc.sizes.bius d && (get_or sc.apps (number_or 0 d) 0 == 0)
 

@@ -17,13 +17,13 @@ use Rattle.rb_bridge_top.specs.Inputs.{IsRefusedWith, IsUnread, RefusesText, Fai
 use Rattle.rb_bridge_top.specs.Statuses.{HasEnded, HasFailed, MayRefuse, RunsNothing, WritesNothing, end_of, status_of}
 use Rattle.rb_bridge_top.specs.Words.{AskFor}
 
--- Usage comes exactly where the words ask for no form
+-- Usage is the answer if and only if the words ask for no form
 pub record UsageExactly (status : Status) (words : List (String Global)) : Type 0 where
   pub unknown : status ≡ answer.Usage → (form : Form) → ¬ AskFor words form
   pub refused : ((form : Form) → ¬ AskFor words form) → status ≡ answer.Usage
   pub known : ¬ (status ≡ answer.Usage) → (form : Form) × AskFor words form
 
--- the source, the sink and the drives are as they were, where the words or the answer leave them so
+-- the source, the sink and the drives are as they were, if the words or the answer leave them so
 pub record Untouched {S K D : Type 0} (words : List (String Global)) (status : Status) (source source' : S) (sink sink' : K) (left left' right right' : D) : Type 0 where
   pub unread : ¬ AskFor words Run → source' ≡ source
   pub unwritten : WritesNothing status → sink' ≡ sink
@@ -37,12 +37,12 @@ pub record IsCrossed (x : BridgeRun) (status : Status) (held held' : Option (Lis
   pub answer_is : status ≡ status_of ending
   pub written : WritesAll x held held' ending
 
--- all that is said of a bridge was written, or where a write failed a first part
+-- all that is said of a bridge was written, or a first part of it if a write failed
 pub record Reports (b : Bridge) (d : Drives) (status : Status) (held held' : Option (List ℕ)) : Type 0 where
   pub ended : HasEnded status → (both : Bool) → ArePlain both d.left.is_plain d.right.is_plain → IsCrossed (run_of b both d.left d.right) status held held'
   pub part : status ≡ answer.WriteFault → (both : Bool) → ArePlain both d.left.is_plain d.right.is_plain → WritesPart (run_of b both d.left d.right) held held'
 
--- the input has been read, and it says this bridge. Where `both` is true, both drives are plain
+-- the input has been read, and it says this bridge. If `both` is true, both drives are plain
 pub record Ends (both : Bool) (status : Status) (left left' held held' : Option (List ℕ)) (lp : Bool) (ltold lsince : Option (List Turn)) (rp : Bool) (rtold rsince : Option (List Turn)) : Type 0 where
   pub input : List ℕ
   pub bridge : Bridge

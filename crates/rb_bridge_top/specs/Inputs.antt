@@ -36,8 +36,8 @@ pub record IsRefusedWith (input line : List ℕ) : Type 0 where
 
 -- Reading.
 
--- TooLong comes exactly where the source gave more bytes than the limit, and ReadFault only where
--- the count of its faults rose
+-- TooLong is the answer if and only if the source gave more bytes than the limit, and ReadFault
+-- only if the count of its faults rose
 pub record IsUnread (status : Status) (left left' : Option (List ℕ)) (faults faults' : ℕ) : Type 0 where
   pub too_long : status ≡ answer.TooLong → Gave left left' (λ n. input_limit < n)
   pub short_enough : ¬ (status ≡ answer.TooLong) → Gave left left' (λ n. n ≤ input_limit)
@@ -59,7 +59,7 @@ pub record RefusesText (left left' held held' : Option (List ℕ)) : Type 0 wher
   pub refused : IsRefusedWith input line
   pub written : Appends held held' line
 
--- or of that line the first bytes are written, and the count of the sink's faults rose
+-- only the first bytes of that line are written, and the count of the sink's faults rose
 pub record FailsToRefuse (left left' held held' : Option (List ℕ)) (faults faults' : ℕ) : Type 0 where
   pub input : List ℕ
   pub line : List ℕ

@@ -73,7 +73,7 @@ IsOfRun Refused = ⊥
 IsOfRun TooLong = ⊥
 IsOfRun ReadFault = ⊥
 
--- the answers where an input was not read to its end
+-- the answers if an input was not read to its end
 abbrev pub IsNotRead : Status → Type 0
 IsNotRead TooLong = ⊤
 IsNotRead ReadFault = ⊤
@@ -89,7 +89,7 @@ abbrev pub status_of : Ending → Status
 status_of ending.Ended = Done
 status_of ending.Breach = Breach
 
--- and to one with this breach, or none
+-- the status of a bridge with this breach, or with none
 abbrev pub status_with : Option Break → Status
 status_with None = Done
 status_with (Some break) = Breach

@@ -137,6 +137,6 @@ pub record Promised (run : Run) : Type 0 where
   pub keeps : KeepsThePromise run.scenario run.hands
   pub words : DeliverTheHeldWord run.scenario run.hands
 
--- the run that the bus is in is one of which all of that holds
+-- the run that the bus is in keeps all that is promised of a run
 abbrev pub KeepsItsPromise : Bus → Type 0
 KeepsItsPromise = ForItsRun Promised

@@ -16,7 +16,7 @@ pub record Votes : Type 0 where
 abbrev pub no_vectors : List Heard
 no_vectors = replicate 16 Fault
 
--- the voted vector of a sender, Fault where none was entered
+-- the voted vector of a sender, Fault if none was entered
 abbrev pub vector_in : List Heard → ℕ → Heard
 vector_in vectors i = get_or vectors i Fault
 

@@ -1,4 +1,4 @@
--- Of which arrivals an inbox is the record.
+-- The arrivals that an inbox records.
 use Rattle.std.specs.Prelude.{ℕ, ◌≡◌, ◌≤◌, ◌<◌, ◌==◌, ◌&&◌, not, Bool, true, false, ◌⊎◌, List, [], ◌∷◌, length, filter, map, slice_index_or}
 use Rattle.rb_base.specs.Nodes.{has}
 use Rattle.rb_rules.specs.declared.sense.Expect.{Expect}
@@ -21,8 +21,8 @@ arrivals_of source received = map (λ r. r.arrival) (filter (λ r. r.source == s
 abbrev pub sense_in : Expect → List Received → ℕ → Sense
 sense_in e received source = sense_of e (arrivals_of source received)
 
--- what is kept: the sources of which something came, those of which it can be no message, and the
--- sole arrivals of the others
+-- what is kept: the sources from which something came, those whose arrivals can be no message, and
+-- the sole arrivals of the others
 pub record KeptArrivals : Type 0 where
   pub came : ℕ
   pub spoilt : ℕ
@@ -32,7 +32,7 @@ pub record KeptArrivals : Type 0 where
 abbrev pub sole_at : List Sole → ℕ → Sole
 sole_at soles source = slice_index_or soles source (record { at = 0; low = 0; tail = 0 })
 
--- of the source came one arrival that is no longer than any message
+-- from this source one arrival came, and it is no longer than any message
 abbrev pub is_sole : KeptArrivals → ℕ → Bool
 is_sole kept source = has kept.came source && not (has kept.spoilt source)
 

@@ -1,5 +1,5 @@
--- What is taken of sources in a window, and whom that accuses, whatever list of arrivals the inbox
--- stands for.
+-- What is accepted from sources in a window, and whom that accuses, whatever list of arrivals the
+-- inbox stands for.
 use Rattle.std.specs.Prelude.{ℕ, ◌≡◌, ◌<◌, ◌^◌, ◌&&◌, not, Bool, true, false, if◌then◌else◌, Option, Some, None, List}
 use Rattle.rb_base.specs.Nodes.{has, set_of}
 use Rattle.rb_base.specs.declared.values.Heard.{Heard}
@@ -10,7 +10,7 @@ use Rattle.rb_rules.specs.Standing.{Standing, has_evidence, taken_of, with_evide
 use Rattle.rb_eligible.specs.Inboxes.{HoldsArrivals, KeptArrivals, Received, sense_in, sole_at}
 use Rattle.rb_eligible.specs.declared.reading.Sole.{Sole}
 
--- the sources among these of which exactly one message came that is meant for the window
+-- the sources among these from which exactly one message came that is meant for the window
 abbrev pub AreOnesOf : KeptArrivals → Expect → (ℕ → Bool) → ℕ → Type 0
 AreOnesOf kept e among ones = (received : List Received) → HoldsArrivals kept received → ones ≡ set_of (λ j. among j && is_one (sense_in e received j))
 
@@ -24,20 +24,21 @@ abbrev pub AreTakenOf : KeptArrivals → Standing → Expect → ℕ → List (O
 AreTakenOf kept s e expected taken = (received : List Received) → HoldsArrivals kept received
     → taken ≡ each_node (taken_of value_in s (has expected) (sense_in e received))
 
--- after the window each node is accused against which it has evidence
+-- after the window each node against which there is evidence is accused
 abbrev pub AccusesBy : KeptArrivals → Standing → Expect → ℕ → Standing → Type 0
 AccusesBy kept s e expected after = (received : List Received) → HoldsArrivals kept received → after ≡ with_evidence (has_evidence s (has expected) (sense_in e received)) s
 
--- of these sources none is left any longer but those of the second set: of the others each has the
--- same bytes, and the value was taken; nothing changed for those that weren't left before
+-- of these sources only those of the second set are left: each of the others has the same bytes,
+-- and its value was accepted; nothing changed for those that were not left before
 pub record IsRun (kept : KeptArrivals) (left rest : ℕ) (sole : Sole) (value : Option Heard) (before taken : List (Option Heard)) : Type 0 where
   pub within : (j : ℕ) → j < 16 → has rest j ≡ true → has left j ≡ true
   pub same : (j : ℕ) → j < 16 → has left j ≡ true → has rest j ≡ false
       → (at_source taken j ≡ value) × ((sole_at kept.soles j).low ≡ sole.low) × ((sole_at kept.soles j).tail ≡ sole.tail)
   pub others : (j : ℕ) → j < 16 → has left j ≡ false → at_source taken j ≡ at_source before j
 
--- what was taken of the sources of a set but of those that are left, which of them are ones, and of
--- each of the leading ones the same value was taken
+-- what was accepted from the sources of a set, without those that are left; which of them sent one
+-- message that is meant for the window; and that the same value was accepted from each of the
+-- leading ones
 pub record IsPartial (kept : KeptArrivals) (e : Expect) (due left ones lead : ℕ) (value : Option Heard) (taken : List (Option Heard)) : Type 0 where
   pub fits : ones < 2 ^ 16
   pub within : (j : ℕ) → j < 16 → has left j ≡ true → has due j ≡ true

@@ -21,7 +21,7 @@ use Rattle.rb_gen.specs.Draws.{numbers_drawn}
 abbrev pub sizes : Sizes
 sizes = record { bius = 8; rmus = 5; data_slots = 16 }
 
--- the plan that a document has where it names none
+-- the plan that a document has if it names none
 unfoldable pub plan : Plan
 plan = record {
   u = 10000;
@@ -110,7 +110,8 @@ say_to frames rmu = record {
 
 -- The scenario.
 
--- that of these numbers. Each BIU asks for two data slots, and has its number, from 1, as its word
+-- the generated scenario of these numbers. Each BIU asks for two data slots, and has its number,
+-- from 1, as its word
 unfoldable pub scenario_of : List ℕ → ℕ → Scenario
 scenario_of drawn frames = record {
   sizes = sizes;
@@ -126,11 +127,11 @@ scenario_of drawn frames = record {
   says = map (say_to frames) (numbers 4);
 }
 
--- that of a seed and a number of frames
+-- the generated scenario of a seed and a number of frames
 abbrev pub generated : ℕ → ℕ → Scenario
 generated seed frames = scenario_of (drawn_from seed) frames
 
--- it is that of some seed and some number of frames
+-- the scenario is the generated one of some seed and some number of frames
 pub record IsGenerated (sc : Scenario) : Type 0 where
   pub seed : ℕ
   pub frames : ℕ

@@ -79,7 +79,7 @@ link_lines from to delay =
 abbrev pub rule_lines : Rule → List (List ℕ)
 rule_lines rule = link_lines (named rule.from) (named rule.to) rule.delay
 
--- a fault: its node, and the frame and the slot from which on that is not good
+-- the lines of a fault: its node, and the frame and the slot from which on the node is not good
 abbrev pub fault_lines : NodeName → Option (ℕ × ℕ) → List (List ℕ)
 fault_lines node onset =
     codes "[[fault]]\n"

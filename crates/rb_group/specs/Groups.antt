@@ -38,8 +38,8 @@ abbrev pub heard_of : Option ℕ → Heard
 heard_of None = Fault
 heard_of (Some word) = Word word
 
--- of n words in ascending order the one at place (n - 1) / 2, counted from 0, rounded down; Fault
--- where there is no word
+-- the word at place (n - 1) / 2, rounded down, of the n words in ascending order, counted from 0;
+-- Fault if there is no word
 abbrev pub middle_word_of : List Heard → Heard
 middle_word_of values = heard_of (middle_of (words_in values))
 

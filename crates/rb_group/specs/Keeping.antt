@@ -1,4 +1,4 @@
--- Of which deliveries a group holds the values.
+-- The deliveries whose values a group holds.
 use Rattle.std.specs.Prelude.{ℕ, ◌≡◌, ◌<◌, Option, Some, None, List, get_or, is_some, length, slice_set, if◌then◌else◌}
 use Rattle.rb_base.specs.declared.values.Delivery.{Delivery}
 use Rattle.rb_base.specs.declared.values.Heard.{Heard}

@@ -1,4 +1,4 @@
--- What is kept of a run of which a group is asked.
+-- What is kept of a run whose group is asked for.
 use Rattle.std.specs.Prelude.{ℕ, ◌≡◌, Some, List, length, slice_get}
 use Rattle.rb_base.specs.declared.values.Delivery.{Delivery}
 use Rattle.rb_rules.specs.Book.{Record}
@@ -16,18 +16,18 @@ pub record HoldsPortion (members : ℕ) (deliveries : List Delivery) (g : KeptGr
   pub members_are : g.members ≡ members
   pub heard : HasHeard g deliveries
 
--- and so does each of the 16 groups, of what was told of its port
+-- there are 16 groups, and each holds its portion of what was told of its port
 pub record HoldPortions (members : ℕ) (told : ℕ → List Delivery) (groups : List KeptGroup) : Type 0 where
   pub many : length groups ≡ 16
   pub each : (i : ℕ) (g : KeptGroup) → slice_get groups i ≡ Some g → HoldsPortion members (told i) g
 
--- this is what of the scenario tells who is asked
+-- the part of the scenario that decides which receivers are asked
 pub record IsScopeOf (sc : Scenario) (scope : Scope) : Type 0 where
   pub sizes_are : scope.shape ≡ sc.sizes
   pub frames_are : scope.frames ≡ sc.frames
   pub onsets_are : scope.onsets ≡ faults_of sc
 
--- it is the frame that these records have reached, with what they tell of it
+-- the frame is the one that these records have reached, and what is kept is what they tell of it
 pub record HoldsFrame (frames : ℕ) (asked : Asked) (records : List Record) (ports : Ports) : Type 0 where
   pub frame_is : ports.frame ≡ reached frames records
   pub groups_hold : HoldPortions asked.members (λ i. port_deliveries ports.frame i records) ports.groups

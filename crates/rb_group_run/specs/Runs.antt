@@ -1,4 +1,4 @@
--- What comes of a run of which a group is asked, when it is taken to its end.
+-- What is written of a run whose group is asked for, when it is run to its end.
 use Rattle.std.specs.Prelude.{ℕ, ◌≡◌, Bool, Option, List, Result, IfOk, OnErr, OnOk}
 use Rattle.std.specs.Io.KnownBytes.{Appends}
 use Rattle.rb_rules.specs.Goodness.{Scenario}
@@ -30,7 +30,7 @@ pub record WritesPart (sc : Scenario) (asked : Asked) (is_plain : Bool) (told si
   pub text : AppendsPart held after (text_of sc asked turns)
 
 -- the run went to its end, and what its turns say of the group was written, or a first part of it
--- where a write failed. The bus stays, and how the drive drives
+-- if a write failed. The bus stays, and so does the kind of drive
 pub record WritesGroups {D K E : Type 0} (asked : Asked) (k after : KeptWorld) (is_plain : D → Bool) (told : D → Option (List Turn)) (drive drive' : D)
     (held : K → Option (List ℕ)) (faults : K → ℕ) (output output' : K) (result : Result Ending E) : Type 0 where
   pub all : OnOk result (WritesAll k.bus asked (is_plain drive) (told drive) (told drive') (held output) (held output'))

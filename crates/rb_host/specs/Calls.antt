@@ -32,7 +32,7 @@ pub record IsAnswered (seat : Seat) (after : Option AnyNode) (number : ℕ) : Ty
   pub refused : IfErr made (IsRefused seat)
   pub none : OnErr made (after ≡ None)
 
--- what a call makes of the node; where there is none, there is none after it
+-- what a call makes of the node; if there is none before it, there is none after it
 abbrev pub Becomes : (AnyNode → AnyNode → Type 0) → Option AnyNode → Option AnyNode → Type 0
 Becomes P None after = after ≡ None
 Becomes P (Some n) after = IsSomeAnd after (P n)

@@ -28,7 +28,7 @@ running_in (node.Rmu n) = n
 abbrev pub StandsFor : AnyNode → Core → Type 0
 StandsFor n c = IsCore (running_in n) c
 
--- the same node of the same bus
+-- the node is the same node of the same bus
 pub record IsSame (before after : AnyNode) : Type 0 where
   pub kind : side_in after ≡ side_in before
   pub node : IsSameNode (running_in before) (running_in after)
@@ -62,7 +62,7 @@ pub record Steps (before : AnyNode) (word : ℕ) (after : AnyNode) (act : Act) :
       → IsWholeAct (running_in before).seat.plan.version act (tick_of (side_in before) (running_in before) c word)
   pub same : IsSame before after
 
--- the next tick that isn't quiet, or 2^31
+-- the next tick that is not quiet, or 2^31
 abbrev pub IsNextTick : AnyNode → ℕ → Type 0
 IsNextTick n tick = (c : Core) → StandsFor n c → tick ≡ unwrap_or (next_of (side_in n) (running_in n) c) (2 ^ 31)
 

@@ -60,8 +60,8 @@ unlike_so_far s j = has s.unlike j || has s.unlike_now j
 abbrev pub taken_so_far : KeptKind → ℕ → Bool
 taken_so_far s j = has s.taken j || has s.heard_now j
 
--- a new stage with these sets, in which something was taken of these nodes, and these were seen
--- unlike
+-- a new stage with these sets, in which something was accepted from these nodes, and these were
+-- seen unlike
 pub record Begins (before after : KeptKind) (good trusted taken unlike : ℕ) : Type 0 where
   pub good_is : after.good ≡ good
   pub trusted_is : after.trusted ≡ trusted
@@ -103,7 +103,7 @@ before_now (s ∷ earlier) = earlier
 
 -- what is kept of the nodes of this kind is what the stages show: the newest stage's sets and
 -- sights, and of each node whether it was seen unlike in an earlier stage, and whether anything was
--- taken of it
+-- accepted from it
 pub record ShowsKind (kind : Side) (stages : List JudgedStage) (s : KeptKind) : Type 0 where
   pub good : s.good ≡ good_now kind stages
   pub trusted : s.trusted ≡ trusted_now kind stages
@@ -111,8 +111,8 @@ pub record ShowsKind (kind : Side) (stages : List JudgedStage) (s : KeptKind) : 
   pub unlike : (j : ℕ) → j < 16 → has s.unlike j ≡ list_any (was_unlike kind j) (before_now stages)
   pub taken : (j : ℕ) → j < 16 → has s.taken j ≡ list_any (was_taken kind j) (before_now stages)
 
--- of the nodes of this kind as much is kept as their classes depend on: the newest stage's sets,
--- and of each node whether it was seen unlike in a stage, and whether anything was taken of it
+-- what is kept of the nodes of this kind is what their classes depend on: the newest stage's sets,
+-- and of each node whether it was seen unlike in a stage, and whether anything was accepted from it
 pub record KnowsKind (kind : Side) (stages : List JudgedStage) (s : KeptKind) : Type 0 where
   pub good : s.good ≡ good_now kind stages
   pub trusted : s.trusted ≡ trusted_now kind stages

@@ -23,7 +23,7 @@ some_unlike eps nodes sight = some_node (λ a. has nodes a && some_node (λ b. h
 abbrev pub some_differs : ℕ → ℕ → (ℕ → See) → See → Bool
 some_differs eps nodes sight x = some_node (λ i. has nodes i && not (are_alike eps (sight i) x))
 
--- a sight is unlike one of those of which this is kept
+-- a sight is unlike one of the sights of which this is kept
 abbrev pub clashes : ℕ → KeptSight → See → Bool
 clashes eps Unlike x = true
 clashes eps (Value v) see.Nothing = true
@@ -56,8 +56,8 @@ is_unlike Unlike = true
 is_unlike (Value v) = false
 is_unlike (Times least greatest) = false
 
--- this is kept of what the receivers saw: whether they saw unlike, and if not, what tells of each
--- further sight whether it is unlike one of theirs
+-- this is kept of what the receivers saw: whether two saw the source unlike, and if not, what
+-- decides of each further sight whether it is unlike one of theirs
 pub record IsKept (eps nodes : ℕ) (sight : ℕ → See) (kept : KeptSight) : Type 0 where
   pub unlike : is_unlike kept ≡ some_unlike eps nodes sight
   pub further : is_unlike kept ≡ false → (x : See) → is_something x ≡ true → clashes eps kept x ≡ some_differs eps nodes sight x

@@ -1,4 +1,4 @@
--- Of which stages a judge is the record.
+-- The stages that a judge records.
 use Rattle.std.specs.Prelude.{ℕ, ◌≡◌, Bool, List, slice_index}
 use Rattle.rb_base.specs.Nodes.{has}
 use Rattle.rb_base.specs.Nodes.Side.{Biu, Rmu}
@@ -22,8 +22,8 @@ pub record HoldsStages (judge : KeptJudge) (stages : List JudgedStage) : Type 0 
   pub bius : ShowsKind Biu stages judge.bius
   pub rmus : ShowsKind Rmu stages judge.rmus
 
--- it knows of them what the classes depend on. A judge that stands for stages does; one that knows
--- them need not have been told who saw what in the newest one
+-- the judge knows of these stages what the classes depend on. A judge that stands for stages knows
+-- it; one that knows them need not have been told who saw what in the newest one
 pub record Knows (judge : KeptJudge) (stages : List JudgedStage) : Type 0 where
   pub bius : KnowsKind Biu stages judge.bius
   pub rmus : KnowsKind Rmu stages judge.rmus

@@ -33,6 +33,6 @@ DeliverTheHeldWord sc hands =
     → (owner : ℕ) → owner_at sc.sizes st slot ≡ Some owner → is_good sc Biu owner frame slot ≡ true → get_or sc.apps owner 0 ≡ 0
     → HasRecord sc hands frame slot (lines_of sc frame slot owner (Word (state_held sc hands owner frame % 2 ^ 32)))
 
--- this holds in every lawful scenario, for any hand-ins
+-- the held words are delivered in every lawful scenario, for any hand-ins
 abbrev pub HeldWordsAreDelivered : Type 0
 HeldWordsAreDelivered = (sc : Scenario) (hands : List HandIn) → IsLawful sc → DeliverTheHeldWord sc hands

@@ -7,12 +7,12 @@ use Rattle.rb_rules.specs.Goodness.{Scenario}
 use Rattle.rb_rules.specs.Moments.{before_stage}
 use Rattle.rb_rules.specs.Ports.{PortState, HandIn, fresh_port, delivered_to}
 
--- the value in a slot's lines, which all have one; none where there is no line
+-- the one value in a slot's lines; none if there is no line
 abbrev pub value_in_lines : List SlotLine → Option Heard
 value_in_lines [] = None
 value_in_lines (line ∷ lines) = Some line.value
 
--- what the bus delivers in a slot: nothing but in a data slot that is not idle
+-- what the bus delivers in a slot: a value in a data slot that is not idle, and otherwise nothing
 abbrev pub delivered_in : Scenario → List HandIn → ℕ → ℕ → Option Heard
 delivered_in sc hands frame slot = value_in_lines (before_stage sc hands frame slot 3).book.lines
 

@@ -34,7 +34,7 @@ GoodNodesAgree =
     → (frame slot : ℕ) → slot < sync_slot_of sc.sizes → IsComplete sc hands frame slot
     → (value : Heard) × HasValue sc hands frame slot value
 
--- where the sender is good, it is the sender's own
+-- if the sender is good, the value is the sender's own
 abbrev pub GoodSendersAreHeard : Type 0
 GoodSendersAreHeard =
     (sc : Scenario) (hands : List HandIn) → IsLawful sc
@@ -42,7 +42,7 @@ GoodSendersAreHeard =
     → (p : ℕ) (st : NodeState) → IsGoodSender sc hands frame slot p st
     → HasValue sc hands frame slot (value_of_sender sc hands frame slot p st)
 
--- so all good BIUs deliver one value, and where the owner is good, the word that its application
+-- all good BIUs deliver one value, and if the owner is good, it is the word that its application
 -- offered
 abbrev pub DeliveriesAreRight : Type 0
 DeliveriesAreRight = (sc : Scenario) (hands : List HandIn) → IsLawful sc → DeliverAlike sc hands × DeliverTheWord sc hands
@@ -56,7 +56,8 @@ TrustAlike sc hands =
     → IsGoodBefore sc hands frame slot me i mine → IsGoodBefore sc hands frame slot you j yours
     → (kind : Side) → trusted_of kind me mine ≡ trusted_of kind you yours
 
--- they hold one schedule, trust the same nodes, and so hold the same ones convicted
+-- all good nodes hold one schedule, trust the same nodes, and therefore hold the same ones
+-- convicted
 pub record HoldTheSame (sc : Scenario) (hands : List HandIn) : Type 0 where
   pub schedules : HoldOneSchedule sc hands
   pub trusted : TrustAlike sc hands
@@ -82,7 +83,7 @@ NoGoodNodeIsConvicted = (sc : Scenario) (hands : List HandIn) → IsLawful sc �
 abbrev pub vector_slot_of : Scenario → Side → ℕ → ℕ
 vector_slot_of sc kind p = first_diagnosis_of kind sc.sizes + p
 
--- a node of which no good node took anything in the frame so far has no valid vector
+-- a node from which no good node accepted anything in the frame so far has no valid vector
 abbrev pub UnheardNodesHaveNoVector : Type 0
 UnheardNodesHaveNoVector =
     (sc : Scenario) (hands : List HandIn) → IsLawful sc
@@ -142,10 +143,10 @@ PortsHoldOneState = (sc : Scenario) (hands : List HandIn) → IsLawful sc → Go
 abbrev pub RoundsStepTheBus : Type 0
 RoundsStepTheBus = (sc : Scenario) (hands : List HandIn) → IsLawful sc → (low : ℕ → ℕ) → StepsTheBus sc hands low
 
--- where good nodes keep time, the rounds stand for a run of the bus
+-- if good nodes keep time, the rounds stand for a run of the bus
 abbrev pub TimeIsAllThatIsLeft : Type 0
 TimeIsAllThatIsLeft = (sc : Scenario) (hands : List HandIn) → IsLawful sc → KeepsTime sc hands → StandsFor sc hands
 
--- and all that the bus promises holds
+-- if good nodes keep time, all that the bus promises holds
 abbrev pub TimeKeepsThePromise : Type 0
 TimeKeepsThePromise = (sc : Scenario) (hands : List HandIn) → IsLawful sc → KeepsTime sc hands → Headline sc hands

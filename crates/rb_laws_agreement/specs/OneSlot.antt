@@ -1,6 +1,6 @@
--- One slot below the sync slot, stage by stage, whatever comes of the nodes that are not good:
--- agreement, validity, and that no good node is accused. There are no clocks, links and bytes in
--- it: what came of a node is its sense, and all bytes have one.
+-- One slot below the sync slot, stage by stage, whatever nodes that are not good do: agreement,
+-- validity, and that no good node is accused. There are no clocks, links and bytes in it: what came
+-- from a node is its sense, and all bytes have one.
 use Rattle.std.specs.Prelude.{ℕ, zero, suc, ◌≡◌, ◌+◌, ◌<◌, ◌≤◌, ◌&&◌, not, Bool, true, false, Option, Some, None, is_some, List, length, ◌⊎◌}
 use Rattle.rb_base.specs.Counting.{count_if, numbers}
 use Rattle.rb_base.specs.Nodes.{Side, other, has}
@@ -22,12 +22,12 @@ use Rattle.rb_laws_agreement.specs.Values.{vote_on}
 
 -- One stage at one node.
 
--- of what a node takes in a stage more comes of these good sources than of others
+-- a node accepts more values from these good sources than from others in a stage
 abbrev pub GoodOutnumber : (ℕ → Bool) → (ℕ → Option Heard) → Type 0
 GoodOutnumber good takes = count_if (λ j. not (good j) && is_some (takes j)) (numbers 16) < count_if good (numbers 16)
 
--- validity of a vote: where each good source says this value, and they outnumber the others, it is
--- the vote
+-- validity of a vote: if each good source says this value, and they outnumber the others, it is the
+-- vote
 abbrev pub VotesAreValid : Type 0
 VotesAreValid =
     (s : Standing) (expected : ℕ → Bool) (sense : ℕ → Sense) (good : ℕ → Bool) (value : Heard)
@@ -100,14 +100,14 @@ pub record IsExchange (x : Exchange) (trusted : Side → ℕ) (owners : List ℕ
       → Brings (state_after x q (other me) j) x.slot (q + 1)
       (says x.sizes (other me) j (state_after x q (other me) j) x.slot (q + 1) (x.word j)) (x.came (q + 1) me i j)
 
--- no node of the kind is asymmetric: of each that is not good all good nodes take the same
+-- no node of the kind is asymmetric: from each node that is not good all good nodes accept the same
 abbrev pub NoneIsAsymmetric : Exchange → Side → Type 0
 NoneIsAsymmetric x kind =
     (q a b j : ℕ) → q < 3 → x.good (other kind) a ≡ true → x.good (other kind) b ≡ true → x.good kind j ≡ false
     → takes_after x q (other kind) a j ≡ takes_after x q (other kind) b j
 
--- the premise on faults: in stages 2 and 3 good sources outnumber all others of which a good node
--- takes something, and of one kind no node is asymmetric
+-- the fault premise: in stages 2 and 3 good sources outnumber all others from which a good node
+-- accepts something, and of one kind no node is asymmetric
 pub record KeepsPremise (x : Exchange) : Type 0 where
   pub most : (q : ℕ) (me : Side) (i : ℕ) → 1 ≤ q → q < 3 → x.good me i ≡ true
       → GoodOutnumber (x.good (other me)) (takes_after x q me i)
@@ -132,7 +132,7 @@ abbrev pub value_sent : Exchange → ℕ → Heard
 value_sent x p =
     let role = role_of x.sizes x.slot in own_value (x.before (sender_kind role) p) role (x.word p)
 
--- validity: where the sender is good, all vote for what it says
+-- validity: if the sender is good, all vote for what it says
 abbrev pub VoteForGoodSender : Exchange → (Side → ℕ) → List ℕ → Type 0
 VoteForGoodSender x trusted owners =
     (p : ℕ) → sender_of x trusted owners ≡ Node p → x.good (sender_kind (role_of x.sizes x.slot)) p ≡ true

@@ -30,7 +30,7 @@ pub record IsGoodVoter (sc : Scenario) (hands : List HandIn) (frame slot i : ℕ
 abbrev pub vote_on : NodeState → ℕ → Heard
 vote_on st slot = get_or st.votes slot Fault
 
--- what is delivered in a slot: where it has an owner the value, at each good BIU
+-- what is delivered in a slot: if it has an owner the value, at each good BIU
 abbrev pub lines_in : Scenario → ℕ → ℕ → Option ℕ → Heard → List SlotLine
 lines_in sc frame slot None value = []
 lines_in sc frame slot (Some owner) value = lines_of sc frame slot owner value

@@ -35,8 +35,8 @@ abbrev pub LaterHandInsTellNothing : Type 0
 LaterHandInsTellNothing =
     (sc : Scenario) (hands more : List HandIn) (frame : ℕ) → All (λ h. frame < h.frame) more → TellsTheSame sc hands more frame
 
--- so what is said of a frame of a bridge, and what it carries over, goes by what was handed in up
--- to its start alone
+-- what is said of a frame of a bridge, and what it carries over, depends only on what was handed in
+-- up to its start
 pub record GoesByTheEarlier (b : Bridge) (bank : Bank) (frame : ℕ) : Type 0 where
   pub values : (receiver : ℕ) → crossing_value b bank frame receiver
       ≡ value_at Most (members_on b bank) (records_on b (hands_up_to b frame) bank) frame receiver
@@ -46,8 +46,8 @@ pub record GoesByTheEarlier (b : Bridge) (bank : Bank) (frame : ℕ) : Type 0 wh
 abbrev pub FramesGoByTheEarlier : Type 0
 FramesGoByTheEarlier = (b : Bridge) (bank : Bank) (frame : ℕ) → frame ≤ b.left.frames → GoesByTheEarlier b bank frame
 
--- and what is handed in for a frame is what the frame before it carries over, by the records of
--- both buses with all that is handed in
+-- what is handed in for a frame is what the frame before it carries over, by the records of both
+-- buses with all that is handed in
 abbrev pub HandInsAreCarried : Type 0
 HandInsAreCarried =
     (b : Bridge) (bank : Bank) (frame : ℕ) → frame < b.left.frames
@@ -60,7 +60,7 @@ frame_told frames (Slot frame slot lines) = frame
 frame_told frames Ended = frames
 frame_told frames (Breach place cause) = place.frame
 
--- these records tell of a frame what all records of the run do
+-- these records tell of a frame what all records of the run tell of it
 pub record TellAll (sc : Scenario) (hands : List HandIn) (frame : ℕ) (records : List Record) : Type 0 where
   pub deliveries : (receiver : ℕ) → port_deliveries frame receiver records ≡ port_deliveries frame receiver (records_of sc hands)
   pub breach : (bank : Bank) → break_in bank frame records ≡ break_in bank frame (records_of sc hands)
@@ -92,8 +92,8 @@ BeginsOrEnds sc frame r = (frame_in (Some r) ≡ Some frame) ⊎ EndsDeserted sc
 abbrev pub AreUpTo : ℕ → ℕ → List Record → Type 0
 AreUpTo frames frame records = (before after : List Record) (r : Record) → records ≡ before ++ r ∷ after → frame_told frames r ≤ frame
 
--- so the first record of a later frame is the one with which the next frame begins, and where no
--- BIU is good there, the last
+-- the first record of a later frame is the one with which the next frame begins, or the last one if
+-- no BIU is good there
 abbrev pub FramesBeginInOrder : Type 0
 FramesBeginInOrder =
     (sc : Scenario) → IsLawful sc → (hands : List HandIn) (records rest : List Record) (r : Record) (frame : ℕ)
@@ -105,8 +105,7 @@ pub record AreFirstOf (records run : List Record) : Type 0 where
   pub first : IsPrefix records run
   pub whole : (before : List Record) (r : Record) → records ≡ before ++ r ∷ [] → ends_run r ≡ true → run ≡ records
 
--- so the first records of a run, up to a frame, stay the first, whatever is handed in for later
--- frames
+-- the first records of a run, up to a frame, stay the first, whatever is handed in for later frames
 abbrev pub EarlierRecordsStay : Type 0
 EarlierRecordsStay =
     (sc : Scenario) (hands more : List HandIn) (records : List Record) (frame : ℕ) → All (λ h. frame < h.frame) more
@@ -120,7 +119,7 @@ GoodBiusTellTheBus =
     (sc : Scenario) (hands : List HandIn) → IsLawful sc → (frame slot : ℕ) → slot < sync_slot_of sc.sizes → IsComplete sc hands frame slot
     → (i : ℕ) → is_good sc Biu i frame slot ≡ true → value_told frame slot (records_of sc hands) i ≡ delivered_in sc hands frame slot
 
--- and one that is not delivers nothing, so a pair carries 0 from it
+-- a BIU that is not good delivers nothing, so a pair carries 0 from it
 abbrev pub OtherBiusTellNothing : Type 0
 OtherBiusTellNothing =
     (sc : Scenario) (hands : List HandIn) → IsLawful sc → (frame slot i : ℕ) → is_good sc Biu i frame slot ≡ false
@@ -140,25 +139,25 @@ is_good_through sc frame i = is_good sc Biu i frame (sync_slot_of sc.sizes)
 abbrev pub counts_on : Bridge → Bank → (ℕ → Option ℕ) → Pair → Bool
 counts_on b bank owner pair = is_some (first_slot (bus_on b bank).sizes owner (biu_on bank pair))
 
--- and it is good in the whole frame after this one, as the pair's BIU across the bridge is in this
--- one
+-- the pair counts, its BIU on this bank is good in the whole frame after this one, and its BIU
+-- across the bridge is good in this whole frame
 abbrev pub is_sound : Bridge → Bank → (ℕ → Option ℕ) → ℕ → Pair → Bool
 is_sound b bank owner frame pair =
     counts_on b bank owner pair && (is_good_through (bus_on b bank) (frame + 1) (biu_on bank pair)
     && is_good_through (bus_on b (across bank)) frame (biu_on (across bank) pair))
 
--- such pairs outnumber the others that count
+-- sound pairs outnumber the others that count
 unfoldable pub SoundPairsOutnumber : Bridge → Bank → (ℕ → Option ℕ) → ℕ → Type 0
 SoundPairsOutnumber b bank owner frame =
     count_if (λ pair. counts_on b bank owner pair && not (is_sound b bank owner frame pair)) b.pairs < count_if (is_sound b bank owner frame) b.pairs
 
--- the word that the bus on a bank delivered in its carried slot of a frame, or 0 where it delivered
+-- the word that the bus on a bank delivered in its carried slot of a frame, or 0 if it delivered
 -- none
 abbrev pub word_on : Bridge → Bank → ℕ → ℕ
 word_on b bank frame = word_of (delivered_in (bus_on b bank) (hands_on bank (hands_of b)) frame (carried_slot b bank))
 
--- then in the next frame each BIU on the far bank that is good in all of it finds the word of the
--- near bus
+-- in the next frame each BIU on the far bank that is good in all of it finds the word of the near
+-- bus
 abbrev pub WordsCrossOn : Bridge → Type 0
 WordsCrossOn b =
     (bank : Bank) (frame : ℕ) → AreUnbroken b (frame + 1)

@@ -5,8 +5,7 @@ use Rattle.rb_rules.specs.Goodness.{Scenario}
 use Rattle.rb_rules.specs.Lawful.{IsLawful}
 use Rattle.rb_rules.specs.WorldStep.{World, go_on, needs_no_event}
 
--- where the next record needs no event, the call that asks for it gives one: so no run stands still
--- there
+-- if the next record needs no event, the call that asks for it gives one: no run stops there
 abbrev pub WhatNeedsNoEventIsGiven : Type 0
 WhatNeedsNoEventIsGiven =
     (sc : Scenario) → IsLawful sc → (w : World) → w.book.ended ≡ false → needs_no_event sc w.book.upcoming ≡ true

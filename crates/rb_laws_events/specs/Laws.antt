@@ -36,7 +36,7 @@ EventsOnlyAdd =
     (sc : Scenario) (w : World) (c : Choice)
     → IsPrefix w.book.given (choose sc w c).book.given × (w.book.ended ≡ true → (choose sc w c).book ≡ w.book)
 
--- as long as a core's next busy tick is not reached, ticks without a word change its count alone
+-- until a core's next busy tick is reached, ticks without a word change only its count
 abbrev pub QuietTicksCount : Type 0
 QuietTicksCount =
     (sizes : Sizes) (plan : Plan) (me : Side) (index n : ℕ) (c : Core) (k : ℕ) → c.had ≤ 2 ^ 31
@@ -58,14 +58,14 @@ OneTurnARecord sc =
     → ((i : ℕ) (d : Due) → slice_get (due_of sc (world_after sc choices)) i ≡ Some d → IsNextTurn sc (world_after sc choices) (take sc (world_after sc choices) i))
     × ((world_after sc choices).book.ended ≡ false → IsNextTurn sc (world_after sc choices) (go_on sc (world_after sc choices)))
 
--- whatever was chosen: as long as the run has not ended, and where its next record needs an event,
--- some event is due
+-- whatever was chosen: as long as the run has not ended, and its next record needs an event, some
+-- event is due
 abbrev pub SomethingIsDue : Scenario → Type 0
 SomethingIsDue sc =
     (choices : List Choice) → (world_after sc choices).book.ended ≡ false → needs_no_event sc (world_after sc choices).book.upcoming ≡ false
     → 1 ≤ length (due_of sc (world_after sc choices))
 
--- 1 where the choice takes a due event
+-- 1 if the choice takes a due event, and 0 if it does not
 abbrev pub taken_by : Scenario → World → Choice → ℕ
 taken_by sc w (Take i) = elim (slice_get (due_of sc w) i) [ None ↦ 0 | Some d ↦ 1 ]
 taken_by sc w GoOn = 0

@@ -19,9 +19,9 @@ use Rattle.rb_rules.specs.Ports.{HandIn}
 use Rattle.rb_rules.specs.Rounds.{Moment, window_in, word_for_window}
 use Rattle.rb_rules.specs.WorldStep.{Choice, Site, Timed, World, world_after}
 
--- Where a core stands.
+-- The moment of a core.
 
--- the state in which a core takes its next tick: where that is the first of its next frame, it has
+-- the state in which a core takes its next tick: if that is the first of its next frame, it has
 -- turned
 abbrev pub ready_state : Scenario → Side → Core → NodeState
 ready_state sc me c = state_at sc.sizes sc.plan me c.state c.had
@@ -55,7 +55,7 @@ pub record HoldsTheState (sc : Scenario) (m : Moment) (me : Side) (i : ℕ) (c :
   pub good : is_good sc me i m.frame (open_window sc me c).slot ≡ true
   pub state : IsStateOf sc m me i st (ready_state sc me c)
 
--- core i of kind me stands in a slot in which its node is not good
+-- core i of kind me is in a slot in which its node is not good
 abbrev pub StandsWhereNotGood : Scenario → Side → ℕ → Core → Type 0
 StandsWhereNotGood sc me i c = is_good sc me i (ready_state sc me c).frame (open_window sc me c).slot ≡ false
 
@@ -70,21 +70,21 @@ pub record RunningNode (w : World) (me : Side) : Type 0 where
   pub ahead : Timed
   pub pends : site.ahead ≡ Some ahead
 
--- its core's own moment
+-- the own moment of a running node's core
 abbrev pub moment_of : {w : World} → {me : Side} → Scenario → RunningNode w me → Moment
 moment_of {w} {me} sc node = own_moment sc w.hands me node.site.core
 
--- its core holds the state of the rounds there
+-- a running node's core holds the state of the rounds at its own moment
 abbrev pub HoldsItsState : {w : World} → {me : Side} → Scenario → RunningNode w me → Type 0
 HoldsItsState {w} {me} sc node = HoldsTheState sc (moment_of sc node) me node.index node.site.core
 
--- and a BIU has the port of the rounds there
+-- a running BIU has the port of the rounds at its own moment
 abbrev pub HasItsPort : {w : World} → Scenario → RunningNode w Biu → Type 0
 HasItsPort {w} sc node = port_at sc w.ports node.index ≡ port_at sc (moment_of sc node).ports node.index
 
 -- The laws.
 
--- the world is before the breaking stage: the first stage that is not settled in it is none of a
+-- the world is before the breaking stage: the first stage that is not settled in it is not one of a
 -- sync slot with which the run ends
 abbrev pub IsBeforeTheBreak : Scenario → World → Type 0
 IsBeforeTheBreak sc w =
@@ -95,14 +95,14 @@ IsBeforeTheBreak sc w =
 pub record HoldsTheRounds (sc : Scenario) (w : World) : Type 0 where
   pub cores : (me : Side) (node : RunningNode w me) → HoldsItsState sc node
   pub ports : (node : RunningNode w Biu) → HasItsPort sc node
-  -- a node that runs has a tick to come, and one that has stopped stands in a slot in which it is
-  -- not good
+  -- a node that runs has a tick to come, and one that has stopped is in a slot in which it is not
+  -- good
   pub pending : (me : Side) (i : ℕ) (s : Site) → slice_get (of_kind me w.sites) i ≡ Some s
       → s.runs ≡ true → is_some s.ahead ≡ true
   pub stopped : (me : Side) (i : ℕ) (s : Site) → slice_get (of_kind me w.sites) i ≡ Some s
       → s.runs ≡ false → StandsWhereNotGood sc me i s.core
 
--- and in each world it does so, unless the run has ended by its own moment
+-- in each world every running node follows the rounds, unless the run has ended by its own moment
 pub record FollowsTheRounds (sc : Scenario) (w : World) : Type 0 where
   pub cores : (me : Side) (node : RunningNode w me) → IsRunning (moment_of sc node) → HoldsItsState sc node
   pub ports : (node : RunningNode w Biu) → IsRunning (moment_of sc node) → HasItsPort sc node
@@ -113,6 +113,7 @@ CoresAreThoseOfTheRounds =
     (sc : Scenario) → IsLawful sc
     → (choices : List Choice) → IsBeforeTheBreak sc (world_after sc choices) → HoldsTheRounds sc (world_after sc choices)
 
--- and in every world, also where some nodes have left that stage already
+-- the cores follow the rounds in every world, also if some nodes have left the breaking stage
+-- already
 abbrev pub CoresFollowTheRounds : Type 0
 CoresFollowTheRounds = (sc : Scenario) → IsLawful sc → (choices : List Choice) → FollowsTheRounds sc (world_after sc choices)

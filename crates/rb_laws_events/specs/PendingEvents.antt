@@ -10,13 +10,13 @@ use Rattle.rb_rules.specs.Slots.{count_of}
 use Rattle.rb_rules.specs.WorldStep.{Choice, Site, World, after_act, due_of, pass_and_tick, times_of, world_after}
 use Rattle.rb_rules.specs.WorldStep.Pending.{Tick}
 
--- what comes to a node of this kind: of each node of the other kind a message for the window in
--- which the node stands and one for the next, and where the run breaks off in a sync slot two more
--- until it has ended; and besides these what is said to it in three windows
+-- what comes to a node of this kind, at most: from each node of the other kind a message for the
+-- window in which the node is and one for the next, and two more until the run has ended, if it
+-- breaks off in a sync slot; and what is said to the node in three windows
 abbrev pub most_coming : Scenario → Side → ℕ
 most_coming sc me = 4 * count_of (other me) sc.sizes + 3 * length sc.says
 
--- and with it the node's tick
+-- what is pending at a node of this kind, at most: what comes to it, and its tick
 abbrev pub most_pending : Scenario → Side → ℕ
 most_pending sc me = most_coming sc me + 1
 

@@ -16,8 +16,8 @@ pub record NodesKeepThePromise (sc : Scenario) (w : World) : Type 0 where
   pub agree : RunningNodesAgree sc w  -- in one slot the same as each other
   pub ports : RunningPortsAgree sc w  -- after one slot equal ports
 
--- Of every world that choices lead to from the scenario's first one, and of the rounds with any
--- hand-ins
+-- What holds in every world to which choices lead from the scenario's first one, and in the rounds
+-- with any hand-ins
 pub record RunningNodesKeepThePromise (sc : Scenario) : Type 0 where
   pub nodes : (choices : List Choice) → NodesKeepThePromise sc (world_after sc choices)
   pub ports : (hands : List HandIn) → GoodPortsAgree sc hands

@@ -36,7 +36,7 @@ begin_of_slot {w} {me} sc slot node = time_in_frame sc me node.index (state_of s
 abbrev pub convicted_by : {w : World} → {me : Side} → Scenario → Side → RunningNode w me → ℕ
 convicted_by {w} {me} sc kind node = convicted_of sc.sizes kind me (state_of sc node)
 
--- it stands in the slot, in one of its stages or, in the sync slot, in the tail; and the slot is
+-- the node is in the slot, in one of its stages or, in the sync slot, in the tail; and the slot is
 -- complete in the rounds, or its frame begins with it and the node is in the first stage
 pub record StandsInSlot {w : World} {me : Side} (sc : Scenario) (frame slot : ℕ) (node : RunningNode w me) : Type 0 where
   pub frame_is : (state_of sc node).frame ≡ frame
@@ -83,7 +83,7 @@ NodesConvictAlike sc w =
     → StandsInSlot sc frame slot mine → StandsInSlot sc frame slot yours
     → (kind : Side) → convicted_by sc kind mine ≡ convicted_by sc kind yours
 
--- and none holds a node convicted that is good in the slot
+-- no running node holds a node convicted that is good in the slot
 abbrev pub NodesConvictNoGoodNode : Scenario → World → Type 0
 NodesConvictNoGoodNode sc w =
     (frame slot : ℕ) (me : Side) (node : RunningNode w me) → StandsInSlot sc frame slot node

@@ -30,7 +30,7 @@ IsGoodPort sc frame i = is_good sc Biu i frame (last_data_slot sc.sizes) ≡ tru
 abbrev pub AreServed : Scenario → List HandIn → ℕ → Type 0
 AreServed sc hands frame = IsComplete sc hands frame (last_data_slot sc.sizes)
 
--- these are the owners of the data slots, by whichever good node's schedule
+-- these are the owners of the data slots, by the schedule of any good node
 abbrev pub IsSchedule : Scenario → List HandIn → ℕ → (ℕ → Option ℕ) → Type 0
 IsSchedule sc hands frame owner =
     (slot : ℕ) → sc.sizes.bius ≤ slot → slot ≤ last_data_slot sc.sizes
@@ -74,7 +74,7 @@ is_good_owner sc hands frame owner members i = has members i && is_some (offer_o
 abbrev pub offers : Scenario → List HandIn → ℕ → (ℕ → Option ℕ) → ℕ → ℕ → ℕ → Bool
 offers sc hands frame owner members word i = has members i && is_number word (offer_of sc hands frame owner i)
 
--- of the 16 BIUs that there may be more pass the first test than the second alone
+-- of the 16 BIUs that there may be more pass the first test than pass only the second
 unfoldable pub Outnumber : (ℕ → Bool) → (ℕ → Bool) → Type 0
 Outnumber chosen all = count_if (λ i. not (chosen i) && all i) (numbers 16) < count_if chosen (numbers 16)
 

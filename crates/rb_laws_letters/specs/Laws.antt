@@ -13,8 +13,7 @@ use Rattle.rb_laws_letters.specs.Sent.{Call, IsFirstPart, IsLetter, Sent, after_
 
 -- Words.
 
--- the words of a letter, where none is open before them, give this letter alone, and leave none
--- open
+-- the words of a letter, if none is open before them, give this letter alone, and leave none open
 pub record IsRead (letter : List ℕ) : Type 0 where
   pub given : given_with None (heard_words (spelling_of letter)) ≡ letter ∷ []
   pub after : open_after None (heard_words (spelling_of letter)) ≡ None
@@ -22,9 +21,9 @@ pub record IsRead (letter : List ℕ) : Type 0 where
 abbrev pub LettersAreRead : Type 0
 LettersAreRead = (letter : List ℕ) → IsLetter letter → IsRead letter
 
--- Of words that are, but for zeros anywhere between them, the first of these letters' words: the
--- letters that they give are the first of these, each whole and once, and all of these where all
--- their words are there
+-- If words are the first of these letters' words, with zeros anywhere between them, the letters
+-- that they give are the first of these, each whole and once, and all of these if all their words
+-- are there
 pub record GivesTheFirst (letters : List (List ℕ)) (words : List ℕ) : Type 0 where
   pub first : IsFirstPart (given_with None (heard_words words)) letters
   pub all : without_zeros words ≡ words_of letters → given_with None (heard_words words) ≡ letters
@@ -33,8 +32,8 @@ abbrev pub WordsGiveTheirLetters : Type 0
 WordsGiveTheirLetters =
     (letters : List (List ℕ)) (words : List ℕ) → All IsLetter letters → IsFirstPart (without_zeros words) (words_of letters) → GivesTheFirst letters words
 
--- Of such words is what a sender gives, whatever is pushed and whenever it is asked. All the words
--- are there once nothing waits
+-- What a sender gives are the first words of its letters, with zeros between them, whatever is
+-- pushed and whenever it is asked. All the words are there once nothing waits
 pub record SendsItsLetters (s : Sent) : Type 0 where
   pub first : IsFirstPart (without_zeros s.words) (words_of s.taken)
   pub all : s.waiting ≡ [] → without_zeros s.words ≡ words_of s.taken
@@ -45,7 +44,7 @@ SendersSendTheirLetters = (calls : List Call) → SendsItsLetters (after_calls c
 
 -- Rounds.
 
--- these are the first records of a scenario, or all of them
+-- these are the first records of a scenario's run, or all of them
 abbrev pub AreFirst : Scenario → List HandIn → List Record → Type 0
 AreFirst sc hands records = IsFirstPart records (records_of sc hands)
 

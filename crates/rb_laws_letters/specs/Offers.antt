@@ -17,7 +17,7 @@ is_good_in sc i (Slot frame slot lines) = is_good sc Biu i frame slot
 is_good_in sc i Ended = true
 is_good_in sc i (Breach place cause) = true
 
--- and in all that these tell
+-- BIU i is good in all that these records tell
 abbrev pub IsGoodThrough : Scenario → ℕ → List Record → Type 0
 IsGoodThrough sc i records = All (λ r. is_good_in sc i r ≡ true) records
 
@@ -30,7 +30,7 @@ abbrev pub is_owner : ℕ → Option ℕ → Bool
 is_owner i None = false
 is_owner i (Some owner) = owner == i
 
--- the word that the BIU offers in the slot of a record, where it owns that slot
+-- the word that the BIU offers in the slot of a record, if it owns that slot
 abbrev pub offers : Scenario → List HandIn → ℕ → Record → List ℕ
 offers sc hands i (Frame frame nodes ports) = []
 offers sc hands i (Slot frame slot lines) =

@@ -47,7 +47,7 @@ pub record Sent : Type 0 where
 abbrev pub nothing_sent : Sent
 nothing_sent = record { waiting = []; taken = []; words = [] }
 
--- after a letter was pushed: it is taken if it is not refused
+-- what was sent after a letter was pushed: the letter is taken if it is not refused
 abbrev pub with_push : List ℕ → Option LongRefusal → Sent → Sent
 with_push letter None s = record { waiting = with_letter s.waiting letter; taken = s.taken ++ letter ∷ []; words = s.words }
 with_push letter (Some refusal) s = s

@@ -46,13 +46,14 @@ abbrev pub epoch_with : Scenario → ℕ → ℕ → Side → NodeState → Epoc
 epoch_with sc frame tick me st =
     record { frame = frame; tick = tick; biu = convicted_of sc.sizes Biu me st; rmu = convicted_of sc.sizes Rmu me st }
 
--- Where this tick is among those that are spoken of, it tells with it that the frame begins, and
--- convicts whom all good nodes do. With no other tick it tells that the frame begins
+-- If this tick is among the listener's ticks, the listener tells with it that the frame begins, and
+-- holds the same nodes convicted as all good nodes. With no other tick it tells that the frame
+-- begins
 pub record TellsFrame (sc : Scenario) (hands : List HandIn) (ear : Ear) (frame tick : ℕ) : Type 0 where
   pub tells : (me : Side) (i : ℕ) (st : NodeState) → IsGoodBefore sc hands frame 0 me i st → tick < ear.ticks → (told_at sc ear tick).epoch ≡ Some (epoch_with sc frame tick me st)
   pub only : (k : ℕ) (e : Epoch) → k < ear.ticks → (told_at sc ear k).epoch ≡ Some e → e.frame ≡ frame → k ≡ tick
 
--- it tells nothing of the learned frame and of those before it
+-- the listener tells nothing of the learned frame and of those before it
 pub record TellsLater (sc : Scenario) (ear : Ear) (learned : ℕ) : Type 0 where
   pub epochs : (k : ℕ) (e : Epoch) → k < ear.ticks → (told_at sc ear k).epoch ≡ Some e → learned < e.frame
   pub deliveries : (k : ℕ) (d : Delivery) → k < ear.ticks → (told_at sc ear k).delivered ≡ Some d → learned < d.frame
@@ -82,7 +83,8 @@ pub record ClosesAt (sc : Scenario) (bus : ℕ → AbstractBus) (ear : Ear) (fra
   pub as_bus : ClosesAsTheBus sc (bus (steps_to sc.sizes frame slot)) (bus (steps_to sc.sizes frame slot + 1)) (state_at sc.sizes sc.plan Biu core.state tick) x
   pub told : (told_at sc ear tick).delivered ≡ x.delivered
 
--- it is a stage of the frame that begins with this tick, and tick k is the stage's last
+-- the closed window is a stage of the frame that begins with tick `begin`, and tick k is the
+-- stage's last
 pub record IsItsTick (sizes : Sizes) (plan : Plan) (frame begin k : ℕ) (x : Closed) : Type 0 where
   pub n : ℕ
   pub window : Window
@@ -92,10 +94,10 @@ pub record IsItsTick (sizes : Sizes) (plan : Plan) (frame begin k : ℕ) (x : Cl
 
 -- The whole.
 
--- It begins the frame with this tick, near all good nodes, and tells that. What it tells is of
--- frames after the learned one. Each window of a slot that comes before the first breach it closes
--- as the bus does, with the window's last tick. With no other ticks it closes stages of the frame,
--- and delivers in it
+-- The listener begins the frame with this tick, near all good nodes, and tells that. What it tells
+-- is of frames after the learned one. It closes each window of a slot before the first breach as
+-- the bus does, with the window's last tick. With no other ticks it closes stages of the frame, or
+-- delivers in it
 pub record FollowsFrame (sc : Scenario) (hands : List HandIn) (bus : ℕ → AbstractBus) (ear : Ear) (learned : ℕ) (records : List Sense) (frame tick : ℕ) : Type 0 where
   pub near : (me : Side) (i : ℕ) (st : NodeState) → IsGoodBefore sc hands frame 0 me i st → LieWithin sc.plan.p (time_of ear.clock tick) (time_in_frame sc me i st 0)
   pub epochs : TellsFrame sc hands ear frame tick
@@ -107,7 +109,7 @@ pub record FollowsFrame (sc : Scenario) (hands : List HandIn) (bus : ℕ → Abs
   pub deliveries : (k : ℕ) (d : Delivery) → k < ear.ticks → (told_at sc ear k).delivered ≡ Some d → d.frame ≡ frame
       → (d.slot < sync_slot_of sc.sizes) × (k ≡ tick + (3 * d.slot + 2) * sc.plan.l - 1)
 
--- Whatever the listener hears of RMUs that are not good: where it decides by a frame that comes to
+-- Whatever the listener hears from RMUs that are not good: if it decides by a frame that comes to
 -- its end before the first breach of the premise with the listener, it follows the bus in each
 -- later frame that starts before that breach
 abbrev pub ListenersFollowTheBus : Type 0

@@ -12,7 +12,8 @@ use Rattle.rb_rules.specs.Rounds.{windows_in}
 use Rattle.rb_laws_listener_near.specs.Laws.{LieWithin}
 use Rattle.rb_laws_listener_learns.specs.Ears.{Ear, IsHeard, SendsIn, coming_to}
 
--- it begins the frame with this tick, which is not its first, at most p from each good node
+-- the listener begins the frame with this tick, which is not its first, at most p from each good
+-- node
 pub record BeginsNear (sc : Scenario) (hands : List HandIn) (ear : Ear) (frame epoch : ℕ) : Type 0 where
   pub past : 1 ≤ epoch
   pub near : (me : Side) (i : ℕ) (st : NodeState) → IsGoodBefore sc hands frame 0 me i st → LieWithin sc.plan.p (time_of ear.clock epoch) (time_in_frame sc me i st 0)
@@ -21,8 +22,7 @@ pub record BeginsNear (sc : Scenario) (hands : List HandIn) (ear : Ear) (frame e
 abbrev pub moment_before : Scenario → ℕ → ℕ → ℕ → ℕ
 moment_before sc frame slot stage = frame * (windows_in sc.sizes + 1) + 3 * slot + stage - 1
 
--- the tick is one of the stage's window below the sync slot, where the frame begins with tick
--- `epoch`
+-- the tick is one of the stage's window below the sync slot, if the frame begins with tick `epoch`
 pub record IsTickIn (sc : Scenario) (epoch slot stage tick : ℕ) : Type 0 where
   pub from : epoch + (3 * slot + (stage - 1)) * sc.plan.l ≤ tick
   pub to : tick < epoch + (3 * slot + (stage - 1)) * sc.plan.l + sc.plan.l

@@ -13,9 +13,9 @@ use Rattle.rb_laws_listener_learns.specs.Ears.{Ear, HearsTheRun, IsEar}
 use Rattle.rb_laws_listener_learns.specs.Receivers.{IsCalm}
 use Rattle.rb_laws_listener_follows.specs.InTime.{BeginsNear, HearsTheStage}
 
--- where it begins a frame near the good nodes, it hears in each window below the sync slot what
--- good RMUs send in it, and nothing else of them: up to the first breach, and in the stage that
--- breaks the premise too
+-- a listener that begins a frame near the good nodes hears in each window below the sync slot what
+-- good RMUs send in it, and nothing else from them: up to the first breach, and also in the stage
+-- that breaks the premise
 abbrev pub RmusAreHeardInTime : Type 0
 RmusAreHeardInTime =
     (sc : Scenario) (hands : List HandIn) → IsLawful sc → (ear : Ear) → IsEar sc ear → HearsTheRun sc hands ear
@@ -23,8 +23,8 @@ RmusAreHeardInTime =
     → (slot stage : ℕ) → slot < sync_slot_of sc.sizes → 1 ≤ stage → stage ≤ 3 → IsRunning (before_stage sc hands frame slot stage)
     → HearsTheStage sc hands ear frame slot stage epoch
 
--- Where the learned frame comes to its end before the first breach of the premise with the
--- listener, it begins its first frame, the one after the learned one, near all good nodes
+-- If the learned frame comes to its end before the first breach of the premise with the listener,
+-- the listener begins its first frame, the one after the learned one, near all good nodes
 abbrev pub FirstFramesBeginNear : Type 0
 FirstFramesBeginNear =
     (sc : Scenario) (hands : List HandIn) → IsLawful sc → (ear : Ear) → IsEar sc ear → HearsTheRun sc hands ear

@@ -86,7 +86,7 @@ if_stamped k (Some s) = if suc s.tick == k then comes s ∷ [] else []
 unfoldable pub heard_with : ℕ → List Coming
 heard_with k = elim (is_offset k) [ true ↦ if_stamped k (sends_at (window_of k)) | false ↦ [] ]
 
--- it starts when the bus does
+-- this listener starts when the bus does
 abbrev pub ear : Ear
 ear = record { clock = steady; delay = λ j place. 10000; heard = heard_with; ticks = 484 }
 
@@ -99,6 +99,6 @@ search_in (now.Following core) = first_search
 unfoldable pub found_by : ℕ → Search
 found_by k = search_in (listening_at two_frames ear k)
 
--- it learns frame 1, and decides with this tick
+-- this listener learns frame 1, and decides with tick 463
 abbrev pub decided : Search
 decided = found_by 463

@@ -1,4 +1,4 @@
--- That good RMUs call, and the listener hears it.
+-- Good RMUs call, and the listener hears it.
 use Rattle.std.specs.Prelude.{ℕ, ◌≡◌, ◌+◌, ◌*◌, ◌≤◌, ◌<◌, true, List}
 use Rattle.rb_base.specs.Nodes.Side.{Rmu}
 use Rattle.rb_base.specs.Sizes.{sync_slot_of}
@@ -20,7 +20,7 @@ pub record IsHeardToCall (sc : Scenario) (hands : List HandIn) (ear : Ear) (n j 
   pub heard : (k : ℕ) → 1 ≤ k → k < ear.ticks → IsStamp ear.clock (coming_to sc ear j (moment sc hands n).frame sending).time k
       → IsHeard ear k (coming_to sc ear j (moment sc hands n).frame sending)
 
--- so does each RMU that is good in the sync slot, in its stage 2, if the run comes so far
+-- each RMU that is good in the sync slot is heard to call in its stage 2, if the run gets that far
 abbrev pub EachIsHeardToCall : Scenario → List HandIn → Ear → Type 0
 EachIsHeardToCall sc hands ear =
     (n j : ℕ) → IsRunning (moment sc hands n) → (moment sc hands n).window ≡ 3 * sync_slot_of sc.sizes + 1

@@ -20,7 +20,7 @@ pub record CallsHaveCome (sc : Scenario) (hands : List HandIn) (ear : Ear) (numb
   pub come : (j : ℕ) (s : Sending) → SendsIn sc hands n j s → (stamp : ℕ) → IsStamp ear.clock (coming_to sc ear j (moment sc hands n).frame s).time stamp
       → stamp ≤ tick
 
--- where the tick of the decision is fixed, all calls of good RMUs in the frame that is learned come
+-- if the tick of the decision is fixed, all calls of good RMUs in the frame that is learned come
 -- before it
 abbrev pub DecidesAfterTheCalls : Scenario → List HandIn → Ear → ℕ → Type 0
 DecidesAfterTheCalls sc hands ear k =

@@ -28,7 +28,7 @@ pub record Ear : Type 0 where
   pub heard : ℕ → List Coming
   pub ticks : ℕ
 
--- this message comes to it with this stamp
+-- this message comes to the listener with this stamp
 pub record IsHeard (ear : Ear) (k : ℕ) (c : Coming) : Type 0 where
   pub nth : ℕ
   pub there : slice_get (ear.heard k) nth ≡ Some c
@@ -52,7 +52,7 @@ pub record SendsIn (sc : Scenario) (hands : List HandIn) (n j : ℕ) (s : Sendin
   pub good : IsGoodIn sc (moment sc hands n) Rmu j state
   pub sends : sending_in sc (moment sc hands n) Rmu j state (window_in sc (moment sc hands n) Rmu state) ≡ Some s
 
--- as it comes to the listener
+-- the message of the sending, as it comes to the listener
 abbrev pub coming_to : Scenario → Ear → ℕ → ℕ → Sending → Coming
 coming_to sc ear j frame s = record {
   time = time_of (clock_of sc Rmu j) s.tick + ear.delay j (record { frame = frame; slot = s.message.slot; stage = s.message.stage });
@@ -67,9 +67,10 @@ pub record IsOfGood (sc : Scenario) (hands : List HandIn) (ear : Ear) (c : Comin
   pub sent : SendsIn sc hands n c.from sending
   pub is : c ≡ coming_to sc ear c.from (moment sc hands n).frame sending
 
--- the RMU that sent this is not good from some slot on, to which the run comes before its end. It
--- comes less than a tick and the stated skew before some good node begins that slot, or later: so
--- it may come from when the RMU itself begins the slot by its own clock, or the listener
+-- the RMU that sent this is not good from some slot on, to which the run comes before its end. The
+-- message comes less than a tick and the stated skew before some good node begins that slot, or
+-- later. So it may come from the time on at which the RMU itself, or the listener, begins the slot
+-- by its own clock
 pub record IsOfFaulty (sc : Scenario) (hands : List HandIn) (c : Coming) : Type 0 where
   pub frame : ℕ
   pub slot : ℕ
@@ -88,7 +89,7 @@ abbrev pub comes_to : Scenario → List HandIn → Option (ℕ × ℕ) → Bool
 comes_to sc hands None = false
 comes_to sc hands (Some onset) = not (before_slot sc hands onset.0 onset.1).book.ended
 
--- the RMUs that are good in the whole run: the run never comes to a slot from which on they are not
+-- RMU j is good in the whole run: the run never comes to a slot from which on it is not
 abbrev pub is_always_good : Scenario → List HandIn → ℕ → Bool
 is_always_good sc hands j = nat_lt j sc.sizes.rmus && not (comes_to sc hands (get_or sc.rmu_onsets j None))
 

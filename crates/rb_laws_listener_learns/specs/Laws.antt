@@ -27,7 +27,7 @@ use Rattle.rb_laws_listener_learns.specs.Seeking.{SeeksAFrame}
 use Rattle.rb_laws_listener_learns.specs.Waiting.{WaitsFor}
 use Rattle.rb_laws_listener_learns.specs.Together.{CallsComeTogether, LaterCallsComeLater}
 
--- an RMU is good in the whole run just where it is good in each slot to which the run comes
+-- an RMU is good in the whole run if and only if it is good in each slot to which the run comes
 abbrev pub AlwaysGoodIsGoodInEachSlot : Type 0
 AlwaysGoodIsGoodInEachSlot =
     (sc : Scenario) (hands : List HandIn) → IsLawful sc → (j : ℕ) → j < sc.sizes.rmus
@@ -43,8 +43,7 @@ FaultyRmusMaySpeakByAnyClock =
     → (c : Coming) → get_or sc.rmu_onsets c.from None ≡ Some (frame, slot)
     → time_of clock (epoch + 3 * slot * sc.plan.l) < c.time + shortest_of sc.plan → IsOfFaulty sc hands c
 
--- what a listener tells beside a run is what it tells where it is given these events one after
--- another
+-- what a listener tells beside a run is what it tells if it is given these events one after another
 abbrev pub EarsAreFedEvents : Type 0
 EarsAreFedEvents =
     (sc : Scenario) (ear : Ear) (word : ℕ → ℕ) (n : ℕ)
@@ -63,7 +62,7 @@ RecordsOfTheGoodAreTrue =
     (sc : Scenario) (hands : List HandIn) → IsLawful sc → (ear : Ear) → IsEar sc ear → HearsTheRun sc hands ear
     → (k : ℕ) → k < ear.ticks → RecordsAreTrue sc hands ear k
 
--- so it trusts nobody whom the bus does not trust
+-- a listener trusts nobody whom the bus does not trust
 abbrev pub ListenersTrustTheTrusted : Type 0
 ListenersTrustTheTrusted =
     (sc : Scenario) (hands : List HandIn) → IsLawful sc → (ear : Ear) → IsEar sc ear → HearsTheRun sc hands ear
@@ -78,17 +77,17 @@ GoodRmusAreHeardToCall =
 abbrev pub GoodCallsComeTogether : Type 0
 GoodCallsComeTogether = (sc : Scenario) (hands : List HandIn) → IsLawful sc → (ear : Ear) → IsEar sc ear → CallsComeTogether sc hands ear
 
--- and no two of unlike frames fall into one pass
+-- no two calls of different frames fall into one pass
 abbrev pub FramesComeApart : Type 0
 FramesComeApart = (sc : Scenario) (hands : List HandIn) → IsLawful sc → (ear : Ear) → IsEar sc ear → LaterCallsComeLater sc hands ear
 
--- so a listener decides after all calls of good RMUs in the frame that it learned have come
+-- a listener decides after all calls of good RMUs in the frame that it learned have come
 abbrev pub DecisionsComeAfterTheCalls : Type 0
 DecisionsComeAfterTheCalls =
     (sc : Scenario) (hands : List HandIn) → IsLawful sc → (ear : Ear) → IsEar sc ear → HearsTheRun sc hands ear
     → (k : ℕ) → k < ear.ticks → DecidesAfterTheCalls sc hands ear k
 
--- and it has whole what it learned
+-- a listener has whole what it learned
 abbrev pub RecordsOfTheGoodAreWhole : Type 0
 RecordsOfTheGoodAreWhole =
     (sc : Scenario) (hands : List HandIn) → IsLawful sc → (ear : Ear) → IsEar sc ear → HearsTheRun sc hands ear
@@ -101,15 +100,15 @@ ListenersTrustAsTheBus =
     → (learned tick : ℕ) (s : Search) → DecidesBy sc hands ear learned tick s
     → AreTrusted sc hands learned (sync_slot_of sc.sizes) (trusted_bius sc.sizes s.lesson.records) (trusted_rmus sc.sizes s.lesson.records)
 
--- and its first frame begins after the decision
+-- a listener's first frame begins after the decision
 abbrev pub DecisionsComeInTime : Type 0
 DecisionsComeInTime =
     (sc : Scenario) (hands : List HandIn) → IsLawful sc → (ear : Ear) → IsEar sc ear → HearsTheRun sc hands ear
     → (learned tick : ℕ) (s : Search) → DecidesBy sc hands ear learned tick s
     → (first : First) × ((first_of sc.sizes sc.plan s.lesson ≡ Some first) × (tick < first.epoch))
 
--- Where the learned frame comes to its end before the first breach of the premise with the
--- listener, it convicts as the bus does, too: it has learned all that it needs to follow
+-- If the learned frame comes to its end before the first breach of the premise with the listener,
+-- the listener also convicts as the bus does: it has learned all that it needs to follow
 abbrev pub ListenersLearn : Type 0
 ListenersLearn =
     (sc : Scenario) (hands : List HandIn) → IsLawful sc → (ear : Ear) → IsEar sc ear → HearsTheRun sc hands ear

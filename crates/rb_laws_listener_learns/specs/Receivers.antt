@@ -91,7 +91,7 @@ closing_in sc (now.Following c) = (follow sc.sizes sc.plan c).closed
 abbrev pub closing_at : Scenario → Ear → ℕ → Option Closed
 closing_at sc ear k = closing_in sc (listening_at sc ear k)
 
--- it is the window with this number of the frame
+-- the closed window is the one with this number in the frame
 abbrev pub is_window : ℕ → ℕ → Option Closed → Bool
 is_window frame window None = false
 is_window frame window (Some c) = (c.place.frame == frame) && (c.place.slot == window / 3) && (c.place.stage == window % 3 + 1)
@@ -115,8 +115,8 @@ seen_in sc ear learned records frame window s =
 
 -- The premise.
 
--- it holds up to moment n: on each stage of the run from the learned frame on, the verdict with the
--- listener tells no breach
+-- the fault premise holds up to moment n: on each stage of the run from the learned frame on, the
+-- verdict with the listener is no breach
 abbrev pub HoldsTo : Scenario → List HandIn → Ear → ℕ → List Sense → ℕ → Type 0
 HoldsTo sc hands ear learned records n =
     (i : ℕ) → i ≤ n → learned ≤ (moment sc hands i).frame → 1 ≤ (moment sc hands i).window

@@ -14,7 +14,7 @@ use Rattle.rb_laws_listener_learns.specs.Ears.{Ear, listening_at}
 abbrev pub HasCalls : Scenario → List HandIn → ℕ → Type 0
 HasCalls sc hands frame = IsRunning (before_stage sc hands frame (sync_slot_of sc.sizes) 2)
 
--- where the listener learns a frame at tick k, it is the one after a frame of the bus in which the
+-- if the listener learns a frame at tick k, it is the one after a frame of the bus in which the
 -- RMUs called
 abbrev pub SeeksAFrame : Scenario → List HandIn → Ear → ℕ → Type 0
 SeeksAFrame sc hands ear k =

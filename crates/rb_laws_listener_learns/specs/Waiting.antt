@@ -1,4 +1,4 @@
--- That a listener waits for its first frame, and then follows.
+-- A listener waits for its first frame, and then follows.
 use Rattle.std.specs.Prelude.{ℕ, ◌≡◌, ◌<◌, ◌≤◌}
 use Rattle.rb_rules.specs.Goodness.{Scenario}
 use Rattle.rb_listen.specs.Following.{follow}

@@ -25,8 +25,8 @@ pub record ComesAfter (sc : Scenario) (sent time : ℕ) : Type 0 where
   pub least : sent + sc.plan.dmin ≤ time
   pub most : time ≤ sent + sc.plan.dmax
 
--- it takes something only of RMUs that good nodes trust, each stamp is that of the time, none is 0,
--- and of each good RMU it takes the call, which comes in the delays
+-- the receiver accepts stamps only from RMUs that good nodes trust, each stamp is that of the time,
+-- and none is 0; and from each good RMU it accepts the call, which comes within the delays
 pub record TakesTheCalls (sc : Scenario) (hands : List HandIn) (frame : ℕ) (clock : Timeline) (taken : ℕ → Option ℕ) (time : ℕ → ℕ) : Type 0 where
   pub trusts : (j : ℕ) → is_some (taken j) ≡ true → (me : Side) (i : ℕ) (st : NodeState) → IsGoodInSync sc hands frame me i st → has (trusted_of Rmu me st) j ≡ true
   pub stamped : (j k : ℕ) → taken j ≡ Some k → (1 ≤ k) × (stamp_of clock (time j) ≡ k)

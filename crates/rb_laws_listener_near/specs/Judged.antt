@@ -1,5 +1,5 @@
--- The premise on faults with a listener as one more good receiver of the RMUs. It is no BIU, and is
--- not counted among the good.
+-- The fault premise with a listener as one more good receiver of the RMUs. It is no BIU, and is not
+-- counted among the good nodes.
 use Rattle.std.specs.Prelude.{ℕ, ◌&&◌, ◌||◌, not, Bool, false, Option, Some, None, List, [], ◌∷◌, length}
 use Rattle.std.specs.List.{list_any}
 use Rattle.rb_base.specs.Nodes.{Side, has, set_of}
@@ -8,8 +8,8 @@ use Rattle.rb_base.specs.declared.values.See.{See}
 use Rattle.rb_rules.specs.declared.cause.Cause.{Cause}
 use Rattle.rb_rules.specs.Judging.{ClassSets, JudgedStage, are_alike, cause_of, good_now, is_something, is_suspect, some_receiver, trusted_now, was_taken, was_unlike}
 
--- a stage as it is judged, and what the listener saw in it of each RMU, where it is a receiver in
--- that stage
+-- a stage as it is judged, and what the listener saw in it of each RMU, if it is a receiver in that
+-- stage
 pub record HeardStage : Type 0 where
   pub stage : JudgedStage
   pub seen : Option (ℕ → See)
@@ -20,7 +20,7 @@ took_of kind j None = false
 took_of Biu j (Some sight) = false
 took_of Rmu j (Some sight) = is_something (sight j)
 
--- it saw RMU j unlike some good BIU
+-- the listener saw RMU j unlike some good BIU
 abbrev pub unlike_some : Side → ℕ → JudgedStage → Option (ℕ → See) → Bool
 unlike_some kind j s None = false
 unlike_some Biu j s (Some sight) = false

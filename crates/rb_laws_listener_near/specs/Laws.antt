@@ -1,5 +1,5 @@
--- What is proved of a receiver of the RMUs beside the BIUs, whatever it hears of RMUs that are not
--- good.
+-- What is proved of a receiver of the RMUs beside the BIUs, whatever it hears from RMUs that are
+-- not good.
 use Rattle.std.specs.Prelude.{ℕ, ◌≡◌, ◌+◌, ◌≤◌, Option, Some, None, List}
 use Rattle.rb_base.specs.Nodes.{Side}
 use Rattle.rb_base.specs.Sizes.{sync_slot_of}
@@ -23,9 +23,9 @@ pub record LieWithin (far a b : ℕ) : Type 0 where
   pub before : a ≤ b + far
   pub after : b ≤ a + far
 
--- Where the sync slot is complete, and the premise holds in its stage 2 with this receiver as one
--- more, its next frame begins, if it counts from the middle of what it took as a BIU does, at most
--- p from that of each good node
+-- If the sync slot is complete, and the premise holds in its stage 2 with this receiver as one
+-- more, the receiver's next frame begins at most p from that of each good node, if it counts from
+-- the middle of what it accepted as a BIU does
 abbrev pub FramesBeginNear : Type 0
 FramesBeginNear =
     (sc : Scenario) (hands : List HandIn) → IsLawful sc → (frame : ℕ) → IsComplete sc hands frame (sync_slot_of sc.sizes) → AreMostGood sc frame

@@ -11,7 +11,7 @@ use Rattle.rb_rules.specs.WorldStep.{Due, Site, World, due_of, event_at, first_w
 
 -- The run.
 
--- a step where this is due: the first due event is taken, and where none is due, what needs no
+-- a step if these events are due: the first of them is taken, or if none is due, what needs no
 -- event is given
 abbrev pub step_with : Scenario → World → List Due → World
 step_with sc w [] = go_on sc w
@@ -56,8 +56,8 @@ given_in sc name zero = []
 given_in sc name (suc n) = given_in sc name n ++ given_next sc name (first_run sc n)
 
 -- the events are all that the node is given in the run. They end with its first tick of the last
--- block. With a breach they end where the run ends, and at a node that turns faulty with its last
--- tick before that
+-- block. With a breach they end with the run, and at a node that turns faulty with its last tick
+-- before that
 pub record AreGiven (sc : Scenario) (name : NodeName) (events : List Event) : Type 0 where
   pub steps : ℕ
   pub over : (first_run sc steps).book.ended ≡ true

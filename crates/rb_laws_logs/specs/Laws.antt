@@ -22,7 +22,7 @@ use Rattle.rb_laws_logs.specs.Replays.{replay_text}
 
 -- The lines of one node in the report of a run.
 
--- its first tick of a frame, the time left out
+-- the line of a node's first tick of a frame, without the time
 abbrev pub first_tick_of : NodeName → ℕ → NodeLine → List ℕ
 first_tick_of name frame n = if same_node n.node name then epoch_text frame name n.tick None else []
 

@@ -25,7 +25,7 @@ delivery_lines name (Some d) = delivery_text d.frame d.slot (index_of name) d.se
 abbrev pub act_lines : NodeName → Act → List ℕ
 act_lines name x = epoch_lines name x.epoch ++ delivery_lines name (option_and_then (λ c. c.delivered) x.closed)
 
--- 1 where a frame above 0 begins
+-- 1 if a frame above 0 begins, and 0 if not
 abbrev pub frames_with : Option Epoch → ℕ
 frames_with None = 0
 frames_with (Some e) = if nat_lt 0 e.frame then 1 else 0

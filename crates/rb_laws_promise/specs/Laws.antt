@@ -10,6 +10,6 @@ use Rattle.rb_rules.specs.StandsFor.{StandsFor}
 abbrev pub RoundsStandForTheBus : Type 0
 RoundsStandForTheBus = (sc : Scenario) (hands : List HandIn) → IsLawful sc → StandsFor sc hands
 
--- and every one keeps the promise
+-- every lawful scenario keeps the promise, with any hand-ins
 abbrev pub ThePromiseIsKept : Type 0
 ThePromiseIsKept = (sc : Scenario) (hands : List HandIn) → IsLawful sc → Headline sc hands

@@ -27,6 +27,6 @@ GetTheirShare sc hands =
     → (me : Side) (j : ℕ) (st : NodeState) → IsGoodBefore sc hands frame slot me j st
     → (i : ℕ) → is_good sc Biu i frame slot ≡ true → share_of sc i ≤ slots_of i st.owners
 
--- this holds in every lawful scenario, for any hand-ins
+-- good BIUs get their share in every lawful scenario, for any hand-ins
 abbrev pub GoodBiusGetTheirShare : Type 0
 GoodBiusGetTheirShare = (sc : Scenario) (hands : List HandIn) → IsLawful sc → GetTheirShare sc hands

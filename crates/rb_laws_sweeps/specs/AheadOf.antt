@@ -25,8 +25,8 @@ is_behind Rmu i Rmu j = nat_lt i j
 abbrev pub until_tick : Side → ℕ → ℕ → Side → ℕ → ℕ
 until_tick me i time side j = if is_behind me i side j then time else time + 1
 
--- of all ticks that are pending this is the first in time, and of those at its time the first in
--- the order of nodes
+-- the tick is the first in time of all ticks that are pending, and of those at its time the first
+-- in the order of nodes
 pub record IsFirstTick (w : World) (me : Side) (i : ℕ) (a : Timed) : Type 0 where
   pub node : Site
   pub there : slice_get (of_kind me w.sites) i ≡ Some node

@@ -14,15 +14,15 @@ use Rattle.rb_laws_sweeps.specs.Sweeping.{swept}
 abbrev pub due_from : ℕ → ℕ → List Coming → List Coming
 due_from until j cs = filter (λ c. (c.from == j) && nat_lt c.time until) cs
 
--- What the core kept of a source before a sweep, what of it was due, and what the core keeps of it
--- after the sweep: as many more as were due. Where nothing was due it keeps the same, and where one
--- was due and nothing was kept it keeps that one, with some stamp
+-- What the core kept from a source before a sweep, what was due from it, and what the core keeps
+-- from it after the sweep: as many more as were due. If nothing was due it keeps the same, and if
+-- one was due and nothing was kept it keeps that one, with some stamp
 pub record BringsArrivals (before : List Arrival) (due : List Coming) (after : List Arrival) : Type 0 where
   pub none : due ≡ [] → after ≡ before
   pub one : (c : Coming) → due ≡ c ∷ [] → before ≡ [] → (stamp : ℕ) × (after ≡ record { stamp = stamp; bytes = c.bytes } ∷ [])
   pub count : length after ≡ length before + length due
 
--- the same of all that came, as it came
+-- what came from a source before a sweep, what was due, and what has come after it, each as it came
 pub record BringsComings (before due after : List Coming) : Type 0 where
   pub none : due ≡ [] → after ≡ before
   pub one : (c : Coming) → due ≡ c ∷ [] → before ≡ [] → after ≡ c ∷ []
@@ -32,7 +32,7 @@ pub record BringsComings (before due after : List Coming) : Type 0 where
 abbrev pub IsHeardIfDue : Scenario → Side → ℕ → ℕ → Coming → Type 0
 IsHeardIfDue sc me i until c = c.time < until → (c.from < count_of (other me) sc.sizes) × (stamp_of (clock_of sc me i) c.time < 2 ^ 31)
 
--- so is all that is pending at a node
+-- all that is pending at a node is heard if it is due
 abbrev pub MayBeHeard : Scenario → Side → ℕ → ℕ → Site → Type 0
 MayBeHeard sc me i until s = All (IsHeardIfDue sc me i until) s.coming
 

@@ -36,7 +36,7 @@ pub record SweepsFrom (sc : Scenario) (me : Side) (i until : ℕ) (s z : Site) :
 abbrev pub SweepsKeepTheRest : Type 0
 SweepsKeepTheRest = (sc : Scenario) (me : Side) (i until : ℕ) (s : Site) → SweepsFrom sc me i until s (swept sc me i until s)
 
--- where nothing comes before the time a sweep changes nothing
+-- if nothing comes before the time, a sweep changes nothing
 abbrev pub NothingIsSwept : Type 0
 NothingIsSwept = (sc : Scenario) (me : Side) (i until : ℕ) (s : Site) → All (λ c. until ≤ c.time) s.coming → swept sc me i until s ≡ s
 
@@ -54,7 +54,7 @@ HearingTakesTheFirst =
     (sc : Scenario) (me : Side) (i until : ℕ) (s : Site) (p : Placed) → first_of s.coming ≡ Some p → p.coming.time < until
     → heard sc me i until s ≡ telling sc [] me i s (Arrival p.place p.coming) ∷ heard sc me i until (after_arrival sc me i p.place p.coming s)
 
--- where nothing comes before the time nothing is heard
+-- if nothing comes before the time, nothing is heard
 abbrev pub NothingIsHeard : Type 0
 NothingIsHeard = (sc : Scenario) (me : Side) (i until : ℕ) (s : Site) → All (λ c. until ≤ c.time) s.coming → heard sc me i until s ≡ []
 
@@ -92,7 +92,7 @@ ArrivalsSettleNothing =
     → take sc (world_after sc choices) n
     ≡ record (world_after sc choices) { sites = at_node me i (after_arrival sc me i place c) (world_after sc choices).sites; turn = None }
 
--- as long as the run has not ended, and where its next record needs an event
+-- the run has not ended, and its next record needs an event
 pub record NeedsEvent (sc : Scenario) (w : World) : Type 0 where
   pub going : w.book.ended ≡ false
   pub needs : needs_no_event sc w.book.upcoming ≡ false
@@ -103,7 +103,8 @@ TakesLeadToTheFirstTick =
     (sc : Scenario) → IsLawful sc → (choices : List Choice) → NeedsEvent sc (world_after sc choices)
     → (me : Side) (i : ℕ) (a : Timed) → IsFirstTick (world_after sc choices) me i a → LeadsToTick sc (world_after sc choices) me i a
 
--- some tick is the first, also of those of a world of which that one is ahead
+-- some tick is the first in each world that is reached, and in each world of which that one is
+-- ahead
 abbrev pub SomeTickIsFirst : Type 0
 SomeTickIsFirst =
     (sc : Scenario) → IsLawful sc → (choices : List Choice) (until : Side → ℕ → ℕ) (w : World) → world_after sc choices ≡ ahead_of sc until w → NeedsEvent sc w
@@ -119,7 +120,7 @@ WorldsGoOnAhead =
 
 -- Calls.
 
--- a world of which no node is ahead is itself
+-- if no node goes ahead, the world that is ahead of w is w itself
 abbrev pub NobodyIsAhead : Type 0
 NobodyIsAhead = (sc : Scenario) (w : World) → ahead_of sc (λ side j. 0) w ≡ w
 

@@ -18,7 +18,8 @@ use Rattle.rb_laws_sweeps.specs.Sweeping.{swept}
 abbrev pub StoppedHaveNothing : World → Type 0
 StoppedHaveNothing w = (me : Side) (i : ℕ) (s : Site) → slice_get (of_kind me w.sites) i ≡ Some s → s.runs ≡ false → (s.ahead ≡ None) × (s.coming ≡ [])
 
--- so it is in each world that choices lead to, and a tick alone keeps it so
+-- stopped nodes have nothing pending in each world that choices lead to, and a tick alone keeps
+-- that so
 pub record StoppedStayEmpty (sc : Scenario) : Type 0 where
   pub reached : (choices : List Choice) → StoppedHaveNothing (world_after sc choices)
   pub kept : (w : World) (me : Side) (i : ℕ) (a : Timed) → IsFirstTick w me i a → StoppedHaveNothing w → StoppedHaveNothing (tick_alone sc me i a w)

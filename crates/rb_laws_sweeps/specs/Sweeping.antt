@@ -15,7 +15,7 @@ pub record Placed : Type 0 where
   pub place : ℕ
   pub coming : Coming
 
--- the first of c and what comes after it in the list, of which this is the first
+-- the first of c, which is at the head of the list, and of what comes after it in the list
 abbrev pub first_with : Coming → Option Placed → Placed
 first_with c None = record { place = 0; coming = c }
 first_with c (Some p) =

@@ -47,11 +47,11 @@ if_told name None e = []
 if_told name (Some s) None = []
 if_told name (Some s) (Some e) = if same_node e.node name then (record { frame = s.core.state.frame; event = e }) ∷ [] else []
 
--- what node i of kind me is told where the first due event is taken
+-- what node i of kind me is told if the first due event is taken
 unfoldable pub told_next : Scenario → Side → ℕ → World → List Told
 told_next sc me i w = if_told (name_of me i) (slice_get (of_kind me w.sites) i) (event_at sc w 0)
 
--- node j of kind side, which is this, is told by a run that goes from tick to tick where node i of
+-- node j of kind side, with this site, is told by a run that goes from tick to tick, if node i of
 -- kind me has this tick: its own arrivals up to the tick, and the tick
 abbrev pub told_alone : Scenario → World → Side → ℕ → Timed → Side → ℕ → Site → List Told
 told_alone sc w me i a side j s =

@@ -1,5 +1,5 @@
--- One stage of the sync slot, whatever comes of the nodes that are not good: where the middle of a
--- good node lies, how near the middles of two are, and that no good node is accused.
+-- One stage of the sync slot, whatever nodes that are not good do: where the middle of a good node
+-- lies, how near the middles of two are, and that no good node is accused.
 use Rattle.std.specs.Prelude.{ℕ, ◌≡◌, ◌+◌, ◌-◌, ◌<◌, ◌≤◌, ◌==◌, ◌&&◌, ◌⊎◌, not, Bool, true, false, if◌then◌else◌, Option, Some, None, is_some}
 use Rattle.rb_base.specs.Counting.{count_if, numbers}
 use Rattle.rb_base.specs.Nodes.{Side, has}
@@ -28,7 +28,7 @@ pub record Listener : Type 0 where
   pub first : ℕ
   pub came : ℕ → Sense
 
--- its state after the stage
+-- the listening node's state after the stage
 abbrev pub state_after : Listener → NodeState
 state_after x = (close_sync x.sizes x.me x.state x.stage x.first x.came).state
 
@@ -64,8 +64,8 @@ pub record HearsGoodCalls (plan : Plan) (good : ℕ → Bool) (low high : ℕ) (
   pub called : (j : ℕ) → good j ≡ true → IsCalledBetween x.clock low high (x.came j)
   pub most : count_if (λ j. not (good j) && is_some (stamp_taken x j)) (numbers 16) < count_if good (numbers 16)
 
--- it keeps a middle, whose time lies between those of the good calls, but for a tick; and it
--- accuses none of the good sources
+-- the node keeps a middle, whose time lies between those of the good calls, give or take a tick;
+-- and it accuses none of the good sources
 pub record KeepsMiddle (plan : Plan) (good : ℕ → Bool) (low high : ℕ) (x : Listener) : Type 0 where
   pub tick : ℕ
   pub kept : middle_kept x ≡ Some tick
@@ -73,7 +73,7 @@ pub record KeepsMiddle (plan : Plan) (good : ℕ → Bool) (low high : ℕ) (x :
   pub not_late : time_of x.clock tick ≤ high + longest_of plan
   pub accuses_none : (j : ℕ) → good j ≡ true → has (state_after x).far.direct j ≡ false
 
--- validity: the middle of a good node lies where the good calls do
+-- validity: the middle of a good node lies among the good calls
 abbrev pub MiddlesLieAmongGoodCalls : Type 0
 MiddlesLieAmongGoodCalls =
     (plan : Plan) (good : ℕ → Bool) (low high : ℕ) (x : Listener) → HearsGoodCalls plan good low high x
@@ -90,7 +90,7 @@ pub record NearCalls (eps : ℕ) (x y : Listener) (j : ℕ) : Type 0 where
   pub above : mine ≤ yours + eps
   pub under : yours ≤ mine + eps
 
--- of a source two nodes take no call, or near ones
+-- two nodes accept no call from source j, or near ones
 abbrev pub TakeNear : ℕ → Listener → Listener → ℕ → Type 0
 TakeNear eps x y j = ((stamp_taken x j ≡ None) × (stamp_taken y j ≡ None)) ⊎ NearCalls eps x y j
 

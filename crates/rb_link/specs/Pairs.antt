@@ -19,7 +19,7 @@ sender_of pair = if nat_lt pair 256 then Biu (pair / 16) else Rmu (pair / 16 - 1
 abbrev pub receiver_of : ℕ → NodeName
 receiver_of pair = if nat_lt pair 256 then Rmu (pair % 16) else Biu (pair % 16)
 
--- the places of the rules that pass, where the first has place n
+-- the places of the rules that pass, if the first has place n
 abbrev pub places_from : ℕ → (Rule → Bool) → List Rule → List ℕ
 places_from n passes [] = []
 places_from n passes (r ∷ rs) = cond (passes r) (n ∷ places_from (n + 1) passes rs) (places_from (n + 1) passes rs)
@@ -32,7 +32,7 @@ places_for pair rules = places_from 0 (is_between (sender_of pair) (receiver_of 
 abbrev pub places_of : List ℕ → List ℕ → ℕ → List ℕ
 places_of starts places pair = slice_range places (slice_index starts pair) (slice_index starts (pair + 1))
 
--- where a pair and the next one have starts, the places of the pair's rules stand between them
+-- if a pair and the next one have starts, the places of the pair's rules are between them
 pub record IsIndex (rules : List Rule) (starts places : List ℕ) : Type 0 where
   pub each : (pair : ℕ) → pair + 1 < length starts → places_of starts places pair ≡ places_for pair rules
 

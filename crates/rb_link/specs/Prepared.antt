@@ -5,7 +5,7 @@ use Rattle.rb_link.specs.Pairs.{AreLatest, IsIndex}
 use Rattle.rb_link.specs.Rows.{AreRows}
 use Rattle.rb_link.specs.declared.rows.Ranges.{Ranges}
 
--- it fits them
+-- what is prepared fits the rules
 pub record ArePrepared (base : ℕ) (rules latest : List Rule) (starts places : List ℕ) (shared : List Ranges) (flat : List ℕ) : Type 0 where
   pub latest_are : AreLatest base rules latest
   pub index_is : IsIndex rules starts places

@@ -17,7 +17,7 @@ abbrev pub IsRow : DelayRules → NodeName → Place → List ℕ → Type 0
 IsRow delays from place row =
     (i : ℕ) → (delay : ℕ) → slice_get row i ≡ Some delay → delay ≡ delay_of delays from (name_of (other (kind_of from)) i) place
 
--- the rule has the place; where there is no rule, so it is with any place
+-- the rule has the place; a rule that is not there has every place
 abbrev pub rule_has : Option Rule → Place → Bool
 rule_has None place = true
 rule_has (Some rule) place = covers rule.frames rule.slots rule.stages place
@@ -52,7 +52,7 @@ abbrev pub IsSender : ℕ → NodeName → Type 0
 IsSender sender from = (i : ℕ) → i < 16
     → (sender_of (16 * sender + i) ≡ from) × (receiver_of (16 * sender + i) ≡ name_of (other (kind_of from)) i)
 
--- so by the number of the sender
+-- each of the at most 16 delays in the row is that of the sender's pair with this number
 abbrev pub IsRowOf : ℕ → List Rule → ℕ → Place → List ℕ → Type 0
 IsRowOf base rules sender place row = (i : ℕ) → (delay : ℕ) → slice_get row i ≡ Some delay
     → (i < 16) × (delay ≡ delay_after base rules (sender_of (16 * sender + i)) (receiver_of (16 * sender + i)) place)
@@ -72,7 +72,7 @@ abbrev pub IsShared : List Rule → ℕ → ℕ → Ranges → Type 0
 IsShared latest sender count ranges = (place : Place) → PlaceFits place
     → covers ranges.frames ranges.slots ranges.stages place ≡ all_below count (λ i. rule_has (slice_get latest (16 * sender + i)) place)
 
--- so with the ranges of each sender and all its pairs
+-- the ranges of each sender are those that all rules of its pairs share
 pub record AreShared (latest : List Rule) (shared : List Ranges) : Type 0 where
   pub each : (sender : ℕ) → (ranges : Ranges) → slice_get shared sender ≡ Some ranges → IsShared latest sender 16 ranges
 

@@ -32,7 +32,7 @@ follows sizes plan (suc n) c = follows sizes plan n (follow sizes plan c).core
 
 -- Quiet ticks.
 
--- tick k isn't quiet: a frame begins with it, or a window is closed
+-- tick k is not quiet: a frame begins with it, or a window is closed
 unfoldable pub wakes : Sizes → Plan → NodeState → ℕ → Bool
 wakes sizes plan st k =
     let now : NodeState = state_at sizes plan Biu st k in
@@ -44,7 +44,7 @@ wake_among sizes plan st zero k = None
 wake_among sizes plan st (suc others) k =
     elim (wakes sizes plan st k) [ true ↦ Some k | false ↦ wake_among sizes plan st others (suc k) ]
 
--- the first tick from the next on that isn't quiet
+-- the first tick from the next on that is not quiet
 abbrev pub next_wake : Sizes → Plan → Core → Option ℕ
 next_wake sizes plan c = wake_among sizes plan c.state (2 ^ 31 - c.had) c.had
 
@@ -62,7 +62,7 @@ arrive_at n c from bytes = arrive n.seat.sizes Biu c from bytes
 abbrev pub next_wake_at : Running → Core → Option ℕ
 next_wake_at n c = next_wake n.seat.sizes n.seat.plan c
 
--- the number up to which ticks may pass: that of the next tick that isn't quiet, or of ticks that a
--- listener can have
+-- the number up to which ticks may pass: that of the next tick that is not quiet, or of all ticks
+-- that a listener can have
 abbrev pub passing_end : Running → ℕ
 passing_end n = unwrap_or (wake_among n.seat.sizes n.seat.plan n.seat.state (2 ^ 31 - n.had) n.had) (2 ^ 31)

@@ -53,8 +53,8 @@ place_of slot j = 16 * slot + j
 abbrev pub record_of : List Sense → ℕ → ℕ → Sense
 record_of records slot j = get_or records (place_of slot j) Silent
 
--- a record with one message more: it is one message that suits the slot, or bad, and bad where one
--- more comes
+-- a record with one more message: one message that suits the slot, or bad, and bad if a second one
+-- comes
 abbrev pub with_message : Bool → ℕ → Message → Sense → Sense
 with_message in_sync at m Silent = if tag_suits in_sync m.tag then One at m else Bad
 with_message in_sync at m (One before n) = Bad
@@ -75,18 +75,18 @@ lesson_on frame = record { frame = frame; decides = None; records = nothing_reco
 
 -- What follows from it.
 
--- the RMUs of which one message is recorded in a slot
+-- the RMUs from which one message is recorded in a slot
 abbrev pub ones_in : List Sense → ℕ → ℕ
 ones_in records slot = set_of (λ j. is_one (record_of records slot j))
 
--- a BIU is trusted where most RMUs relayed something of it in its schedule slot
+-- a BIU is trusted if most RMUs relayed something from it in its schedule slot
 abbrev pub trusts_biu : Sizes → List Sense → ℕ → Bool
 trusts_biu sizes records i = nat_lt i sizes.bius && are_most sizes (ones_in records i)
 
 abbrev pub trusted_bius : Sizes → List Sense → ℕ
 trusted_bius sizes records = set_of (trusts_biu sizes records)
 
--- an RMU is trusted where most RMUs told their votes in its diagnosis slot
+-- an RMU is trusted if most RMUs told their votes in its diagnosis slot
 abbrev pub trusts_rmu : Sizes → List Sense → ℕ → Bool
 trusts_rmu sizes records j = nat_lt j sizes.rmus && are_most sizes (ones_in records (first_diagnosis_of Rmu sizes + j))
 
@@ -125,7 +125,7 @@ first_by sizes plan lesson bius rmus k2 = record {
   rmus = without rmus (convicted_rmus sizes lesson.records bius rmus);
 }
 
--- there is none where no call is recorded of a trusted RMU
+-- the first frame by the lesson. There is none if no call of a trusted RMU is recorded
 unfoldable pub first_of : Sizes → Plan → Lesson → Option First
 first_of sizes plan lesson =
     let bius = trusted_bius sizes lesson.records in

@@ -36,8 +36,8 @@ abbrev pub IsAhead : ℕ → Option ℕ → Type 0
 IsAhead had None = Unit {0}
 IsAhead had (Some tick) = had ≤ tick
 
--- what holds of a search between two calls: it has no more ticks than a listener can have, and
--- stamps don't run ahead of them
+-- what holds of a search between two calls: it has no more ticks than a listener can have, and its
+-- stamps do not run ahead of them
 pub record IsSearching (s : Search) : Type 0 where
   pub most : s.had ≤ 2 ^ 31
   pub soon : AreSoon s.lesson.records
@@ -65,7 +65,7 @@ pub record IsSound (sizes : Sizes) (plan : Plan) (stage : Stage) (s : Search) (n
   pub search : IsSearching s
   pub inside : IsInStage sizes plan stage s n
 
--- the same bus
+-- the bus is the same
 pub record IsSameBus (before after : Hearer) : Type 0 where
   pub sizes : after.sizes ≡ before.sizes
   pub plan : after.plan ≡ before.plan
@@ -79,8 +79,8 @@ had_in Following s n = n.had
 abbrev pub had_at : Hearer → ℕ
 had_at h = had_in h.stage h.search h.follower
 
--- the number up to which ticks may pass: that of the next tick that isn't quiet, or of ticks that a
--- listener can have
+-- the number up to which ticks may pass: that of the next tick that is not quiet, or of all ticks
+-- that a listener can have
 abbrev pub end_in : Stage → Search → Running → ℕ
 end_in Searching s n = unwrap_or (in_time (decision_of s)) (2 ^ 31)
 end_in (Waiting first) s n = unwrap_or (in_time (Some first.epoch)) (2 ^ 31)

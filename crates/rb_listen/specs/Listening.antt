@@ -30,7 +30,7 @@ first_search = record { had = 0; newest = replicate 16 None; learns = false; les
 
 -- What it hears while it seeks and learns.
 
--- it begins to learn the frame
+-- the search begins to learn the frame
 abbrev pub learning : ℕ → Search → Search
 learning frame s = record s { learns = true; lesson = lesson_on frame }
 
@@ -38,9 +38,9 @@ learning frame s = record s { learns = true; lesson = lesson_on frame }
 abbrev pub timed : ℕ → Lesson → Lesson
 timed tick lesson = elim (is_some lesson.decides) [ true ↦ lesson | false ↦ record lesson { decides = Some tick } ]
 
--- a pass for the frame that it learns fixes that tick; one for the frame before that changes
--- nothing; at any other it begins to learn the frame after that of the pass, and so it does at any
--- where it learns none
+-- the search after a pass. A pass for the frame that it learns fixes the tick of the decision; one
+-- for the frame before that changes nothing; at any other it begins to learn the frame after that
+-- of the pass, and so it does at any pass if it learns no frame
 abbrev pub with_pass : Plan → ℕ → Search → Search
 with_pass plan frame s =
     elim (s.learns && (frame == s.lesson.frame)) [
@@ -56,15 +56,15 @@ if_pass plan (Some frame) s = with_pass plan frame s
 abbrev pub newest_with : ℕ → ℕ → Search → Search
 newest_with j frame s = record s { newest = slice_set s.newest j (Some (record { frame = frame; at = s.had })) }
 
--- and there may be a pass with it
+-- the search after a message with which there may be a pass
 abbrev pub passing : Sizes → Plan → Search → Search
 passing sizes plan s = if_pass plan (pass_of sizes plan s.newest) s
 
--- a message of RMU j is recorded where a frame is learned
+-- a message of RMU j is recorded if a frame is learned
 abbrev pub recorded : Sizes → ℕ → Message → Search → Search
 recorded sizes j m s = elim s.learns [ true ↦ record s { lesson = noted sizes j s.had m s.lesson } | false ↦ s ]
 
--- it may be a call
+-- the search after a message that may be a call
 abbrev pub if_call : Sizes → Plan → ℕ → Message → Search → Search
 if_call sizes plan j m s = elim (is_call sizes m) [ true ↦ passing sizes plan (newest_with j m.frame s) | false ↦ s ]
 
@@ -104,8 +104,8 @@ untold l = record { listening = l; heed = no_heed }
 abbrev pub later : Search → Search
 later s = record s { had = s.had + 1 }
 
--- it decides: it waits for the first tick, where that comes after the decision. Else it learns the
--- frame after the lesson's
+-- the listener decides: it waits for the first tick, if that comes after the decision. Otherwise it
+-- learns the frame after the lesson's
 abbrev pub if_after : Search → First → Bool → Listening
 if_after s first after = elim after [ true ↦ Waiting (s.had + 1) first | false ↦ Searching (learning (frame_after s.lesson.frame) (later s)) ]
 
@@ -113,7 +113,7 @@ abbrev pub decided : Search → Option First → Listening
 decided s None = Searching (learning (frame_after s.lesson.frame) (later s))
 decided s (Some first) = if_after s first (nat_lt s.had first.epoch)
 
--- this is the tick of the decision
+-- the tick is that of the decision
 abbrev pub is_deciding : Search → Bool
 is_deciding s = s.learns && is_tick s.lesson.decides s.had
 
@@ -127,7 +127,7 @@ told x = record { epoch = x.epoch; delivered = option_and_then (λ c. c.delivere
 abbrev pub followed : Act → Heeding
 followed x = record { listening = Following x.core; heed = told x }
 
--- it begins to follow
+-- the core with which the listener begins to follow
 abbrev pub first_core : Sizes → First → Core
 first_core sizes first = core_from sizes first.frame first.epoch first.bius first.rmus
 
@@ -175,12 +175,12 @@ abbrev pub in_time : Option ℕ → Option ℕ
 in_time None = None
 in_time (Some tick) = elim (nat_lt tick (2 ^ 31)) [ true ↦ Some tick | false ↦ None ]
 
--- the tick of the decision, where that is fixed
+-- the tick of the decision, if it is fixed
 abbrev pub decision_of : Search → Option ℕ
 decision_of s = elim s.learns [ true ↦ s.lesson.decides | false ↦ None ]
 
--- the first tick from the next on that isn't quiet: it decides, begins to follow, begins a frame,
--- or closes a window
+-- the first tick from the next on that is not quiet: at it the listener decides, begins to follow,
+-- begins a frame, or closes a window
 abbrev pub next_heed : Sizes → Plan → Listening → Option ℕ
 next_heed sizes plan (Searching s) = in_time (decision_of s)
 next_heed sizes plan (Waiting had first) = in_time (Some first.epoch)

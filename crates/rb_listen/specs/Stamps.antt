@@ -1,4 +1,4 @@
--- The stamps in a lesson don't run ahead.
+-- The stamps in a lesson do not run ahead.
 use Rattle.std.specs.Prelude.{ℕ, ◌≤◌, ◌^◌, List, get_or}
 use Rattle.rb_rules.specs.declared.sense.Sense.{Sense}
 use Rattle.rb_rules.specs.declared.sense.Sense.TheVariants.{Silent, One, Bad}

@@ -10,8 +10,8 @@ use Rattle.rb_listen.specs.Following.{wakes}
 abbrev pub wakes_at : Seated → ℕ → Bool
 wakes_at v k = wakes v.sizes v.plan v.state k
 
--- from tick `had` on all ticks before this one are quiet, and lie in one window with it. It is not,
--- unless it is 2^31
+-- from tick `had` on all ticks before this one are quiet, and lie in one window with it. The tick
+-- itself is not quiet, unless it is 2^31
 pub record IsNextWake (v : Seated) (had tick : ℕ) : Type 0 where
   pub later : had ≤ tick
   pub most : tick ≤ 2 ^ 31
@@ -24,12 +24,12 @@ pub record LooksAhead (v : Seated) (had : ℕ) (a : Ahead) : Type 0 where
   pub next : IsNextWake v had a.tick
   pub window : IsWindowOf Biu v had a.window
 
--- where the middle that fixes the next epoch is known, the frame has had two ticks
+-- if the middle that fixes the next epoch is known, the frame has had two ticks
 abbrev pub IfKnown : Seated → ℕ → Option ℕ → Type 0
 IfKnown v had None = Unit {0}
 IfKnown v had (Some k2) = v.state.epoch + 2 ≤ had
 
--- what holds of a follower between two calls. Its frame and its stamps don't run ahead of its
+-- what holds of a follower between two calls. Its frame and its stamps do not run ahead of its
 -- ticks: a frame has two ticks at least, since the middle that fixes the next epoch is not known at
 -- the first
 pub record IsFollowing (v : Seated) (had : ℕ) (inbox : KeptArrivals) (a : Ahead) : Type 0 where

@@ -23,7 +23,7 @@ abbrev pub quiet_in_front : List CoreEvent → ℕ
 quiet_in_front [] = 0
 quiet_in_front (e ∷ events) = if is_quiet e then quiet_in_front events + 1 else 0
 
--- the events, where there is no fault
+-- the events, if there is no fault
 abbrev pub events_in : Result (List CoreEvent) LogRefusal → List CoreEvent
 events_in (Ok events) = events
 events_in (Err fault) = []

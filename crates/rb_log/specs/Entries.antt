@@ -12,7 +12,7 @@ use Rattle.rb_log.specs.declared.refusal.LogRefusal.{LogRefusal}
 use Rattle.rb_log.specs.declared.refusal.LogRefusal.TheVariants.{BadField, Truncated, AfterEnd}
 
 -- the fields after the first byte. Senders are below `senders`; the length is looked at after the
--- sender, and then the bytes themselves, of which any will do
+-- sender, and then the bytes themselves, which may be any
 unfoldable pub tick_in : List ℕ → ℕ → Result Entry LogRefusal
 tick_in bytes place = do
   word ← field bytes (place + 1) 4 0 4294967295

@@ -128,7 +128,8 @@ abbrev pub whole_in : Bool → Plan → List ℕ → Result Plan LogRefusal
 whole_in false plan bytes = Ok plan
 whole_in true plan bytes = extended_in plan bytes
 
--- the header at the front of the bytes and where the records begin, or the first fault in it
+-- the header at the front of the bytes and the place at which the records begin, or the first fault
+-- in it
 unfoldable pub header_in : List ℕ → Result Header LogRefusal
 header_in bytes = do
   second ← has_second_form bytes

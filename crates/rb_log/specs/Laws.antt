@@ -15,8 +15,8 @@ use Rattle.rb_log.specs.LogText.{Log, log_in, senders_of}
 use Rattle.rb_log.specs.Spelling.{SpellsLog}
 use Rattle.rb_log.specs.Writing.{given, ticks_given, written}
 
--- what can happen at a node: a word has four bytes, and is 0 where none was wanted; what arrives is
--- of a node of the bus and has 1 to 32 bytes
+-- what can happen at a node: a word has four bytes, and is 0 if none was wanted; what arrives is
+-- from a node of the bus and has 1 to 32 bytes
 abbrev pub MayHappen : ℕ → EventKind → Type 0
 MayHappen senders (Tick word true) = word < 2 ^ 32
 MayHappen senders (Tick word false) = word ≡ 0
@@ -42,6 +42,6 @@ abbrev pub WrittenIsRead : Type 0
 WrittenIsRead = (t : Timetable) (node : NodeName) (events : List Event) → IsTellable t node events
     → log_in (header_of t node ++ written 0 events) ≡ Ok (record { timetable = t; node = node; events = flat_map given events })
 
--- what is read of bytes is a log exactly where they spell it
+-- what is read from bytes is a log if and only if they spell it
 abbrev pub ReadIsSpelled : Type 0
 ReadIsSpelled = (bytes : List ℕ) (log : Log) → AreBytes bytes → (log_in bytes ≡ Ok log) ↔ SpellsLog bytes log

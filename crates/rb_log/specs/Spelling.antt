@@ -21,7 +21,7 @@ pub data Told : Type 0 where
   ManyTicks : (count : ℕ) → Told
   Message : (from : ℕ) (bytes : List ℕ) → Told
 
--- its bytes
+-- the bytes of what a record says
 abbrev pub spelled : Told → List ℕ
 spelled (OneTick word) = 1 ∷ big_bytes 4 word
 spelled (ManyTicks count) = 2 ∷ big_bytes 4 count

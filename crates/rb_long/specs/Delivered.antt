@@ -39,6 +39,6 @@ lines_in (Slot frame slot lines) = lines
 lines_in Ended = []
 lines_in (Breach place cause) = []
 
--- and of several
+-- the deliveries of several records
 abbrev pub deliveries_in : List Record → List SlotLine
 deliveries_in records = flat_map lines_in records

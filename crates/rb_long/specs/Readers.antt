@@ -15,7 +15,7 @@ open_of reader = open_with reader.wanted reader.bytes.items
 abbrev pub letter_in : Option (ArrayVec ℕ) → Option (List ℕ)
 letter_in given = option_map (λ (v : ArrayVec ℕ). v.items) given
 
--- this comes of a value
+-- the reader reads a value so: it then has this letter open, and gives this letter
 pub record Reads (read : Read) (reader : Reader) (letter : Option (ArrayVec ℕ)) : Type 0 where
   pub after : open_of reader ≡ read.after
   pub given : letter_in letter ≡ read.given

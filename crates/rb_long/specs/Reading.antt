@@ -6,12 +6,12 @@ use Rattle.rb_base.specs.declared.values.Heard.{Heard}
 use Rattle.rb_base.specs.declared.values.Heard.TheVariants.{Word, Fault}
 use Rattle.rb_long.specs.Spelling.{bytes_in, is_first, is_part}
 
--- a letter of which some bytes have come, and how many it is to have
+-- a letter of which some bytes have come, and how many it will have
 pub record OpenLetter : Type 0 where
   pub wanted : ℕ
   pub bytes : List ℕ
 
--- so it is where fewer bytes have come than it is to have; else no letter is open
+-- the letter is open if fewer bytes have come than it will have; otherwise no letter is open
 abbrev pub open_with : ℕ → List ℕ → Option OpenLetter
 open_with wanted bytes = if nat_lt (length bytes) wanted then Some (record { wanted = wanted; bytes = bytes }) else None
 
@@ -32,12 +32,12 @@ abbrev pub with_last : ℕ → List ℕ → Read
 with_last wanted bytes =
     elim (list_all is_zero (drop wanted bytes)) [ true ↦ record { after = None; given = Some (take wanted bytes) } | false ↦ keeps None ]
 
--- these bytes have come
+-- the reader after these bytes of a letter have come
 abbrev pub with_bytes : ℕ → List ℕ → Read
 with_bytes wanted bytes =
     elim (nat_lt (length bytes) wanted) [ true ↦ keeps (Some (record { wanted = wanted; bytes = bytes })) | false ↦ with_last wanted bytes ]
 
--- three bytes more. Where no letter is open they say nothing
+-- the reader after three more bytes. If no letter is open they say nothing
 abbrev pub with_part : List ℕ → Option OpenLetter → Read
 with_part part None = keeps None
 with_part part (Some letter) = with_bytes letter.wanted (letter.bytes ++ part)

@@ -9,7 +9,7 @@ abbrev pub refusal_of : List (List ℕ) → List ℕ → Option LongRefusal
 refusal_of waiting letter =
     if is_length (length letter) then (if nat_lt (length waiting) 8 then None else Some Full) else Some Length
 
--- why it was not taken, if it was not
+-- why the letter was not taken, if it was not
 abbrev pub error_in : Result ⊤ LongRefusal → Option LongRefusal
 error_in (Ok taken) = None
 error_in (Err refusal) = Some refusal
@@ -18,7 +18,7 @@ error_in (Err refusal) = Some refusal
 abbrev pub with_letter : List (List ℕ) → List ℕ → List (List ℕ)
 with_letter waiting letter = waiting ++ spelling_of letter ∷ []
 
--- the next word, 0 where nothing waits
+-- the next word, 0 if nothing waits
 abbrev pub next_word_of : List (List ℕ) → ℕ
 next_word_of [] = 0
 next_word_of (words ∷ rest) = get_or words 0 0

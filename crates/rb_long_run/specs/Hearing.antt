@@ -22,7 +22,7 @@ with_line letters line =
     then slice_set letters line.receiver (slice_set (get_or letters line.receiver []) line.sender (read_of letters line).after)
     else letters
 
--- and of several
+-- the open letters after the lines of a slot
 abbrev pub with_lines : Open → List SlotLine → Open
 with_lines letters [] = letters
 with_lines letters (line ∷ lines) = with_lines (with_line letters line) lines

@@ -8,7 +8,7 @@ use Rattle.rb_long.specs.Delivered.{letter_with}
 use Rattle.rb_long.specs.Spelling.{spelling_of}
 use Rattle.rb_report.specs.Report.{breach_text, end_text, letter_text, word_text}
 
--- a line where a delivery gives a letter
+-- a line if a delivery gives a letter
 abbrev pub given_text : ℕ → ℕ → SlotLine → Option (List ℕ) → List ℕ
 given_text frame slot line None = []
 given_text frame slot line (Some letter) = letter_text frame slot line.receiver line.sender letter

@@ -12,8 +12,8 @@ use Rattle.rb_run.specs.Turns.{records_in}
 abbrev pub letters_text : List Turn → List ℕ
 letters_text turns = letters_report (records_in turns)
 
--- the text of a turn that is this record, where these letters are open, the newest block before it
--- being that of frame `newest`
+-- the text of a turn that is this record, if these letters are open and the newest block before it
+-- is that of frame `newest`
 abbrev pub turn_text : ℕ → Open → Option Record → List ℕ
 turn_text newest all None = []
 turn_text newest all (Some (Frame frame nodes ports)) = []

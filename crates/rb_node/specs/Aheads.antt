@@ -16,15 +16,15 @@ use Rattle.rb_node.specs.declared.act.Want.{Want}
 use Rattle.rb_node.specs.declared.act.Want.TheVariants as want
 use Rattle.rb_node.specs.Wants.{want_for}
 
--- of two ticks the sooner, where the second is there and isn't over at the tick `had`
+-- the earlier of two ticks; the second is ignored if it is absent or over at the tick `had`
 pub record IsSooner (had : ℕ) (candidate : Option ℕ) (before after : ℕ) : Type 0 where
   pub later : had ≤ after
   pub most : after ≤ before
   pub not_before : (k : ℕ) → had ≤ k → k < after → is_tick candidate k ≡ false
   pub either : (after ≡ before) ⊎ (is_tick candidate after ≡ true)
 
--- the same, where the candidate is the tick of a message of a stage; at one tick the lower stage
--- comes first
+-- the earlier of two ticks, if the candidate is the tick of a message of a stage; at one tick the
+-- lower stage comes first
 pub record IsChosen (had : ℕ) (candidate : Option ℕ) (stage : ℕ) (before after : Busy) : Type 0 where
   pub later : had ≤ after.tick
   pub most : after.tick ≤ before.tick
@@ -80,7 +80,7 @@ window_of_tick me v k = window_here v.sizes v.plan me v.state k
 abbrev pub want_at : Side → Seated → ℕ → Want
 want_at me v k = want_for v.sizes (slot_wanted v.sizes (said_at v.sizes v.plan me v.index (state_at v.sizes v.plan me v.state k) 0 k))
 
--- the same, and nothing where no tick is to come
+-- what the node wants for tick k, and nothing if k is beyond the last tick
 abbrev pub want_ahead : Side → Seated → ℕ → Want
 want_ahead me v k = if nat_lt k (2 ^ 31) then want_at me v k else want.Nothing
 
@@ -101,7 +101,7 @@ pub record IsWindowOf (me : Side) (v : Seated) (k : ℕ) (w : Window) : Type 0 w
   pub first : w.first ≤ 400000
   pub fits : v.state.epoch + w.last < 2 ^ 64
 
--- the node in the state in which it has tick k: where its next frame begins then, in that frame
+-- the node in the state in which it has tick k: if its next frame begins then, in that frame
 abbrev pub seated_at : Side → Seated → ℕ → Seated
 seated_at me v k = record v { state = state_at v.sizes v.plan me v.state k }
 
@@ -110,8 +110,8 @@ pub record ShowsTick (me : Side) (v : Seated) (k : ℕ) (a : Ahead) : Type 0 whe
   pub window : IsWindowOf me v k a.window
   pub stage : SaysIn me v a.window.slot k a.busy.stage
 
--- the window is one of a slot before the sync slot, and this tick is its last, which a node can
--- have. When the next frame begins is not known yet
+-- the window is one of a slot before the sync slot, and this tick is its last and one that a node
+-- can have. The start of the next frame is not known yet
 pub record IsExactUntil (me : Side) (v : Seated) (w : Window) (k : ℕ) : Type 0 where
   pub last : k ≡ v.state.epoch + w.last
   pub soon : k < 2 ^ 31
@@ -133,8 +133,8 @@ pub record LooksAhead (me : Side) (v : Seated) (had : ℕ) (a : Ahead) : Type 0 
   pub wants : a.want ≡ want_ahead me v a.busy.tick
   pub alone : a.alone ≡ is_alone me v a.window a.busy
 
--- what holds of a node between two calls: it is a node of its bus, its frame and its stamps don't
--- run ahead of its ticks
+-- what holds of a node between two calls: it is a node of its bus, and its frame and its stamps do
+-- not run ahead of its ticks
 pub record IsRunning (me : Side) (v : Seated) (had : ℕ) (inbox : KeptArrivals) (a : Ahead) : Type 0 where
   pub most : had ≤ 2 ^ 31
   pub index : v.index < 16

@@ -7,7 +7,7 @@ use Rattle.rb_node.specs.Acts.{IsAct}
 use Rattle.rb_node.specs.Cores.{IsCore, IsSameNode, Running, next_of, tick_of}
 use Rattle.rb_node.specs.Ends.{EndsExactWindow}
 
--- the answer is true exactly where the node's next busy tick ends a window of a slot before the
+-- the answer is true if and only if the node's next busy tick ends a window of a slot before the
 -- sync slot, and no frame begins with it
 pub record TellsExactEnd (me : Side) (n : Running) (answer : Bool) : Type 0 where
   pub ends : (c : Core) (k : ℕ) → IsCore n c → next_of me n c ≡ Some k
@@ -18,9 +18,9 @@ pub record TellsExactEnd (me : Side) (n : Running) (answer : Bool) : Type 0 wher
       → is_tick (new_epoch_of n.seat.plan me c.state) k ≡ false
       → EndsExactWindow n.seat.sizes n.seat.plan me c.state k → IsTrue answer
 
--- the answer is true only where the node's next busy tick ends a window of a slot before the sync
--- slot. Then it has its quiet ticks and that tick, at which nothing else happens. The answer is
--- true wherever no frame begins with such a tick and nothing is said then
+-- the answer is true only if the node's next busy tick ends a window of a slot before the sync
+-- slot. Then the node has had its quiet ticks and that tick, at which nothing else happens. The
+-- answer is always true if no frame begins with such a tick and nothing is said then
 pub record EndsWindow (me : Side) (before after : Running) (ended : Bool) : Type 0 where
   pub core : IsTrue ended → (c : Core) (k word : ℕ) → IsCore before c → next_of me before c ≡ Some k
       → IsCore after (tick_of me before (pass_to k c) word).core

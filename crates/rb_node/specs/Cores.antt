@@ -25,13 +25,13 @@ pub record IsCore (n : Running) (c : Core) : Type 0 where
   pub had : c.had ≡ n.had
   pub inbox : HoldsArrivals n.inbox (received_of c.inbox)
 
--- the same node of the same bus
+-- the node is the same node of the same bus
 pub record IsSameNode (before after : Running) : Type 0 where
   pub sizes : after.seat.sizes ≡ before.seat.sizes
   pub plan : after.seat.plan ≡ before.seat.plan
   pub index : after.seat.index ≡ before.seat.index
 
--- The steps of a core that sits where the node sits.
+-- The steps of a core that is the node's.
 
 abbrev pub tick_of : Side → Running → Core → ℕ → Act
 tick_of me n c word = tick n.seat.sizes n.seat.plan me n.seat.index c word
@@ -46,11 +46,11 @@ abbrev pub next_of : Side → Running → Core → Option ℕ
 next_of me n c = next_tick n.seat.sizes n.seat.plan me n.seat.index c
 
 -- the core that the node stands for if nothing came since its last close. Which ticks are quiet
--- doesn't depend on what came
+-- does not depend on what came
 abbrev pub bare_core : Running → Core
 bare_core n = record { state = n.seat.state; had = n.had; inbox = [] }
 
--- the number up to which ticks may pass: that of the next tick that isn't quiet, or of ticks that a
--- node can have
+-- the number up to which ticks may pass: that of the next tick that is not quiet, or of all ticks
+-- that a node can have
 abbrev pub passing_end : Side → Running → ℕ
 passing_end me n = unwrap_or (next_of me n (bare_core n)) (2 ^ 31)

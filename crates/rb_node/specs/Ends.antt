@@ -1,4 +1,4 @@
--- Where a tick ends a window.
+-- Ticks that end a window.
 use Rattle.std.specs.Prelude.{ℕ, ◌≡◌, ◌<◌, true}
 use Rattle.rb_base.specs.Nodes.{Side}
 use Rattle.rb_base.specs.Sizes.{Sizes, sync_slot_of}

@@ -13,7 +13,7 @@ core_after sizes plan me index c (Tick word ∷ events) = core_after sizes plan 
 core_after sizes plan me index c (Arrive from bytes ∷ events) = core_after sizes plan me index (arrive sizes me c from bytes) events
 
 -- a list of events may be taken in parts, as they come: each part goes on where the one before it
--- ended. Ticks that pass are so many events with word 0
+-- ended. Each tick that passes is an event with word 0
 pub record ComeInParts (sizes : Sizes) (plan : Plan) (me : Side) (index : ℕ) : Type 0 where
   pub core : (c : Core) (before after : List CoreEvent)
       → core_after sizes plan me index c (before ++ after) ≡ core_after sizes plan me index (core_after sizes plan me index c before) after

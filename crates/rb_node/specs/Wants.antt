@@ -18,11 +18,11 @@ want_for sizes (Some slot) = if nat_lt slot sizes.bius then want.Request else wa
 abbrev pub slot_of_words : Sizes → ℕ → Option ℕ
 slot_of_words sizes slot = elim (nat_lt slot (first_diagnosis_of Biu sizes)) [ true ↦ Some slot | false ↦ None ]
 
--- for the next tick of a core that sits where the node sits
+-- what is wanted for the next tick of a core that is the node's
 abbrev pub want_of : Side → Running → Core → Want
 want_of me n c = want_for n.seat.sizes (wants n.seat.sizes n.seat.plan me n.seat.index c)
 
--- for the next tick that isn't quiet, once the ticks before it have passed
+-- what is wanted for the next tick that is not quiet, once the ticks before it have passed
 abbrev pub want_then : Side → Running → Core → Option ℕ → Want
 want_then me n c None = want.Nothing
 want_then me n c (Some k) = want_of me n (pass_to k c)

@@ -12,7 +12,7 @@ pub record Calls : Type 0 where
 abbrev pub no_calls : List ℕ → Calls
 no_calls failing = record { failing = failing; had = 0; faults = 0 }
 
--- one call later, which failed or not
+-- the calls after one more that failed or did not
 abbrev pub after_call : Bool → Calls → Calls
 after_call failed calls = record {
   failing = calls.failing;

@@ -11,7 +11,7 @@ use Rattle.rb_outside.specs.declared.whole.Unread.TheVariants.{TooLong, Fault, O
 pub record ReadsWithin {S : Type 0} (left : S → Option (List ℕ)) (faults : S → ℕ) (limit : ℕ) (before after : S) (result : Result (Vec ℕ Global) Unread) : Type 0 where
   pub whole : IfOk result (λ v. ReadsToEnd (left before) (left after) v.items)
   pub within : IfOk result (λ v. length v.items ≤ limit)
-  -- TooLong is the answer exactly where more bytes than the limit were given
+  -- TooLong is the answer if and only if more bytes than the limit were given
   pub too_long : result ≡ Err TooLong → Gave (left before) (left after) (λ n. limit < n)
   pub not_long : result ≢ Err TooLong → Gave (left before) (left after) (λ n. n ≤ limit)
   pub later : faults before ≤ faults after

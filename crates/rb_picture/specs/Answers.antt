@@ -45,7 +45,7 @@ pub record IsPicture (frames : Frames) (bytes text : List ℕ) : Type 0 where
   pub report : IsReport bytes lines
   pub picture : text ≡ picture_of frames (asked_of (first_of frames) (last_of frames) lines)
 
--- the line that says where and why the bytes are no report
+-- the line that says at which place and why the bytes are no report
 pub record IsRefusal (bytes text : List ℕ) : Type 0 where
   pub number : ℕ
   pub cause : Fault
@@ -63,7 +63,7 @@ pub record Refuses (bytes : List ℕ) (held held' : Option (List ℕ)) : Type 0 
   pub due : IsRefusal bytes text
   pub written : Appends held held' text
 
--- of what was due a first part is written
+-- a first part of what was due is written
 pub record FailsToWrite (frames : Frames) (bytes : List ℕ) (held held' : Option (List ℕ)) : Type 0 where
   pub text : List ℕ
   pub due : IsPicture frames bytes text ⊎ IsRefusal bytes text
@@ -81,7 +81,7 @@ pub record IsRefused (left left' held held' : Option (List ℕ)) : Type 0 where
   pub read : ReadsToEnd left left' bytes
   pub refuses : Refuses bytes held held'
 
--- of one or the other a first part is written
+-- a first part of the drawing or of the refusal is written
 pub record IsDrawnInPart (frames : Frames) (left left' held held' : Option (List ℕ)) : Type 0 where
   pub bytes : List ℕ
   pub read : ReadsToEnd left left' bytes
@@ -102,7 +102,7 @@ pub record IsDone (words : List (String Global)) (left left' held held' : Option
   pub asked : AskFor words form
   pub gives : Gives form left left' held held'
 
--- or a first part of it
+-- a first part of the answer to the words is written
 pub record IsCutOff (words : List (String Global)) (left left' held held' : Option (List ℕ)) : Type 0 where
   pub form : Form
   pub asked : AskFor words form
@@ -128,13 +128,13 @@ WritesNothing ReadFault = ⊤
 WritesNothing WriteFault = ⊥
 WritesNothing OutOfMemory = ⊤
 
--- Usage comes exactly where the words ask for no form
+-- Usage is the answer if and only if the words ask for no form
 pub record UsageExactly (status : Status) (words : List (String Global)) : Type 0 where
   pub unknown : status ≡ Usage → (form : Form) → ¬ AskFor words form
   pub refused : ((form : Form) → ¬ AskFor words form) → status ≡ Usage
   pub known : ¬ (status ≡ Usage) → (form : Form) × AskFor words form
 
--- the source and the sink are as they were, where the answer or the words leave them so
+-- the source and the sink are as they were, if the answer or the words leave them so
 pub record Untouched {S K : Type 0} (words : List (String Global)) (status : Status) (source source' : S) (sink sink' : K) : Type 0 where
   pub unread : status ≡ Usage → source' ≡ source
   pub without_input : (flag : Flag) → AskFor words (Show flag) → source' ≡ source

@@ -51,8 +51,8 @@ column_of l lines =
 abbrev pub no_column : Column
 no_column = record { mark = 0; frame = 0; slot = 0; sender = 0; outcome = Agree }
 
--- the column of a line, which is the first of these lines: another one where it is the first
--- delivery in its slot
+-- the column of a line, which is the first of these lines: another one if it is the first delivery
+-- in its slot
 abbrev pub column_with : Column → Line → List Line → Column
 column_with column (line.Epoch l) lines = column
 column_with column (line.Convicted l) lines = column

@@ -29,7 +29,7 @@ looks =
 abbrev pub look_of : ℕ → List ℕ
 look_of sender = slice_index_or looks sender (codes "s15")
 
--- of a word the sender's, and another of none
+-- the look of a cell: that of the sender for a word, and another one for Fault
 abbrev pub cell_look : ℕ → Heard → List ℕ
 cell_look sender (Word word) = look_of sender
 cell_look sender Fault = codes "none"
@@ -43,7 +43,8 @@ unfoldable pub with_cell : Extent → List ℕ → DeliveryLine → List ℕ
 with_cell extent text l =
     with_label (with_box text (cell_area extent l) (cell_look l.sender l.value)) (column_left extent l.slot + cell_width extent / 2) (row_top extent l.frame l.receiver + 15) (word_look l.value) [] (heard_text l.value)
 
--- a node begins a frame, so long after the first; behind the panels it is not drawn
+-- the mark of a node that begins a frame `after` units after the first; behind the panels it is not
+-- drawn
 unfoldable pub with_tick : Extent → List ℕ → ℕ → NodeName → ℕ → List ℕ
 with_tick extent text frame node after =
     if is_behind extent frame then text else with_box text (tick_area extent frame node after) (codes "tick")
@@ -54,17 +55,18 @@ cause_name FewGoodBiu = codes ": FewGoodBiu"
 cause_name FewGoodRmu = codes ": FewGoodRmu"
 cause_name TwoSided = codes ": TwoSided"
 
--- and what it means
+-- what a cause means
 abbrev pub cause_words : Cause → List ℕ
 cause_words FewGoodBiu = codes "the good BIUs are no majority"
 cause_words FewGoodRmu = codes "the good RMUs are no majority"
 cause_words TwoSided = codes "one BIU, one RMU told two things"
 
--- where the run broke off
+-- the place at which the run broke off
 abbrev pub place_words : Place → List ℕ
 place_words place = ((((codes "Breach in frame " ++ decimal place.frame) ++ codes ", slot ") ++ decimal place.slot) ++ codes ", stage ") ++ decimal place.stage
 
--- under the title, where and why the run broke off, and what a report does not say
+-- the words under the title that say at which place and why the run broke off, and what a report
+-- does not say
 unfoldable pub with_breach_words : List ℕ → Place → Cause → List ℕ
 with_breach_words text place cause =
     with_label (with_label (with_label text
@@ -112,7 +114,7 @@ with_slots extent frame text = each_below (with_slot_number extent frame) (slots
 unfoldable pub with_cross : ℕ → ℕ → List ℕ → ℕ → List ℕ
 with_cross y set text i = if has set i then with_label text 60 y (codes "cross") (codes "X") [] else text
 
--- a word in the row of a node of which no line is
+-- a word in the row of a node that has no line
 unfoldable pub with_absence : ℕ → Rows → List ℕ → ℕ → List ℕ
 with_absence y rows text i =
     if nat_lt i rows.count && not (has rows.present i) then with_label text 100 y (codes "absent") (codes "absent") [] else text
@@ -138,7 +140,7 @@ spread_unit extent = if extent.spread == 0 then [] else codes " units of time"
 abbrev pub spread_words : Begins → List ℕ
 spread_words begins = codes "spread " ++ decimal (spread_of begins)
 
--- the axis of the starts, where they spread: from the first begin to the greatest spread
+-- the axis of the starts, if they spread: from the first start to the greatest spread
 unfoldable pub with_axis : Extent → ℕ → List ℕ → List ℕ
 with_axis extent frame text =
     if extent.spread == 0 then text

@@ -109,7 +109,7 @@ with_name nodes (Rmu i) = record nodes { rmu = with_number nodes.rmu i }
 abbrev pub with_present : Facts → NodeName → Facts
 with_present facts node = record facts { present = with_name facts.present node }
 
--- such nodes are convicted
+-- the facts of a frame in which these nodes are convicted
 abbrev pub with_convicted : Facts → ℕ → ℕ → Facts
 with_convicted facts biu rmu = record facts { convicted = record { biu = both facts.convicted.biu biu; rmu = both facts.convicted.rmu rmu } }
 
@@ -178,8 +178,8 @@ facts_from mark facts (l ∷ lines) = if mark_of 0 l == mark then facts_from mar
 abbrev pub facts_of : ℕ → List Line → Facts
 facts_of mark lines = facts_from mark no_facts lines
 
--- the rows of the nodes of a kind, in a frame of which this is known: how many rows stand above
--- them, and how many they are
+-- the rows of the nodes of a kind, in a frame of which this is known: how many rows are above them,
+-- and how many they are
 abbrev pub biu_rows : Extent → Facts → Rows
 biu_rows extent facts = record { above = 0; count = extent.bius; convicted = facts.convicted.biu; present = facts.present.biu }
 

@@ -25,7 +25,7 @@ IsInRange (Draw All) = ⊤
 IsInRange (Draw (Between first last)) = AreInOrder first last
 IsInRange (Show flag) = ⊤
 
--- these words are those of the form, whose numbers are in range
+-- the words are those of the form, whose numbers are in range
 pub record Ask (words : List (List ℕ)) (form : Form) : Type 0 where
   pub same : words ≡ words_of form
   pub in_range : IsInRange form

@@ -34,7 +34,7 @@ deliveries_of (line.Breach place cause ∷ lines) = deliveries_of lines
 abbrev pub OneCellEach : Type 0
 OneCellEach = (lines : List Line) → cells_of (pieces_of lines) ≡ deliveries_of lines
 
--- its text is one element, in which all others nest and close and all text is escaped
+-- the picture's text is one element, in which all others nest and close and all text is escaped
 abbrev pub IsWellFormed : Type 0
 IsWellFormed = (style : List ℕ) (sheet : Sheet) (lines : List Line) → IsDocument (picture_text style sheet lines)
 

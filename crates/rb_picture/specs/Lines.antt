@@ -105,11 +105,11 @@ node_place (Rmu i) = 256 + i
 abbrev pub place_of : ℕ → ℕ → ℕ → ℕ → ℕ
 place_of frame kind slot node = ((frame * 4 + kind) * 65536 + slot) * 512 + node + 1
 
--- where the last line stands: behind all others
+-- the place of the last line: behind all others
 abbrev pub last_place : ℕ
 last_place = 2 ^ 60
 
--- where a line stands
+-- the place of a line
 abbrev pub line_place : Line → ℕ
 line_place (line.Epoch l) = place_of l.frame 0 0 (node_place l.node)
 line_place (line.Convicted l) = place_of l.frame 1 0 (node_place l.node)
@@ -123,7 +123,7 @@ abbrev pub ascend : ℕ → List Line → Bool
 ascend from [] = true
 ascend from (l ∷ lines) = nat_lt from (line_place l) && ascend (line_place l) lines
 
--- where the last of these lines stands, or this place
+-- the place of the last of these lines, or `from` if there is none
 abbrev pub end_of : ℕ → List Line → ℕ
 end_of from [] = from
 end_of from (l ∷ lines) = end_of (line_place l) lines
@@ -143,19 +143,19 @@ pub record StandsFirst (bytes : List ℕ) (newest : ℕ) (l : Line) (number : �
   pub within : number ≤ length bytes
   pub behind : newest < line_place l
 
--- they begin with one that stands before this place or in it
+-- the bytes begin with a line whose place is not behind this one
 pub record BeginsTooEarly (bytes : List ℕ) (newest : ℕ) : Type 0 where
   pub line : Line
   pub tail : List ℕ
   pub spelled : bytes ≡ line_text line ++ tail
   pub too_early : line_place line ≤ newest
 
--- they begin with the text of no line of a bus
+-- the bytes begin with the text of no line of a bus
 abbrev pub BeginsWithNoLine : List ℕ → Type 0
 BeginsWithNoLine bytes = (l : Line) (tail : List ℕ) → Fits l → bytes ≢ line_text l ++ tail
 
--- where they begin with a line of a bus that stands behind this place, it is found, with the number
--- of its bytes
+-- if the bytes begin with a line of a bus whose place is behind this one, it is found, with the
+-- number of its bytes
 abbrev pub FindsEach : List ℕ → ℕ → Result (Line × ℕ) Fault → Type 0
 FindsEach bytes newest result = (l : Line) (tail : List ℕ) → Fits l → bytes ≡ line_text l ++ tail → newest < line_place l → result ≡ Ok (l, length (line_text l))
 

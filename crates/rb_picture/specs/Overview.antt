@@ -42,14 +42,14 @@ overview_width extent = max 440 (20 + band_width extent * ((frames_of extent + 1
 abbrev pub overview_height : Extent → ℕ
 overview_height extent = 188 + row_height extent * min (frames_of extent) band_rows
 
--- where a frame's row stands
+-- the left edge of a frame's row
 abbrev pub frame_left : Extent → ℕ → ℕ
 frame_left extent frame = 20 + band_width extent * ((frame - extent.first) / band_rows)
 
 abbrev pub frame_top : Extent → ℕ → ℕ
 frame_top extent frame = 176 + row_height extent * ((frame - extent.first) % band_rows)
 
--- its cells, and one of them
+-- the area of a row, and that of one of its cells
 abbrev pub row_area : Extent → ℕ → Area
 row_area extent frame =
     record { x = frame_left extent frame + 48; y = frame_top extent frame; width = slot_width extent * slots_of extent; height = row_height extent }
@@ -66,7 +66,7 @@ row_end extent frame = frame_left extent frame + 52 + slot_width extent * slots_
 abbrev pub is_numbered : Extent → ℕ → Bool
 is_numbered extent frame = frame % (60 / row_height extent) == 0
 
--- the number of a slot is written above its column where it is a multiple of this
+-- the number of a slot is written above its column if it is a multiple of this
 abbrev pub slot_step : Extent → ℕ
 slot_step extent =
     if nat_le (slots_of extent) 16 then 1
@@ -114,7 +114,7 @@ with_line extent frame text =
     then with_label text (frame_left extent frame) (frame_top extent frame + 10) (codes "note") (codes "after") []
     else with_frame_number extent (with_box text (row_area extent frame) (codes "strip")) frame
 
--- with the names of the nodes that are convicted now and were not before
+-- the row of a frame with the names of the nodes that are convicted now and were not before
 unfoldable pub with_row : Extent → ℕ → Nodes → Nodes → List ℕ → List ℕ
 with_row extent frame before after text =
     with_names_in (row_end extent frame) (frame_top extent frame + 10) (newcomers before after) (with_line extent frame (with_axes_at extent frame text))

@@ -76,7 +76,7 @@ frame_of frame (line.Breach place cause) = place.frame
 abbrev pub no_panel : Panel
 no_panel = record { mark = 0; frame = 0; facts = no_facts }
 
--- the panel of a line, which is the first of these lines: another one where it is the first of its
+-- the panel of a line, which is the first of these lines: another one if it is the first of its
 -- frame
 abbrev pub panel_with : Panel → Line → List Line → Panel
 panel_with panel l lines =

@@ -1,4 +1,4 @@
--- Where things stand in a picture, in pixels: a panel for each frame, in it a row for each node,
+-- The places of things in a picture, in pixels: a panel for each frame, in it a row for each node,
 -- and a column for each slot.
 use Rattle.std.specs.Prelude.{ℕ, ◌+◌, ◌-◌, ◌*◌, ◌/◌, ◌==◌, ◌&&◌, min, max, nat_le, nat_lt, Bool, if◌then◌else◌}
 use Rattle.rb_base.specs.declared.node.NodeName.{NodeName}
@@ -37,7 +37,7 @@ panel_top extent frame = 180 + panel_height extent * (frame - extent.first)
 abbrev pub row_top : Extent → ℕ → ℕ → ℕ
 row_top extent frame row = panel_top extent frame + 68 + 20 * row
 
--- where the columns begin: behind the axis of the starts, where they spread
+-- the left edge of the columns: behind the axis of the starts, if they spread
 abbrev pub grid_left : Extent → ℕ
 grid_left extent = if extent.spread == 0 then 196 else 284
 

@@ -1,4 +1,4 @@
--- Of which deliveries a port is the record.
+-- The deliveries that a port records.
 use Rattle.std.specs.Prelude.{ℕ, ◌≡◌, Bool, List, map, reverse, take}
 use Rattle.rb_base.specs.declared.values.Delivery.{Delivery}
 use Rattle.rb_rules.specs.Ports.{PortState, is_fault}
@@ -13,7 +13,7 @@ pub record KeptPort : Type 0 where
 abbrev pub is_lost : Delivery → Bool
 is_lost delivery = is_fault delivery.value
 
--- the port stands for this state, of which it keeps the last 64 deliveries
+-- what is kept stands for this state of the port; its last 64 deliveries are kept
 pub record HoldsPort (kept : KeptPort) (port : PortState) : Type 0 where
   pub app : kept.app ≡ port.app
   pub state : kept.state ≡ port.state

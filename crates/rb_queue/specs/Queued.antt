@@ -24,8 +24,8 @@ pub record Queued : Type 0 where
 abbrev pub room_left : Queued → ℕ
 room_left q = q.lane.room - (length q.lane.arrivals + length (option_to_list q.lane.tick) + length q.more)
 
--- where an event comes from: an arrival from its sender, and a tick from the node's own clock,
--- which stands behind all senders
+-- the source of an event: an arrival has its sender, and a tick the node's own clock, which comes
+-- after all senders
 abbrev pub source_of : EventKind → ℕ
 source_of (kind.Arrive from bytes) = from
 source_of (kind.Tick word wanted) = 256
@@ -34,7 +34,7 @@ source_of (kind.Tick word wanted) = 256
 abbrev pub is_of : ℕ → ℕ → Pending → Bool
 is_of time source p = (source_of p.event.kind == source) && (p.time == time)
 
--- it is of this time, and of one of the sources that begin with the first and stand before the end
+-- the event is of this time, and of one of the sources from `first` on and before `end`
 abbrev pub is_sent_between : ℕ → ℕ → ℕ → Pending → Bool
 is_sent_between time first end p = nat_le first (source_of p.event.kind) && nat_lt (source_of p.event.kind) end && (p.time == time)
 
@@ -73,7 +73,7 @@ takeable_at time lane more = unless_some (senders_at time lane more) (ticks_at t
 abbrev pub least_time_of : Queued → Option ℕ
 least_time_of q = least ((option_to_list q.lane.tick ++ map (λ c. c.time) q.lane.arrivals) ++ map (λ p. p.time) q.more)
 
--- nothing may be taken where there is no least time
+-- nothing may be taken if there is no least time
 abbrev pub takeable_from : Option ℕ → Queued → List Takeable
 takeable_from None q = []
 takeable_from (Some time) q = takeable_at time q.lane q.more
@@ -86,7 +86,8 @@ takeable_of q = takeable_from (least_time_of q) q
 abbrev pub IsEmpty : Queued → Type 0
 IsEmpty q = IsIdle q.lane × (q.more ≡ [])
 
--- it is a tick without a word where none is pending, or an arrival
+-- there is a place for the event: it is a tick without a word and none is pending, or it is an
+-- arrival
 abbrev pub has_place : EventKind → Option ℕ → Bool
 has_place (kind.Arrive from bytes) tick = true
 has_place (kind.Tick word wanted) tick = (word == 0) && not wanted && is_none tick
@@ -111,7 +112,8 @@ with_pushed time event q = elim (fits_lane event q) [
   | false ↦ with_beside time event q
 ]
 
--- it, as an event of a node. What is kept beside is the event that was pushed
+-- what may be taken, as an event of a node. What is kept beside the lane is the event that was
+-- pushed
 abbrev pub as_event : NodeName → Takeable → Event
 as_event name (InLane r) = event_with name r
 as_event name (Beside place p) = p.event
@@ -133,7 +135,7 @@ lane_events name source lane = elim (256 == source) [
 abbrev pub events_of : NodeName → ℕ → Queued → List (ℕ × Event)
 events_of name source q = lane_events name source q.lane ++ map (λ p. (p.time, p.event)) (filter (λ p. source_of p.event.kind == source) q.more)
 
--- this, if the test passes
+-- x alone if the test passes, and nothing if not
 abbrev pub only_if : {X : Type 0} → Bool → X → List X
 only_if true x = x ∷ []
 only_if false x = []
@@ -149,7 +151,7 @@ abbrev pub IsSent : EventKind → Type 0
 IsSent (kind.Arrive from bytes) = from ≤ 255
 IsSent (kind.Tick word wanted) = ⊤
 
--- it is taken out
+-- the queue without what is taken out
 abbrev pub without_one : Takeable → Queued → Queued
 without_one (InLane r) q = with_held (without r q.lane) q
 without_one (Beside place p) q = record q { more = remove q.more place }
@@ -189,7 +191,7 @@ with_queue (node.Rmu i) q queues = record queues { rmus = slice_set queues.rmus 
 
 -- How it is kept and looked through.
 
--- of this lane and what is kept beside, all but the tick has room
+-- everything in this lane and beside it has room, the tick left out
 pub record IsQueue (lane : Held) (more : List Pending) (capacity : ℕ) : Type 0 where
   pub fits : length lane.arrivals + length more ≤ lane.room
   pub reserved : lane.room ≤ capacity

@@ -29,7 +29,7 @@ pub record IsFirst (arrivals : List Coming) (place : ℕ) : Type 0 where
   pub source : (k : ℕ) (c : Coming) → slice_get arrivals k ≡ Some c → c.time ≡ coming.time → coming.from ≤ c.from
   pub front : (k : ℕ) (c : Coming) → slice_get arrivals k ≡ Some c → c.time ≡ coming.time → c.from ≡ coming.from → place ≤ k
 
--- where there are arrivals, this is the place of the first
+-- if there are arrivals, this is the place of the first
 abbrev pub HasFirst : List Coming → ℕ → Type 0
 HasFirst [] place = ⊤
 HasFirst (c ∷ arrivals) place = IsFirst (c ∷ arrivals) place
@@ -49,7 +49,7 @@ pub record ComesAt (i : ℕ) (lane : Held) (place : ℕ) : Type 0 where
   pub found : slice_get (ready_of lane) i ≡ Some (Comes place coming)
   pub stands : slice_get lane.arrivals place ≡ Some coming
 
--- the place of the i-th that is ready. Where there is none, it is the tick
+-- the place of the i-th that is ready. If there is none, the i-th is the tick
 abbrev pub IsReadyAt : ℕ → Held → Option ℕ → Type 0
 IsReadyAt i lane None = slice_get (ready_of lane) i ≡ Some Ticks
 IsReadyAt i lane (Some place) = ComesAt i lane place

@@ -1,4 +1,4 @@
--- Where something that is pending stands.
+-- The spots of what is pending.
 use Rattle.std.specs.Prelude.{ℕ, ◌≡◌, Some, List, slice_get}
 use Rattle.rb_rules.specs.Hearing.{Coming}
 use Rattle.rb_queue.specs.declared.pending.Pending.{Pending}

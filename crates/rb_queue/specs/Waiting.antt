@@ -24,7 +24,7 @@ pub record Held : Type 0 where
 abbrev pub spare_of : Held → ℕ
 spare_of lane = lane.room - (length lane.arrivals + length (option_to_list lane.tick))
 
--- the time of the tick, and where none is pending the last time that there is
+-- the time of the tick, and the last time that there is if no tick is pending
 abbrev pub tick_time_of : Held → ℕ
 tick_time_of lane = unwrap_or lane.tick 18446744073709551615
 
@@ -69,7 +69,7 @@ head_of lane = least (option_to_list lane.tick ++ map (λ c. c.time) lane.arriva
 abbrev pub IsIdle : Held → Type 0
 IsIdle lane = (lane.arrivals ≡ []) × (lane.tick ≡ None)
 
--- nothing is ready where there is no least time
+-- nothing is ready if there is no least time
 abbrev pub ready_from : Option ℕ → Held → List Ready
 ready_from None lane = []
 ready_from (Some time) lane = ready_at time lane
@@ -96,7 +96,7 @@ abbrev pub kind_with : Ready → EventKind
 kind_with (Comes place c) = kind.Arrive c.from (record { items = c.bytes })
 kind_with Ticks = kind.Tick 0 false
 
--- it is this event of a node
+-- what is ready, as an event of a node
 abbrev pub event_with : NodeName → Ready → Event
 event_with name r = record { node = name; quiet = 0; kind = kind_with r }
 
@@ -141,8 +141,8 @@ pub record IsTickReady (time : ℕ) (lane : Held) : Type 0 where
   pub ready : ready_of lane ≡ Ticks ∷ []
   pub tick : lane.tick ≡ Some time
 
--- the place of the first arrival that is ready, where it is due before this time. If there is none,
--- nothing is due before then but the tick
+-- the place of the first arrival that is ready, if it is due before this time. If there is none,
+-- nothing but the tick is due before then
 abbrev pub IsFirstBefore : ℕ → Held → Option ℕ → Type 0
 IsFirstBefore until lane None = (time : ℕ) → head_of lane ≡ Some time → (until ≤ time) ⊎ IsTickReady time lane
 IsFirstBefore until lane (Some place) = IsReadyBefore until lane place

@@ -23,8 +23,8 @@ abbrev pub all_of_log : ℕ → List Told → List Event
 all_of_log frames [] = []
 all_of_log frames (t ∷ ts) = of_log frames t ++ all_of_log frames ts
 
--- Who writes the log was told these events of it. They were passed on, if no write had failed
--- before, or a write failed at one of them. Where one had failed before, nothing was written
+-- The writer of the log was told these events of it. They were passed on, if no write had failed
+-- before, or a write failed at one of them. If one had failed before, nothing was written
 pub record Records {K : Type 0} (held : K → Option (List ℕ)) (faults : K → ℕ) (before : Recorder K) (events : List Event) (after : Recorder K) : Type 0 where
   pub same_output : after.output.ghost_name ≡ before.output.ghost_name
   pub frames : after.frames ≡ before.frames
@@ -34,12 +34,12 @@ pub record Records {K : Type 0} (held : K → Option (List ℕ)) (faults : K →
       (λ _. PassesNext before.log after.log before.waiting after.waiting events (held before.output.now) (held after.output.now))
       (λ _. PassesPartOf before.log before.waiting events (held before.output.now) (held after.output.now))
 
--- so with what it is told next
+-- the writer of the log records what it is told next
 abbrev pub RecordsNext : {K : Type 0} → (K → Option (List ℕ)) → (K → ℕ) → Recorder K → Told → Recorder K → Type 0
 RecordsNext held faults before t after = Records held faults before (of_log before.frames t) after
 
--- Of what waited the first bytes were written, if no write had failed before, or that write failed.
--- Where one had failed before, nothing was written
+-- The first bytes of what waited were written, if no write had failed before, or that write failed.
+-- If one had failed before, nothing was written
 pub record Settles {K : Type 0} (held : K → Option (List ℕ)) (faults : K → ℕ) (before after : Recorder K) : Type 0 where
   pub same_output : after.output.ghost_name ≡ before.output.ghost_name
   pub frames : after.frames ≡ before.frames
@@ -60,7 +60,7 @@ pub record MayRecord {K : Type 0} (k : KeptWorld) (name : NodeName) (r : Recorde
   pub waiting : r.waiting ≡ []
   pub written : IsOk r.written
 
--- the run was taken to its end and recorded, or to where a write failed
+-- the run was taken to its end and recorded, or recorded up to a write that failed
 pub record RecordsRun {K E : Type 0} (held : K → Option (List ℕ)) (faults : K → ℕ) (name : NodeName) (k since : KeptWorld) (before after : Recorder K) (result : Result Ending E) : Type 0 where
   pub recorded : MatchResult result
       (λ _. IsRecordedWhole k.bus name since after.log after.waiting (held before.output.now) (held after.output.now))

@@ -40,7 +40,7 @@ pub record WritesPart (sc : Scenario) (name : NodeName) (held since : Option (Li
 abbrev pub HasRoom : ℕ → Event → Type 0
 HasRoom ticks e = (ticks + ticks_given e ≤ 2147483648) × HasBytes e.kind
 
--- so with these one after another
+-- these events may be told one after another
 abbrev pub MayTell : ℕ → List Event → Type 0
 MayTell ticks [] = ⊤
 MayTell ticks (e ∷ events) = HasRoom ticks e × MayTell (ticks + ticks_given e) events
@@ -56,8 +56,8 @@ pub record PassesNext (log later : Tally) (before after : List ℕ) (events : Li
   pub told : IsTold log later events bytes
   pub passed : PassesOn before after bytes held since
 
--- or a write failed: a first part was written of what waited and of what is written where these
--- events come next, whatever follows
+-- a write failed: a first part was written of what waited and of what is written if these events
+-- come next, whatever follows
 abbrev pub PassesPartOf : Tally → List ℕ → List Event → Option (List ℕ) → Option (List ℕ) → Type 0
 PassesPartOf log before events held since = (others : List Event) → AppendsPart held since (before ++ written log.waiting (events ++ others))
 

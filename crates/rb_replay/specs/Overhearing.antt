@@ -26,7 +26,7 @@ from_tick (suc n) (Tick word ∷ events) = from_tick n events
 abbrev pub heed_lines : NodeName → Heed → List ℕ
 heed_lines name h = epoch_lines name h.epoch ++ delivery_lines name h.delivered
 
--- 1 where a frame begins
+-- 1 if a frame begins, and 0 if not
 abbrev pub begun_with : Option Epoch → ℕ
 begun_with None = 0
 begun_with (Some e) = 1

@@ -9,7 +9,7 @@ use Rattle.rb_report.specs.Report.{end_text}
 use Rattle.rb_outside.specs.Writing.{Writes}
 use Rattle.rb_laws_logs.specs.Replays.{act_lines, frames_in, frames_with}
 
--- the acts of a core that sits where the node sits
+-- the acts of a core that is the node's
 abbrev pub acts_at : Side → Running → Core → List CoreEvent → List Act
 acts_at me n c events = acts_of n.seat.sizes n.seat.plan me n.seat.index c events
 

@@ -33,12 +33,12 @@ abbrev pub heard_text : Heard → List ℕ
 heard_text (Word word) = decimal word
 heard_text Fault = codes "none"
 
--- a last field where there is one
+-- the last field, if there is one
 abbrev pub last_field : Option ℕ → List (List ℕ)
 last_field None = []
 last_field (Some number) = decimal number ∷ []
 
--- e FRAME NODE TICK, and the time where it is known
+-- the line e FRAME NODE TICK, and the time if it is known
 abbrev pub epoch_text : ℕ → NodeName → ℕ → Option ℕ → List ℕ
 epoch_text frame node tick time = line_of (codes "e") (decimal frame ∷ node_text node ∷ decimal tick ∷ last_field time)
 
@@ -115,7 +115,7 @@ log_refusals =
     ∷ rule (codes "NotBiu")
     ∷ []
 
--- those of a log, or else of a scenario
+-- the refusals of a log, or of a scenario
 abbrev pub refusals : Bool → List Refusal
 refusals of_log = if of_log then log_refusals else scenario_refusals
 
@@ -123,14 +123,14 @@ refusals of_log = if of_log then log_refusals else scenario_refusals
 abbrev pub refusal_of : Bool → ℕ → Refusal
 refusal_of of_log code = slice_index_or (refusals of_log) (code - 1) (rule [])
 
--- a refusal has the code, and a number is given exactly where that refusal has one
+-- a refusal has the code, and a number is given if and only if that refusal has one
 pub record IsRefusal (code : ℕ) (detail : Option ℕ) (of_log : Bool) : Type 0 where
   pub least : 1 ≤ code
   pub most : code ≤ length (refusals of_log)
   pub used : code ≢ 13
   pub number : is_some detail ≡ (refusal_of of_log code).has_number
 
--- refused CODE NAME, and the number where there is one
+-- the line refused CODE NAME, and the number if there is one
 abbrev pub refused_text : ℕ → Option ℕ → Bool → List ℕ
 refused_text code detail of_log = line_of (codes "refused") (decimal code ∷ (refusal_of of_log code).name ∷ last_field detail)
 

@@ -23,7 +23,7 @@ abbrev pub value_in : ℕ → List Delivery → Option Heard
 value_in slot [] = None
 value_in slot (d ∷ ds) = if d.slot == slot then Some d.value else value_in slot ds
 
--- its word: 0 where none was delivered, or Fault
+-- the word of a delivery: 0 if none was delivered, or Fault
 abbrev pub word_of : Option Heard → ℕ
 word_of None = 0
 word_of (Some value) = word_or_0 (word_in value)
@@ -52,11 +52,11 @@ abbrev pub word_carried : Bridge → Hands → Bank → ℕ → Pair → ℕ
 word_carried b hands bank frame pair =
     word_of (value_told frame (carried_slot b (across bank)) (records_on b hands (across bank)) (biu_on (across bank) pair))
 
--- it is handed to its BIU on this one as the next frame begins
+-- the word is handed to the pair's BIU on this bank as the next frame begins
 abbrev pub hand_in_of : Bridge → Hands → Bank → ℕ → Pair → HandIn
 hand_in_of b hands bank frame pair = record { frame = frame + 1; biu = biu_on bank pair; state = word_carried b hands bank frame pair }
 
--- what all pairs carry to a bank after a frame, where their BIU is good as the next one begins
+-- what all pairs carry to a bank after a frame, if their BIU is good as the next one begins
 abbrev pub carried_to : Bridge → Hands → Bank → ℕ → List HandIn
 carried_to b hands bank frame =
     map (hand_in_of b hands bank frame) (filter (λ pair. is_good (bus_on b bank) Biu (biu_on bank pair) (frame + 1) 0) b.pairs)

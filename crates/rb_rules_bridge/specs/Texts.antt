@@ -50,7 +50,7 @@ break_told bank frame (Slot f slot lines) = None
 break_told bank frame Ended = None
 break_told bank frame (Breach place cause) = if place.frame == frame then Some (record { bank = bank; place = place; cause = cause }) else None
 
--- and that records tell
+-- the breach that records tell of a frame
 abbrev pub break_in : Bank → ℕ → List Record → Option Break
 break_in bank frame [] = None
 break_in bank frame (r ∷ rs) = option_or (break_told bank frame r) (break_in bank frame rs)
@@ -74,7 +74,7 @@ receiver_text b frame bank i =
 abbrev pub receivers_text : Bridge → ℕ → Bank → List ℕ
 receivers_text b frame bank = flat_map (receiver_text b frame bank) (numbers (bus_on b bank).sizes.bius)
 
--- those of a frame, the left bank's first. Nothing has crossed in the first frame
+-- the lines of a frame, the left bank's first. Nothing has crossed in the first frame
 abbrev pub frame_text : Bridge → ℕ → List ℕ
 frame_text b zero = []
 frame_text b (suc frame) = receivers_text b (suc frame) Left ++ receivers_text b (suc frame) Right

@@ -34,7 +34,7 @@ newest_with newest (Some (Slot frame slot lines)) = newest
 newest_with newest (Some Ended) = newest
 newest_with newest (Some (Breach place cause)) = newest
 
--- and after several
+-- the newest block after several records
 abbrev pub newest_after : ℕ → List Record → ℕ
 newest_after newest [] = newest
 newest_after newest (r ∷ rs) = newest_after (newest_with newest (Some r)) rs

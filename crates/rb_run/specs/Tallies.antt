@@ -24,7 +24,7 @@ block_in (Breach place cause) = None
 abbrev pub blocks_of : List Record → List Block
 blocks_of records = filter_map block_in records
 
--- the number of the last block. It is that of the frames where the run ends without a breach
+-- the number of the last block. If the run ends without a breach, it is the number of the frames
 abbrev pub frames_in : Option Block → ℕ
 frames_in None = 0
 frames_in (Some b) = b.frame
@@ -63,7 +63,7 @@ tally_of records = record {
   spread = greatest (flat_map (λ b. differences_in b.nodes) (blocks_of records));
 }
 
--- of the records that these turns are
+-- the totals of the records that these turns are
 abbrev pub totals_of : List Turn → Totals
 totals_of turns = tally_of (records_in turns)
 

@@ -75,7 +75,7 @@ pub record IsAccepted (bytes : List ℕ) (a : Accepted) : Type 0 where
   pub text : IsDocument bytes document
   pub says : Says document a
 
--- the bytes are the text of a document of which this is the first rule that it breaks
+-- the bytes are the text of a document, and this is the first rule that it breaks
 pub record IsBroken (bytes : List ℕ) (why : Refusal) : Type 0 where
   pub document : Members
   pub text : IsDocument bytes document

@@ -21,27 +21,28 @@ app_in _ = None
 abbrev pub is_app : Data → Bool
 is_app d = is_some (app_in (Some d))
 
--- one of each for each BIU, where there are any
+-- the requests, the words and the applications are each a list with one item for each BIU, or not
+-- there
 abbrev pub has_lists : ℕ → Members → Bool
 has_lists bius t =
     may_have_list (codes "requests") bius (is_within 0 64) t
     && may_have_list (codes "words") bius (is_within 0 4294967295) t
     && may_have_list (codes "apps") bius is_app t
 
--- how many data slots BIU i asks for: one, where nothing is said. Past the last BIU 0
+-- how many data slots BIU i asks for: one, if nothing is said. Past the last BIU 0
 abbrev pub request_at : ℕ → Members → ℕ → ℕ
 request_at bius t i =
     if has_key (codes "requests") t then number_or 0 (item_at (codes "requests") i t) else (if nat_lt i bius then 1 else 0)
 
--- the state with which the port of BIU i begins: 0, where nothing is said
+-- the state with which the port of BIU i begins: 0, if nothing is said
 abbrev pub word_at : Members → ℕ → ℕ
 word_at t i = number_or 0 (item_at (codes "words") i t)
 
--- the application at BIU i: the first, where nothing is said
+-- the application at BIU i: the first, if nothing is said
 abbrev pub app_at : Members → ℕ → ℕ
 app_at t i = unwrap_or (app_in (item_at (codes "apps") i t)) 0
 
--- of 16 BIUs
+-- the requests of 16 BIUs
 unfoldable pub requests_of : ℕ → Members → List ℕ
 requests_of bius t = map (request_at bius t) (numbers 16)
 

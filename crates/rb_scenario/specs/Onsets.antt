@@ -1,4 +1,4 @@
--- Which nodes are good where, by the onsets alone.
+-- Which nodes are good in which slot, by the onsets alone.
 use Rattle.std.specs.Prelude.{ℕ, Bool, ◌&&◌, nat_lt, List, Option, None, get_or}
 use Rattle.rb_base.specs.Sizes.{Sizes}
 use Rattle.rb_base.specs.declared.node.NodeName.{NodeName}

@@ -27,7 +27,7 @@ fits_bus bus t =
 abbrev pub is_in_range : Members → Bool
 is_in_range t = has_bus t && fits_bus (bus_of t) t
 
--- the delay of a message for which there is no rule: midway, where nothing is said
+-- the delay of a message for which there is no rule: midway, if nothing is said
 abbrev pub base_delay_of : Plan → Members → ℕ
 base_delay_of plan t = number_at (codes "delay") ((plan.dmin + plan.dmax) / 2) t
 

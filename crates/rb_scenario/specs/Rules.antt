@@ -24,7 +24,7 @@ are_delays plan delays = is_delay plan delays.base && list_all (λ r. is_delay p
 unfoldable pub start_together : ℕ → List Timeline → Bool
 start_together bound clocks = list_all (λ a. list_all (λ b. nat_le (a.start - b.start) bound) clocks) clocks
 
--- whoever says something is not good at its first place
+-- each node that says something is not good at the first place of its entry
 abbrev pub are_sayers_faulty : Scenario → Bool
 are_sayers_faulty sc = list_all (λ say. not (is_node_good sc say.from say.frames.0 say.slots.0)) sc.says
 

@@ -66,7 +66,7 @@ link_fields =
     ∷ may_have (codes "stages") Pair
     ∷ []
 
--- where a node begins to be faulty
+-- the fields of a fault: the node, and the frame and the slot from which on it is faulty
 unfoldable pub fault_fields : List Entry
 fault_fields = must_have (codes "node") Text ∷ must_have (codes "frame") Integer ∷ must_have (codes "slot") Integer ∷ []
 

@@ -75,7 +75,7 @@ in_entries breaks t =
     || list_any (breaks fault_fields) (entries_at (codes "fault") t)
     || list_any (breaks say_fields) (entries_at (codes "say") t)
 
--- it is broken at the root, at the plan or at some entry
+-- the rule is broken at the root, at the plan or at some entry
 abbrev pub somewhere : (List Entry → Members → Bool) → Members → Bool
 somewhere breaks t =
     breaks root_fields t || passes (on_table (breaks plan_fields)) (get_member (codes "plan") t) || in_entries breaks t

@@ -9,11 +9,11 @@ abbrev pub is_within : ℕ → ℕ → Data → Bool
 is_within low high (integer (pos n)) = nat_le low n && nat_le n high
 is_within low high _ = false
 
--- such an integer stands at the key
+-- the key has such an integer
 abbrev pub has_number : List ℕ → ℕ → ℕ → Members → Bool
 has_number key low high t = passes (is_within low high) (get_member key t)
 
--- such an integer stands at the key, or nothing
+-- the key has such an integer, or is not there
 abbrev pub may_have_number : List ℕ → ℕ → ℕ → Members → Bool
 may_have_number key low high t = absent_or (is_within low high) (get_member key t)
 
@@ -22,7 +22,7 @@ abbrev pub number_or : ℕ → Option Data → ℕ
 number_or default (Some (integer (pos n))) = n
 number_or default _ = default
 
--- the number at a key, or the default where none stands there
+-- the number at a key, or the default if the key is not there
 abbrev pub number_at : List ℕ → ℕ → Members → ℕ
 number_at key default t = number_or default (get_member key t)
 
@@ -35,11 +35,11 @@ abbrev pub is_range : ℕ → ℕ → Data → Bool
 is_range low high d =
     passes (is_within low high) (at 0 d) && passes (is_within low high) (at 1 d) && nat_le (pair_of d).0 (pair_of d).1
 
--- such a pair stands at the key
+-- the key has such a pair
 abbrev pub has_range : List ℕ → ℕ → ℕ → Members → Bool
 has_range key low high t = passes (is_range low high) (get_member key t)
 
--- such a pair stands at the key, or nothing
+-- the key has such a pair, or is not there
 abbrev pub may_have_range : List ℕ → ℕ → ℕ → Members → Bool
 may_have_range key low high t = absent_or (is_range low high) (get_member key t)
 
@@ -47,7 +47,7 @@ abbrev pub range_or : ℕ × ℕ → Option Data → ℕ × ℕ
 range_or default None = default
 range_or default (Some d) = pair_of d
 
--- the pair at a key, or the default where none stands there
+-- the pair at a key, or the default if the key is not there
 abbrev pub range_at : List ℕ → ℕ × ℕ → Members → ℕ × ℕ
 range_at key default t = range_or default (get_member key t)
 
@@ -55,7 +55,7 @@ range_at key default t = range_or default (get_member key t)
 abbrev pub is_list : ℕ → (Data → Bool) → Data → Bool
 is_list count test d = has_length count d && is_array_of test d
 
--- such an array stands at the key, or nothing
+-- the key has such an array, or is not there
 abbrev pub may_have_list : List ℕ → ℕ → (Data → Bool) → Members → Bool
 may_have_list key count test t = absent_or (is_list count test) (get_member key t)
 

@@ -42,7 +42,7 @@ abbrev pub pairs_or : List (ℕ × ℕ) → Option Data → List (ℕ × ℕ)
 pairs_or default (Some (array ds)) = pairs_of ds
 pairs_or default _ = default
 
--- the clock of an entry: from 0 on, and with ticks of length u, where nothing is said
+-- the clock of an entry: if nothing is said, it starts at 0 and has ticks of length u
 abbrev pub timeline_of : ℕ → Members → Timeline
 timeline_of u e =
     record { start = number_at (codes "start") 0 e; segments = pairs_or ((0, u) ∷ []) (get_member (codes "ticks") e) }

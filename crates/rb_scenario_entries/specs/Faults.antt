@@ -1,4 +1,4 @@
--- Fault entries: from where on some nodes are not good.
+-- Fault entries: the frame and the slot from which on nodes are not good.
 use Rattle.std.specs.Prelude.{ℕ, ◌-◌, Bool, ◌&&◌, List, map, Option, option_map, is_some, codes}
 use Rattle.std.specs.List.{list_all}
 use Rattle.toml.specs.Data.{Members}
@@ -28,10 +28,10 @@ has_faults bus t =
 abbrev pub onset_of : Members → ℕ × ℕ
 onset_of e = (number_at (codes "frame") 0 e, number_at (codes "slot") 0 e)
 
--- from where on the node is not good, if it ever is not
+-- the frame and the slot from which on the node is not good, if it ever is not
 abbrev pub onset_for : Bus → Members → NodeName → Option (ℕ × ℕ)
 onset_for bus t name = option_map onset_of (entry_for bus.shape (entries_at (codes "fault") t) name)
 
--- of 16 nodes of a kind
+-- the onsets of 16 nodes of a kind
 unfoldable pub onsets_of : Side → Bus → Members → List (Option (ℕ × ℕ))
 onsets_of side bus t = map (λ i. onset_for bus t (name_of side i)) (numbers 16)

@@ -33,7 +33,7 @@ is_link bus e =
 abbrev pub pattern_of : Bus → List ℕ → Members → Pattern
 pattern_of bus key e = unwrap_or (pattern_at bus.shape key e) AllBiu
 
--- the rule of an entry: for all frames, slots and stages, where nothing is said
+-- the rule of an entry: for all frames, slots and stages, if nothing is said
 unfoldable pub rule_of : Bus → Members → Rule
 rule_of bus e = record {
   from = pattern_of bus (codes "from") e;

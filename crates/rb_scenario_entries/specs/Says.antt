@@ -38,7 +38,7 @@ has_ranges bus e =
 abbrev pub is_sync_alone : ℕ → ℕ × ℕ → Bool
 is_sync_alone sync slots = (slots.0 == sync) && (slots.1 == sync)
 
--- the offset lies in the window of this stage of the sync slot, where the range has the stage
+-- the offset is in the window of this stage of the sync slot, if the range has the stage
 abbrev pub lies_in_stage : Plan → ℕ × ℕ → ℕ → ℕ → Bool
 lies_in_stage plan stages offset stage = not (is_in_range stages stage) || nat_lt offset (ticks_in_sync plan stage)
 
@@ -87,7 +87,7 @@ raw_in _ = None
 abbrev pub content_keys : List (List ℕ)
 content_keys = codes "word" ∷ codes "fault" ∷ codes "sync" ∷ codes "raw" ∷ []
 
--- what a value means, where one is there, and else what comes next
+-- what a value means, if there is one, and otherwise what comes next
 abbrev pub meant : (Data → Option Content) → Option Data → Option Content → Option Content
 meant meaning None next = next
 meant meaning (Some d) next = meaning d

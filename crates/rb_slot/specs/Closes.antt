@@ -26,8 +26,8 @@ pub record ClosesWith (inbox : KeptArrivals) (outcome : List Received → Outcom
   pub closed : (received : List Received) → HoldsArrivals inbox received → shown ≡ (outcome received).closed
   pub same : IsSameFrame before after
 
--- whatever came that the inbox stands for, the node accuses of those that are expected the ones
--- with direct evidence against them. It stays in its frame
+-- whatever arrivals the inbox stands for, the node accuses the expected sources against which there
+-- is direct evidence. It stays in its frame
 pub record Accuses (inbox : KeptArrivals) (expected : ℕ → Bool) (senses : List Received → ℕ → Sense) (before after : Seated) : Type 0 where
   pub accused : (received : List Received) → HoldsArrivals inbox received
       → after ≡ record before { state = record before.state { far = with_evidence (has_evidence before.state.far expected (senses received)) before.state.far } }

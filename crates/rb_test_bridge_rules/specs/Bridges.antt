@@ -61,7 +61,7 @@ triple first second third onset =
 abbrev pub pair : ℕ → ℕ → Pair
 pair left right = record { left = left; right = right }
 
--- of one pair
+-- a bridge of one pair
 abbrev pub narrow : Scenario → Scenario → ℕ → ℕ → Bridge
 narrow left right left_slot right_slot = record { left = left; right = right; pairs = pair 0 0 ∷ []; left_slot = left_slot; right_slot = right_slot }
 
@@ -125,7 +125,7 @@ both_break = narrow (single 1 2 7 (Some (1, 0))) (single 1 2 9 (Some (1, 0))) 0 
 abbrev pub both_break_text : List ℕ
 both_break_text = codes "breach left 1 0 1 FewGoodBiu\n"
 
--- of three BIUs that ask for one data slot each the owners, in order
+-- the owners of data slots of three BIUs that ask for one each, in order
 abbrev pub slot_each : ℕ → Option ℕ
 slot_each slot = if slot == 3 then Some 0 else (if slot == 4 then Some 1 else (if slot == 5 then Some 2 else None))
 

@@ -46,6 +46,7 @@ offered frame slot i = 10 + 10 * i
 abbrev pub biu_with_owners : NodeState
 biu_with_owners = record biu { owners = 0 ∷ 1 ∷ 2 ∷ 3 ∷ 0 ∷ 1 ∷ 2 ∷ 3 ∷ [] }
 
--- clocks of which the first starts a unit too late, and the second has ticks a unit too short
+-- a bus with clocks out of the bands: the first starts a unit too late, and the second has ticks a
+-- unit too short
 abbrev pub out_of_bands : Scenario
 out_of_bands = record greatest_drift { clocks = ticking 60201 10001 ∷ replicate 6 (ticking 0 9998) }

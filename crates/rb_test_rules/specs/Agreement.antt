@@ -1,4 +1,4 @@
--- What good nodes hold in common where others are silent or lie, and whom they accuse.
+-- What good nodes hold in common if others are silent or lie, and whom they accuse.
 use Rattle.std.specs.Prelude.{ℕ, List, [], ◌∷◌, ◌++◌, map, filter, replicate, get_or, Some, None}
 use Rattle.rb_base.specs.Counting.{numbers}
 use Rattle.rb_base.specs.Nodes.{Side}

@@ -42,7 +42,7 @@ frame_of_rmu =
     ++ Arrive 0 (3 ∷ 0 ∷ 0 ∷ 0 ∷ 4 ∷ 1 ∷ 0 ∷ 0 ∷ 0 ∷ 0 ∷ 6 ∷ []) ∷ waits 35
     ++ Arrive 0 (3 ∷ 0 ∷ 0 ∷ 0 ∷ 4 ∷ 3 ∷ 0 ∷ 0 ∷ 0 ∷ 0 ∷ 4 ∷ []) ∷ waits 21
 
--- the same with a wrong check in the request
+-- the events of a frame in which the request has a wrong check
 abbrev pub frame_with_a_wrong_check : List CoreEvent
 frame_with_a_wrong_check =
     waits 7

@@ -92,7 +92,7 @@ probation_passed_records =
     ∷ Ended
     ∷ []
 
--- the same without a probation
+-- the ordinary use without a probation
 abbrev pub no_probation : Scenario
 no_probation = record ordinary_use {
   sizes = record { bius = 4; rmus = 2; data_slots = 8 };
@@ -160,7 +160,7 @@ message_of_another_bus_records =
     ∷ Ended
     ∷ []
 
--- the same with messages of bus 5
+-- the ordinary use with messages of bus 5
 abbrev pub message_of_the_bus : Scenario
 message_of_the_bus = record ordinary_use {
   plan = record plan { version = version.Two 5; probation = 0 };

@@ -82,7 +82,7 @@ comes slot stage (v ∷ vs) j =
 abbrev pub that_heard : NodeState
 that_heard = (close_exact sizes Rmu 0 rmu 0 1 (comes 0 1 (Some (Word 2) ∷ []))).state
 
--- the same where nothing came
+-- the state of an RMU that heard nothing in stage 1
 abbrev pub that_heard_nothing : NodeState
 that_heard_nothing = (close_exact sizes Rmu 0 rmu 0 1 (comes 0 1 [])).state
 
@@ -137,6 +137,6 @@ biu_after stamps = (close_sync sizes Biu biu 1 855 (called 1 stamps)).state
 
 -- Convictions.
 
--- of three nodes, all trusted, by the vectors of the senders
+-- whom the vectors of the senders convict of three nodes, all trusted
 abbrev pub convicted : ℕ → List Heard → ℕ
 convicted senders vectors = convicted_by 3 senders 7 (λ i. get_or vectors i Fault)

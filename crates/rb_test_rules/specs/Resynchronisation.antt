@@ -101,7 +101,7 @@ alike_in_time_records =
     ∷ Ended
     ∷ []
 
--- the same with one of the calls one unit earlier
+-- the ordinary use with one of the calls one unit earlier
 abbrev pub apart_in_time : Scenario
 apart_in_time = record ordinary_use {
   requests = 1 ∷ 1 ∷ 1 ∷ 1 ∷ [];

@@ -26,8 +26,8 @@ use Rattle.rb_test_rules.specs.Told.{at}
 abbrev pub ticked_by : Plan → ℕ → Core → Core
 ticked_by p k c = (tick usual_sizes p Biu 0 (pass_to k c) 2).core
 
--- its own slot by ticks: it begins the frame, asks, and closes stage 1; then two RMUs relay 2 and
--- the third 7; then it closes stage 2
+-- the core after its own slot by ticks: it begins the frame, asks, and closes stage 1; then two
+-- RMUs relay 2 and the third 7; then it closes stage 2
 abbrev pub relays_to : Core → Core
 relays_to c =
     arrive usual_sizes Biu
@@ -39,7 +39,7 @@ relays_to c =
 abbrev pub own_slot : Core
 own_slot = ticked_by plan 29 (relays_to (ticked_by plan 14 (ticked_by plan 6 (ticked_by plan 0 (first_core usual_sizes Biu)))))
 
--- the same where messages are sent in the last tick of a window
+-- a plan in which messages are sent in the last tick of a window
 abbrev pub late_plan : Plan
 late_plan = record plan { h = 14 }
 

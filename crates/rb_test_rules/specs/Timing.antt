@@ -33,7 +33,7 @@ uneven_plan = record plan {
 abbrev pub quick_then_slow : Timeline
 quick_then_slow = record { start = 3; segments = (0, 10) ∷ (2, 12) ∷ [] }
 
--- of a data slot
+-- a place in a data slot
 abbrev pub data_place : Place
 data_place = record { frame = 0; slot = 5; stage = 1 }
 

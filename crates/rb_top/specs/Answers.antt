@@ -20,7 +20,7 @@ use Rattle.rb_top.specs.Words.{AskFor}
 
 -- Answers of a command.
 
--- it has ended: its input has been read, and its text is written
+-- the command has ended: its input has been read, and its text is written
 pub record CommandEnds (command : Command) (status : Status) (left left' held held' : Option (List ℕ)) (is_plain : Bool) (told told' : Option (List Turn)) : Type 0 where
   pub input : List ℕ
   pub text : List ℕ
@@ -28,7 +28,7 @@ pub record CommandEnds (command : Command) (status : Status) (left left' held he
   pub due : command.is_due input is_plain told told' status text
   pub written : Appends held held' text
 
--- its input has been read and is refused, and the one line of the refusal is written
+-- the command's input has been read and is refused, and the one line of the refusal is written
 pub record CommandRefuses (command : Command) (left left' held held' : Option (List ℕ)) : Type 0 where
   pub input : List ℕ
   pub line : List ℕ
@@ -64,7 +64,7 @@ abbrev pub IsLeft : Option ℕ → Option (List ℕ) → List ℕ → Type 0
 IsLeft None left input = input ≡ []
 IsLeft (Some limit) left input = left ≡ Some input
 
--- and it is within the limit
+-- the input is within the limit, if there is one
 abbrev pub IsWithin : Option ℕ → List ℕ → Type 0
 IsWithin None input = ⊤
 IsWithin (Some limit) input = length input ≤ limit
@@ -129,13 +129,13 @@ FailsToWrite form left left' held held' faults faults' is_plain told told' =
 abbrev pub Completes : Form → Status → Option (List ℕ) → ℕ → ℕ → ℕ → ℕ → Type 0
 Completes form status left reads reads' writes writes' = CommandCompletes (command_of form) status left reads reads' writes writes'
 
--- Usage comes exactly where the words ask for none of the forms
+-- Usage is the answer if and only if the words ask for none of the forms
 pub record UsageExactly (status : Status) (words : List (String Global)) : Type 0 where
   pub unknown : status ≡ answer.Usage → (form : Form) → ¬ AskFor words form
   pub refused : ((form : Form) → ¬ AskFor words form) → status ≡ answer.Usage
   pub known : ¬ (status ≡ answer.Usage) → (form : Form) × AskFor words form
 
--- the source, the sink and the drive are as they were, where the answer or the form leaves them so
+-- the source, the sink and the drive are as they were, if the answer or the form leaves them so
 pub record Untouched {S K D : Type 0} (words : List (String Global)) (status : Status) (source source' : S) (sink sink' : K) (drive drive' : D) : Type 0 where
   pub unread : status ≡ answer.Usage → source' ≡ source
   pub without_input : (form : Form) → AskFor words form → limit_of form ≡ None → source' ≡ source

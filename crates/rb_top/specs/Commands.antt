@@ -30,7 +30,7 @@ abbrev pub status_of : Ending → Status
 status_of ending.Ended = answer.Done
 status_of ending.Breach = answer.Breach
 
--- the run of a scenario ends so: Breach exactly where its last record is one, else Done
+-- the run of a scenario ends so: the status is Breach if its last record is one, and otherwise Done
 pub record EndsAs (sc : Scenario) (status : Status) : Type 0 where
   pub ending : Ending
   pub ends : EndsWith sc ending
@@ -50,7 +50,7 @@ pub record IsReport (tells : Telling) (input : List ℕ) (is_plain : Bool) (told
   pub ends : EndsAs scenario status
   pub text_is : text ≡ tells scenario (records_in turns)
 
--- and `group` of a scenario whose bus has all its members
+-- the report of `group` on a scenario whose bus has all its members
 pub record IsGroupReport (which : Which) (members : ℕ) (input : List ℕ) (is_plain : Bool) (told told' : Option (List Turn)) (status : Status) (text : List ℕ) : Type 0 where
   pub report : IsReport (told_by_group which members) input is_plain told told' status text
   pub there : AreMembers report.scenario.sizes members
@@ -107,7 +107,7 @@ pub record IsAlone (told told' : Option (List Turn)) (status : Status) : Type 0 
   pub done : status ≡ answer.Done
   pub silent : told' ≡ told
 
--- of a run that goes on, what is told of the turns that the drive gave so far is due
+-- what is told of the turns that the drive gave so far is due, of a run that goes on
 pub record IsReportSoFar (tells : Telling) (input : List ℕ) (is_plain : Bool) (told told' : Option (List Turn)) (text : List ℕ) : Type 0 where
   pub scenario : Scenario
   pub turns : List Turn
@@ -180,7 +180,7 @@ check_command = alone_command scenario_limit IsSides BreaksRule
 abbrev pub replay_command : Command
 replay_command = alone_command log_limit IsReplay BreaksLog
 
--- a log is refused to a listener where it is none, or not that of a BIU
+-- a log is refused to a listener if it is none, or not that of a BIU
 abbrev pub IsNotForListeners : List ℕ → List ℕ → Type 0
 IsNotForListeners input line = BreaksLog input line ⊎ IsOfRmu input line
 

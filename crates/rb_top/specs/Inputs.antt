@@ -25,7 +25,7 @@ use Rattle.rb_top.specs.declared.status.Status.TheVariants as answer
 abbrev pub scenario_limit : ℕ
 scenario_limit = 4194304
 
--- and of a log
+-- how many bytes of a log are read at most
 abbrev pub log_limit : ℕ
 log_limit = 67108864
 
@@ -111,16 +111,16 @@ pub record IsOfRmu (input line : List ℕ) : Type 0 where
   pub rmu : is_of_biu log.node ≡ false
   pub line_is : line ≡ rmu_text
 
--- Reading that doesn't come to the end.
+-- Reading that does not come to the end.
 
--- TooLong comes exactly where the source gave more bytes than the limit, and ReadFault only where
--- the count of its faults rose
+-- TooLong is the answer if and only if the source gave more bytes than the limit, and ReadFault
+-- only if the count of its faults rose
 pub record IsUnreadOver (limit : ℕ) (status : Status) (left left' : Option (List ℕ)) (faults faults' : ℕ) : Type 0 where
   pub too_long : status ≡ answer.TooLong → Gave left left' (λ n. limit < n)
   pub short_enough : ¬ (status ≡ answer.TooLong) → Gave left left' (λ n. n ≤ limit)
   pub fault : status ≡ answer.ReadFault → Rose faults faults'
 
--- neither comes where nothing is read
+-- neither TooLong nor ReadFault is the answer if nothing is read
 pub record IsNeverUnread (status : Status) : Type 0 where
   pub not_long : ¬ (status ≡ answer.TooLong)
   pub no_fault : ¬ (status ≡ answer.ReadFault)

@@ -27,7 +27,7 @@ pub record RefusesText (left left' held held' : Option (List ℕ)) : Type 0 wher
   pub refused : BreaksRule input line
   pub written : Appends held held' line
 
--- or of that line the first bytes are written, and the count of the sink's faults rose
+-- only the first bytes of that line are written, and the count of the sink's faults rose
 pub record FailsToRefuse (left left' held held' : Option (List ℕ)) (faults faults' : ℕ) : Type 0 where
   pub input : List ℕ
   pub line : List ℕ

@@ -20,12 +20,12 @@ pub record IsReported (sc : Scenario) (status : Status) (is_plain : Bool) (told 
   pub ends : EndsAs sc status
   pub written : WritesAll sc is_plain told told' held held'
 
--- or their letters were
+-- the letters of the run were written
 pub record IsLettered (sc : Scenario) (status : Status) (is_plain : Bool) (told told' : Option (List Turn)) (held held' : Option (List ℕ)) : Type 0 where
   pub ends : EndsAs sc status
   pub written : WritesLetters sc is_plain told told' held held'
 
--- or what they say of a group was
+-- what the run says of a group was written
 pub record IsGrouped (sc : Scenario) (asked : Asked) (status : Status) (is_plain : Bool) (told told' : Option (List Turn)) (held held' : Option (List ℕ)) : Type 0 where
   pub ends : EndsAs sc status
   pub written : WritesGroups sc asked is_plain told told' held held'
@@ -36,7 +36,7 @@ pub record IsSummed (seed frames : ℕ) (status : Status) (is_plain : Bool) (tol
   pub due : IsSummary seed frames is_plain told told' status text
   pub written : Appends held held' text
 
--- or its first bytes were, the run having ended without a breach
+-- the first bytes of the four lines were written, the run having ended without a breach
 pub record FailsToSum (seed frames : ℕ) (is_plain : Bool) (told told' : Option (List Turn)) (held held' : Option (List ℕ)) : Type 0 where
   pub text : List ℕ
   pub due : IsSummary seed frames is_plain told told' answer.Done text
@@ -80,7 +80,7 @@ IsOfLog answer.Usage = ⊥
 IsOfLog answer.TooLong = ⊥
 IsOfLog answer.ReadFault = ⊥
 
--- the answers where an input was not read to its end
+-- the answers if an input was not read to its end
 abbrev pub IsNotRead : Status → Type 0
 IsNotRead answer.TooLong = ⊤
 IsNotRead answer.ReadFault = ⊤
@@ -91,13 +91,13 @@ IsNotRead answer.Usage = ⊥
 IsNotRead answer.Refused = ⊥
 IsNotRead answer.WriteFault = ⊥
 
--- of the bytes such a text is due, and it was written
+-- a text that is due of the bytes was written
 pub record WritesOf (IsText : List ℕ → List ℕ → Type 0) (bytes : List ℕ) (held held' : Option (List ℕ)) : Type 0 where
   pub text : List ℕ
   pub due : IsText bytes text
   pub written : Appends held held' text
 
--- or its first bytes were
+-- the first bytes of a text that is due of the bytes were written
 pub record WritesPartOf (IsText : List ℕ → List ℕ → Type 0) (bytes : List ℕ) (held held' : Option (List ℕ)) : Type 0 where
   pub text : List ℕ
   pub due : IsText bytes text
@@ -114,15 +114,15 @@ pub record RefusesWith {K : Type 0} (line : List ℕ) (status : Status) (held : 
   pub cause : status ≡ answer.WriteFault → Rose (writes sink) (writes sink')
   pub either : (status ≡ answer.Refused) ⊎ (status ≡ answer.WriteFault)
 
--- this text was written, or a first part of it and a write failed
+-- the text was written, or a first part of it and a write failed
 pub record WritesText {K : Type 0} (text : List ℕ) (status : Status) (held : K → Option (List ℕ)) (writes : K → ℕ) (sink sink' : K) : Type 0 where
   pub done : status ≡ answer.Done → Appends (held sink) (held sink') text
   pub part : status ≡ answer.WriteFault → AppendsPart (held sink) (held sink') text
   pub cause : status ≡ answer.WriteFault → Rose (writes sink) (writes sink')
   pub one_of : (status ≡ answer.Done) ⊎ (status ≡ answer.WriteFault)
 
--- such a text of the bytes of a log was written, or such a line that refuses them, or a first part
--- of either and a write failed
+-- a text that is due of the bytes of a log was written, or a line that refuses them, or a first
+-- part of either and a write failed
 pub record TellsOfLog {K : Type 0} (IsText IsLine : List ℕ → List ℕ → Type 0) (bytes : List ℕ) (status : Status) (held : K → Option (List ℕ)) (writes : K → ℕ) (sink sink' : K) : Type 0 where
   pub done : status ≡ answer.Done → WritesOf IsText bytes (held sink) (held sink')
   pub refused : status ≡ answer.Refused → WritesOf IsLine bytes (held sink) (held sink')

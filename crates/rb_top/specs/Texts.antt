@@ -36,7 +36,7 @@ unfoldable pub summary_of : Totals → List ℕ
 summary_of totals =
     summary_text 0 totals.frames ++ (summary_text 1 totals.deliveries ++ (summary_text 2 totals.convicted ++ summary_text 3 totals.spread))
 
--- the summary of these records where they end so: none with a breach
+-- the summary of these records, if they end so: there is none with a breach
 abbrev pub summary_with : Ending → List Record → List ℕ
 summary_with Ended records = summary_of (tally_of records)
 summary_with Breach records = []

@@ -53,7 +53,7 @@ pub record IsBus (count : ℕ) (sc : Scenario) (onsets : Faults) (sayings : Kept
 abbrev pub HasRoom : Scenario → Side → Held → Type 0
 HasRoom sc me lane = most_pending sc me + length sc.says + 1 ≤ lane.room
 
--- so at each node
+-- there is room in the lane of each node
 pub record HaveRooms (sc : Scenario) (lanes : Each Held) : Type 0 where
   pub bius : All (HasRoom sc Biu) lanes.bius
   pub rmus : All (HasRoom sc Rmu) lanes.rmus
@@ -65,7 +65,7 @@ abbrev pub with_said : Scenario → NodeName → Span → Each Held → Each Hel
 with_said sc node span lanes =
     with_lane node (with_arrivals (says_in sc (kind_of node) (number_of node) (span_in span)) (lane_of lanes node)) lanes
 
--- so at its site
+-- the lanes hold what was pending at sites, with what faulty nodes say to the node in a window
 abbrev pub HasSaid : Scenario → NodeName → Span → Each Held → Each Held → Type 0
 HasSaid sc node span before after = (sites : Each Site) → HoldsSites sc.sizes before sites
     → HoldsSites sc.sizes after (at_node (kind_of node) (number_of node) (hears sc node (span_in span)) sites)

@@ -13,7 +13,7 @@ use Rattle.rb_world.specs.Worlds.{KeptWorld, Stands}
 
 -- Which of the events that are due is taken.
 
--- the draws with which a call begins: where it has another seed than the last one, they start anew
+-- the draws with which a call begins: if it has another seed than the last one, they start anew
 abbrev pub begun_with : Ties → Seeding → Seeding
 begun_with First s = s
 begun_with Last s = s

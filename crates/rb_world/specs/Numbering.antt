@@ -10,14 +10,14 @@ use Rattle.rb_world_book.specs.declared.turn.Turn.{Turn}
 use Rattle.rb_world.specs.Nexts.{is_last}
 use Rattle.rb_world.specs.Worlds.{KeptWorld, Stands}
 
--- where n records were given before, this is record number n of the rounds, and now n + 1 are
--- given: those and this one
+-- if n records were given before, this is record number n of the rounds, and now n + 1 are given:
+-- those and this one
 pub record IsNextRecord (sc : Scenario) (before after : World) (r : Record) : Type 0 where
   pub is_next : slice_get (records_of sc before.hands) (length before.book.given) ≡ Some r
   pub added : after.book.given ≡ before.book.given ++ r ∷ []
 
 -- An event that is taken gives no record, and then none is added; or it gives the next record. The
--- run has ended where that is the last of a run, and then all records of the rounds are given
+-- run has ended if that is the last of a run, and then all records of the rounds are given
 pub record TakesInRounds (sc : Scenario) (before after : World) (given : Option Record) : Type 0 where
   pub none : given ≡ None → after.book.given ≡ before.book.given
   pub one : (r : Record) → given ≡ Some r → IsNextRecord sc before after r
@@ -32,7 +32,7 @@ pub record IsLastAgain (sc : Scenario) (before after : World) (r : Record) : Typ
   pub stays : after ≡ before
 
 -- Until the run has ended the next record is given, and after that the last one again. The run has
--- ended where it is the last of a run, and then all records of the rounds are given
+-- ended if it is the last of a run, and then all records of the rounds are given
 pub record GivesInRounds (sc : Scenario) (before after : World) (r : Record) : Type 0 where
   pub going : before.book.ended ≡ false → IsNextRecord sc before after r
   pub over : before.book.ended ≡ true → IsLastAgain sc before after r
@@ -40,8 +40,8 @@ pub record GivesInRounds (sc : Scenario) (before after : World) (r : Record) : T
   pub all : after.book.ended ≡ true → after.book.given ≡ records_of sc before.hands
   pub hands : after.hands ≡ before.hands
 
--- this turn is that record, and what is kept afterwards stands for the world in which it has been
--- given
+-- this turn is that record, and what is kept afterwards stands for the world in which the record
+-- has been given
 pub record GoesInRounds (before after : KeptWorld) (turn : Turn) (w : World) : Type 0 where
   pub next : World
   pub stands : Stands after next

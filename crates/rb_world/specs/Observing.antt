@@ -49,7 +49,7 @@ pub record TellsToNext (S : Type 0) (step : S → Told → S → Type 0) (name :
   pub goes : GoesToNext First before after turn w
   pub told : WasTold S step a (told_to before.bus name (suc goes.is.others) (record { world = w; draws = (begun_with First before.seeding).draws.state })) b
 
--- so with all steps to it, the draws being in this state
+-- the observer was told all steps to the turn, the draws being in this state
 pub record RunsTold (S : Type 0) (step : S → Told → S → Type 0) (name : NodeName) (a b : S) (state : ℕ) (before after : KeptWorld) (turn : Turn) (w : World) : Type 0 where
   pub runs : RunsOn First state state before after turn w
   pub told : WasTold S step a (told_to before.bus name (suc runs.is.others) (record { world = w; draws = state })) b
@@ -61,7 +61,7 @@ abbrev pub left_at : Scenario → (Side → ℕ → ℕ) → Side → ℕ → Op
 left_at sc until side j None = []
 left_at sc until side j (Some s) = heard sc side j (until side j) s
 
--- so with the node of this name
+-- what is left behind of the node with this name
 abbrev pub left_for : Scenario → (Side → ℕ → ℕ) → Each Site → NodeName → List Told
 left_for sc until sites name = left_at sc until (kind_of name) (number_in name) (slice_get (of_kind (kind_of name) sites) (number_in name))
 
@@ -69,7 +69,7 @@ left_for sc until sites name = left_at sc until (kind_of name) (number_in name) 
 abbrev pub left_below : Scenario → (Side → ℕ → ℕ) → Side → ℕ → Each Site → NodeName → List Told
 left_below sc until me n sites name = if same_side (kind_of name) me && nat_lt (number_in name) n then left_for sc until sites name else []
 
--- what it is told where this tick is taken alone
+-- what the node is told if this tick is taken alone
 abbrev pub alone_at : Scenario → World → Side → ℕ → Timed → Side → ℕ → Option Site → List Told
 alone_at sc w me i a side j None = []
 alone_at sc w me i a side j (Some s) = told_alone sc w me i a side j s
@@ -85,7 +85,7 @@ pub record AlongTold (S : Type 0) (step : S → Told → S → Type 0) (name : N
   pub was : WasTold S step a held b
   pub all : told_to sc name on.steps (record { world = w0; draws = d }) ≡ held ++ left_for sc until on.back.sites name
 
--- so where a record may have come with the last
+-- the observer was told all steps, of which the last may have given a record
 pub record ComesTold (S : Type 0) (step : S → Told → S → Type 0) (name : NodeName) (a b : S) (sc : Scenario) (kept : Each KeptSite) (scene : Scene) (until : Side → ℕ → ℕ) (n : ℕ) (w0 : World) (d : ℕ) (turn : Turn) : Type 0 where
   pub on : Comes sc kept scene until n w0 d turn
   pub held : List Told
@@ -110,7 +110,7 @@ abbrev pub TellsSweep : (S : Type 0) → (S → Told → S → Type 0) → Scena
 TellsSweep S step sc me until site lanes a b = (sites : Each Site) (s : Site)
     → MaySweepAt sc me until site lanes sites s → WasTold S step a (heard sc me (number_of site) until s) b
 
--- so, if it is the one that is observed
+-- the observer is told the sweep of a node, if it is the node that is observed
 abbrev pub TellsSweepFor : (S : Type 0) → (S → Told → S → Type 0) → Scenario → Option NodeName → Side → NodeName → ℕ → KeptSite → Each Held → S → S → Type 0
 TellsSweepFor S step sc observed me node until site lanes a b = (name : NodeName) → observed ≡ Some name
     → (sites : Each Site) (s : Site) → MaySweepAt sc me until site lanes sites s
@@ -162,7 +162,7 @@ TellsRun S step sc observed before after turn a b = (name : NodeName) → observ
     → (w : World) (d : ℕ) → MayRun sc (nodes_of before) before.scene w
     → ToldToRecord S step name a b sc (nodes_of after) after.scene turn w d
 
--- so, as the world is kept
+-- the observer is told how a run goes on, as the world is kept
 abbrev pub TellsRunOn : (S : Type 0) → (S → Told → S → Type 0) → Option NodeName → KeptWorld → KeptWorld → Turn → S → S → Type 0
 TellsRunOn S step observed before after turn a b = (name : NodeName) → observed ≡ Some name → IsNodeOf before.bus.sizes name
     → (w : World) (state : ℕ) → Stands before w → RunsTold S step name a b state before after turn w

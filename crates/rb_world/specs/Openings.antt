@@ -20,7 +20,7 @@ pub record IsFresh (sc : Scenario) (me : Side) (i : ℕ) (k : KeptSite) : Type 0
   pub number : number_of k ≡ i
   pub stands : StandsFor sc me k (fresh_site sc.sizes me)
 
--- so of all nodes of a kind
+-- what is kept of all nodes of a kind before they begin
 pub record AreFresh (sc : Scenario) (me : Side) (kept : List KeptSite) : Type 0 where
   pub many : length kept ≡ count_of me sc.sizes
   pub each : (i : ℕ) (k : KeptSite) → slice_get kept i ≡ Some k → IsFresh sc me i k

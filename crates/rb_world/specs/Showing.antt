@@ -30,7 +30,7 @@ pub record MayShowTick (sc : Scenario) (me : Side) (i k : ℕ) (site : KeptSite)
   pub next : next_tick sc.sizes sc.plan me i s.core ≡ Some k
   pub holds : HoldsPorts sc kept ports
 
--- so in some world
+-- the node's next tick may be shown in some world
 abbrev pub CanShowTick : Scenario → Side → NodeName → KeptSite → List KeptPort → Type 0
 CanShowTick sc me node site kept = (k : ℕ) × (ports : List PortState) × (s : Site) × MayShowTick sc me (number_of site) k site kept node ports s
 
@@ -52,7 +52,7 @@ pub record MayShow (sc : Scenario) (me : Side) (i : ℕ) (waits : Pending) (site
   pub time_is : IsAtTime time waits
   pub in_time : IsInTime sc me i s.core waits
 
--- so in some world
+-- this event at this time may be shown in some world
 abbrev pub CanShow : Scenario → Side → KeptSite → List KeptPort → ℕ → Event → Type 0
 CanShow sc me site kept time event = (waits : Pending) × (ports : List PortState) × (s : Site)
     × MayShow sc me (number_of site) waits site kept time event ports s

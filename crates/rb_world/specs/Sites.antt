@@ -24,7 +24,7 @@ number_of k = k.node.seat.index
 abbrev pub ComeTogether : List (ℕ × Arrival) → List Coming → Type 0
 ComeTogether inbox got = map (λ (a : ℕ × Arrival). a.0) inbox ≡ map (λ (c : Coming). c.from) got
 
--- of each source of which one message came since the last close, its time is kept
+-- for each source from which one message came since the last close, its time is kept
 abbrev pub HoldsTimes : List ℕ → List Coming → Type 0
 HoldsTimes times got = (j : ℕ) → j < 16 → (c : Coming) → coming_from got j ≡ c ∷ [] → slice_index times j ≡ c.time
 
@@ -50,7 +50,7 @@ pub data AreAlike (xs ys : List Arrival) : Type 0 where
   Single : (x y : Arrival) → xs ≡ x ∷ [] → ys ≡ y ∷ [] → y.bytes ≡ x.bytes → y.stamp ≡ x.stamp → AreAlike xs ys
   Several : 1 < length xs → 1 < length ys → AreAlike xs ys
 
--- a site t is in the state of s, and has heard the like of each source: what is kept of s can't
+-- a site t is in the state of s, and has heard the like from each source: what is kept of s cannot
 -- tell them apart
 pub record IsHeardAlike (s t : Site) : Type 0 where
   pub state : t.core.state ≡ s.core.state

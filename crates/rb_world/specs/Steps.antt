@@ -55,7 +55,7 @@ pub record SpanFits (span : Span) : Type 0 where
   pub stage : 1 ≤ span.place.stage
   pub first : span.first ≤ 2 ^ 31
 
--- so with the window that a core enters, if it enters one
+-- the numbers of the window that a core enters fit, if it enters one
 abbrev pub SpansFit : Scenario → Side → Core → Type 0
 SpansFit sc me c = (span : Span) → span_from sc.sizes sc.plan me c.state c.had ≡ Some span → SpanFits span
 
@@ -93,7 +93,8 @@ pub record Proceeds (sc : Scenario) (me : Side) (i : ℕ) (site : KeptSite) (bef
 abbrev pub CanProceed : Scenario → Side → KeptSite → Scene → Type 0
 CanProceed sc me site scene = (w : World) × (s : Site) × MayProceed sc me (number_of site) site scene w s
 
--- and then it does: this was kept of it and of what surrounds the nodes, and now that is
+-- a node that may go on does so: `before` was kept of it and `around` of what surrounds the nodes,
+-- and now `after` and `scene` are
 abbrev pub HasProceeded : Scenario → Side → KeptSite → KeptSite → Scene → Scene → Type 0
 HasProceeded sc me before after around scene =
     (w : World) (s : Site) → MayProceed sc me (number_of before) before around w s → Proceeds sc me (number_of before) after around scene w s
@@ -128,7 +129,7 @@ abbrev pub closed_if : Scenario → NodeName → Option Closed → Row → World
 closed_if sc node None row w = w
 closed_if sc node (Some c) row w = closed_at sc node c row w
 
--- so with the window that it shows, and its row
+-- the world after the node closed the window that it shows, or closed none
 abbrev pub closed_by : Scenario → Side → NodeName → Bool → KeptSite → World → World
 closed_by sc me node closed k w = closed_if sc node (if closed then Some k.node.shown else None)
     (row_at me (number_in node) k.node.seat.state k.times k.node.shown) w
@@ -145,7 +146,7 @@ sent_by sc node frame k message w = record w { sites = with_message sc (kind_of 
 abbrev pub HasRoomFor : Scenario → Side → Scene → Type 0
 HasRoomFor sc me scene = (j : ℕ) → j < count_of me sc.sizes → 1 ≤ spare_of (lane_of scene.agenda (name_of me j))
 
--- it is the node's next tick, and there is room for a message at the others
+-- the tick is the node's next one, and there is room for a message at the others
 pub record MayTick (sc : Scenario) (me : Side) (i k : ℕ) (site : KeptSite) (scene : Scene) (w : World) (s : Site) : Type 0 where
   pub at : IsAt sc me i site scene w s
   pub next : next_tick sc.sizes sc.plan me i s.core ≡ Some k
@@ -159,7 +160,7 @@ pub record Ticks (sc : Scenario) (me : Side) (i k : ℕ) (site : KeptSite) (scen
   pub node : IsNode sc me i site (after_act sc w.ports me i x s)
   pub surrounds : Surrounds sc scene (with_act sc w me i k x)
 
--- its act
+-- the act of the tick
 abbrev pub act_at : Scenario → World → Side → ℕ → ℕ → Site → Act
 act_at sc w me i k s = pass_and_tick sc w.ports me i k s.core
 
@@ -171,7 +172,8 @@ HasTicked sc me i k site scene w s = Ticks sc me i k site scene w s (act_at sc w
 abbrev pub CanTick : Scenario → Side → ℕ → KeptSite → Scene → Type 0
 CanTick sc me k site scene = (w : World) × (s : Site) × MayTick sc me (number_of site) k site scene w s
 
--- and then it does: this was kept of it and of what surrounds the nodes, and now that is
+-- a node that may take tick k takes it: `before` was kept of it and `around` of what surrounds the
+-- nodes, and now `after` and `scene` are
 abbrev pub DoesTick : Scenario → Side → ℕ → KeptSite → KeptSite → Scene → Scene → Type 0
 DoesTick sc me k before after around scene =
     (w : World) (s : Site) → MayTick sc me (number_of before) k before around w s → HasTicked sc me (number_of before) k after scene w s
@@ -195,12 +197,12 @@ pub record MayHappen (sc : Scenario) (kept : Each KeptSite) (scene : Scene) (tim
   pub nodes : (me : Side) → AreNodes sc me (of_kind me kept) (of_kind me w.sites)
   pub surrounds : Surrounds sc scene (moved d.side d.node (without_waiting d.pending) w)
 
--- it has happened
+-- the event has happened
 pub record Happens (sc : Scenario) (kept : Each KeptSite) (scene : Scene) (w : World) (d : Due) : Type 0 where
   pub nodes : (me : Side) → AreNodes sc me (of_kind me kept) (of_kind me (happens sc w d).sites)
   pub surrounds : Surrounds sc scene (happens sc w d)
 
--- Arrivals where they stand.
+-- Arrivals at their places.
 
 -- the arrival at this place of a node's lane, which is this, may come to the node
 pub record CanHear (sc : Scenario) (me : Side) (i : ℕ) (name : NodeName) (place : ℕ) (site : KeptSite) (lanes : Each Held) (c : Coming) : Type 0 where
@@ -210,11 +212,11 @@ pub record CanHear (sc : Scenario) (me : Side) (i : ℕ) (name : NodeName) (plac
   pub in_time : ComesBy (passing_end me site.node) (clock_of sc me i) c.time
   pub sender : c.from < count_of (other me) site.node.seat.sizes
 
--- so of some arrival
+-- some arrival at this place may come to the node
 abbrev pub CanHearAt : Scenario → Side → NodeName → ℕ → KeptSite → Each Held → Type 0
 CanHearAt sc me node place site lanes = (c : Coming) × CanHear sc me (number_of site) node place site lanes c
 
--- and then it has come: this was kept of the node, and now that is
+-- the arrival at this place has come: `before` was kept of the node, and now `after` is
 abbrev pub HasHeard : Scenario → Side → NodeName → ℕ → KeptSite → KeptSite → Each Held → Type 0
 HasHeard sc me node place before after lanes = (c : Coming) (at : ℕ) (s : Site) → CanHear sc me (number_of before) node place before lanes c
     → StandsFor sc me before s → StandsFor sc me after (after_arrival sc me (number_of before) at c s)

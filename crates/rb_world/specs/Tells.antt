@@ -35,8 +35,8 @@ row_at me i st times c = record {
   line = option_map (λ d. record { receiver = i; sender = d.sender; value = d.value }) c.delivered;
 }
 
--- what it has told of the last stage once a tick has closed a window, or has not. Of the tail,
--- stage 4, it tells nothing
+-- what the node has told of the last stage after a tick that closed a window or did not. It tells
+-- nothing of the tail, stage 4
 abbrev pub row_after : Side → KeptSite → Bool → Option Row → Option Row
 row_after me k closed before =
     if closed && not (k.node.shown.place.stage == 4)
@@ -61,19 +61,19 @@ pub record IsTicked (sc : Scenario) (ports : List PortState) (me : Side) (before
 
 -- Next ticks.
 
--- Of each site for which this was kept the next tick that isn't quiet has been taken, and this step
--- is what it gave
+-- For each site for which `before` was kept the next tick that is not quiet has been taken, and
+-- this step is what it gave
 abbrev pub TakesNext : Side → KeptSite → KeptSite → Step → Type 0
 TakesNext me before after step = (sc : Scenario) (ports : List PortState) (k : ℕ) (s : Site) → Stands sc me before s
     → next_tick sc.sizes sc.plan me (number_of before) s.core ≡ Some k → IsTicked sc ports me before after step k s
 
--- so with tick k, be it quiet or not, where this is the word that the node wants for it
+-- tick k has been taken, be it quiet or not, if this is the word that the node wants for it
 abbrev pub TakesTickWith : Side → ℕ → ℕ → KeptSite → KeptSite → Step → Type 0
 TakesTickWith me k word before after step = (sc : Scenario) (ports : List PortState) (s : Site) → Stands sc me before s
     → word ≡ word_of sc ports (number_of before) (wants_in sc me (number_of before) (pass_to k s.core))
     → IsTicked sc ports me before after step k s
 
--- the next tick that isn't quiet ends a window of a slot before the sync slot
+-- the next tick that is not quiet ends a window of a slot before the sync slot
 abbrev pub EndsNext : Side → KeptSite → Type 0
 EndsNext me kept = (sc : Scenario) (s : Site) → Stands sc me kept s
     → (k : ℕ) × ((next_tick sc.sizes sc.plan me (number_of kept) s.core ≡ Some k) × EndsExactWindow sc.sizes sc.plan me s.core.state k)
@@ -87,11 +87,12 @@ IfEndsNext me kept P = (sc : Scenario) (k : ℕ) (s : Site) → Stands sc me kep
 
 -- Arrivals.
 
--- this has come to the node, of which that was kept, and it has the stamp that this clock gives it
+-- this message has come to the node, of which `before` was kept, and it has the stamp that this
+-- clock gives it
 abbrev pub HasComeBy : Side → Timeline → Coming → KeptSite → KeptSite → Type 0
 HasComeBy me clock c before after = (sc : Scenario) (place : ℕ) (s : Site) → clock ≡ clock_of sc me (number_of before)
     → Stands sc me before s → Stands sc me after (after_arrival sc me (number_of before) place c s)
 
--- so with the stamp of the node's next tick
+-- this message has come to the node with the stamp of the node's next tick
 abbrev pub HasTakenIn : Side → Coming → KeptSite → KeptSite → Type 0
 HasTakenIn me c before after = (sc : Scenario) (s : Site) → Stands sc me before s → Stands sc me after (taken_in sc me c s)

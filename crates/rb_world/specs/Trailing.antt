@@ -37,7 +37,8 @@ pub record NoneBefore (until : ℕ) (s : Site) : Type 0 where
   pub coming : All (λ c. until ≤ c.time) s.coming
   pub tick : (a : Timed) → s.ahead ≡ Some a → until ≤ a.time
 
--- it is this arrival, which comes before this time, and it is taken out of the node's lane
+-- the first thing at the node is this arrival, which comes before this time, and it is taken out of
+-- the node's lane
 pub record TakesArrival (sizes : Sizes) (me : Side) (i until : ℕ) (lanes : Each Held) (sites : Each Site) (s : Site) (c : Coming) : Type 0 where
   pub place : ℕ
   pub is : first_of s.coming ≡ Some (record { place = place; coming = c })
@@ -45,7 +46,8 @@ pub record TakesArrival (sizes : Sizes) (me : Side) (i until : ℕ) (lanes : Eac
   pub sender : c.from < count_of (other me) sizes
   pub holds : HoldsSites sizes lanes (at_node me i (without_waiting (Arrival place c)) sites)
 
--- it is the tick, which comes before this time and before all arrivals, and it is taken
+-- the first thing at the node is its tick, which comes before this time and before all arrivals,
+-- and it is taken
 pub record TakesTick (sizes : Sizes) (me : Side) (i until : ℕ) (lanes : Each Held) (sites : Each Site) (s : Site) : Type 0 where
   pub tick : Timed
   pub pends : s.ahead ≡ Some tick
@@ -72,7 +74,7 @@ pub record MaySweep (sc : Scenario) (me : Side) (i until : ℕ) (site : KeptSite
   pub rooms : HaveRooms sc lanes
   pub reachable : IsReachable sc me i until s
 
--- so with the node of which this is kept
+-- the node of which this is kept may be swept
 abbrev pub MaySweepAt : Scenario → Side → ℕ → KeptSite → Each Held → Each Site → Site → Type 0
 MaySweepAt sc me until site lanes sites s = MaySweep sc me (number_of site) until site lanes sites s
 
@@ -85,7 +87,7 @@ tick_from until (Some a) = elim (nat_lt a.time until) [ true ↦ None | false �
 abbrev pub cleared : Scenario → Side → ℕ → ℕ → Site → Site
 cleared sc me i until s = record (swept sc me i until s) { ahead = tick_from until s.ahead }
 
--- it has been swept, and with it a tick before that time was taken
+-- the node has been swept, and with it a tick before that time was taken
 pub record Sweeps (sc : Scenario) (me : Side) (i until : ℕ) (site : KeptSite) (lanes : Each Held) (sites : Each Site) (s : Site) : Type 0 where
   pub node : IsNode sc me i site (swept sc me i until s)
   pub holds : HoldsSites sc.sizes lanes (at_node me i (cleared sc me i until) sites)
@@ -111,7 +113,8 @@ pub record Trails (sc : Scenario) (kept : Each KeptSite) (scene : Scene) (until 
   pub later : (me : Side) (i : ℕ) (a : Timed) → IsFirstTick v me i a → (side : Side) (j : ℕ) → until side j ≤ until_tick me i a.time side j
   pub behind : (side : Side) (j : ℕ) (s : Site) → slice_get (of_kind side v.sites) j ≡ Some s → IsBehind sc side j (until side j) s
 
--- so, and this tick is the first there while the next record needs an event
+-- what is kept stands for a world behind, and this tick is the first there while the next record
+-- needs an event
 pub record BehindTick (sc : Scenario) (kept : Each KeptSite) (scene : Scene) (until : Side → ℕ → ℕ) (w v : World) (me : Side) (i : ℕ) (a : Timed) : Type 0 where
   pub trails : Trails sc kept scene until w v
   pub event : NeedsEvent sc v
@@ -121,7 +124,7 @@ pub record BehindTick (sc : Scenario) (kept : Each KeptSite) (scene : Scene) (un
 abbrev pub alone : Scenario → Side → ℕ → Timed → World → World
 alone sc me i a v = record v { sites = at_node me i (swept sc me i (a.time + 1)) v.sites }
 
--- and without the tick
+-- the node once it is swept, without its tick
 abbrev pub bare : Scenario → Side → ℕ → Timed → Site → Site
 bare sc me i a s = record (swept sc me i (a.time + 1) s) { ahead = None }
 
@@ -189,13 +192,13 @@ pub record HasCaughtUp (sc : Scenario) (kept : Each KeptSite) (scene : Scene) (w
 
 -- Calls.
 
--- it is the node's tick, which is the first in a world behind and comes at this time
+-- the node's tick is the first in a world behind and comes at this time
 pub record MayTakeFirst (sc : Scenario) (kept : Each KeptSite) (scene : Scene) (until : Side → ℕ → ℕ) (w v : World) (me : Side) (i : ℕ) (a : Timed) (time : ℕ) (own : List KeptSite) : Type 0 where
   pub at : BehindTick sc kept scene until w v me i a
   pub own_is : of_kind me kept ≡ own
   pub time_is : time ≡ a.time
 
--- it has been taken at this node at this time
+-- the first tick has been taken at this node at this time
 pub record TakesFirstAt (sc : Scenario) (kept : Each KeptSite) (scene : Scene) (v : World) (me : Side) (i : ℕ) (a : Timed) (name : NodeName) (time : ℕ) : Type 0 where
   pub named : name ≡ name_of me i
   pub at : time ≡ a.time
@@ -223,7 +226,7 @@ pub record Along (sc : Scenario) (kept : Each KeptSite) (scene : Scene) (until :
   pub going : back.book.ended ≡ false
   pub quiet : (m : ℕ) → 1 ≤ m → m ≤ steps → (after_steps sc First m (record { world = w0; draws = d })).world.turn ≡ None
 
--- one step more or some, of which the last has this turn
+-- one step more or some were taken, of which the last has this turn
 pub record Comes (sc : Scenario) (kept : Each KeptSite) (scene : Scene) (until : Side → ℕ → ℕ) (n : ℕ) (w0 : World) (d : ℕ) (turn : Turn) : Type 0 where
   pub others : ℕ
   pub many : n ≤ others
@@ -234,7 +237,7 @@ pub record Comes (sc : Scenario) (kept : Each KeptSite) (scene : Scene) (until :
   pub turn_is : now.turn ≡ record_of turn
   pub quiet : (m : ℕ) → 1 ≤ m → m ≤ others → (after_steps sc First m (record { world = w0; draws = d })).world.turn ≡ None
 
--- it has come to its next record by steps of the first choice, and what is kept stands for its
+-- the run has come to its next record by steps of the first choice, and what is kept stands for its
 -- world
 pub record ComesToRecord (sc : Scenario) (kept : Each KeptSite) (scene : Scene) (turn : Turn) (w : World) (d : ℕ) : Type 0 where
   pub next : World
@@ -249,7 +252,8 @@ pub record ComesToRecord (sc : Scenario) (kept : Each KeptSite) (scene : Scene) 
 abbrev pub CanSweep : Scenario → Side → ℕ → KeptSite → Each Held → Type 0
 CanSweep sc me until site lanes = (sites : Each Site) × (s : Site) × MaySweepAt sc me until site lanes sites s
 
--- and then it is: this was kept of it and of what is pending, and now that is
+-- a node that may be swept is swept: `before` was kept of it and `held` of what is pending, and now
+-- `after` and `lanes` are
 abbrev pub HasSwept : Scenario → Side → ℕ → KeptSite → KeptSite → Each Held → Each Held → Type 0
 HasSwept sc me until before after held lanes =
     (sites : Each Site) (s : Site) → MaySweepAt sc me until before held sites s → Sweeps sc me (number_of before) until after lanes sites s
@@ -265,7 +269,7 @@ abbrev pub CanCatchUpAt : Scenario → (NodeName × ℕ) → Side → ℕ → Li
 CanCatchUpAt sc tick me i kept lanes = (first : List KeptSite) × (begun : Each Held) × (nodes : Each Site)
     × (MayCatchUp sc (until_from (Some tick)) me first begun nodes × HaveCaughtUp sc (until_from (Some tick)) me i kept lanes nodes)
 
--- and then it is
+-- a node that may be swept up to this tick is swept
 abbrev pub CatchesUpAt : Scenario → (NodeName × ℕ) → Side → ℕ → List KeptSite → List KeptSite → Each Held → Each Held → Type 0
 CatchesUpAt sc tick me i before after held lanes = (first : List KeptSite) (begun : Each Held) (nodes : Each Site)
     → MayCatchUp sc (until_from (Some tick)) me first begun nodes → HaveCaughtUp sc (until_from (Some tick)) me i before held nodes
@@ -275,12 +279,12 @@ CatchesUpAt sc tick me i before after held lanes = (first : List KeptSite) (begu
 abbrev pub CanCatchUpAll : Scenario → (NodeName × ℕ) → Side → List KeptSite → Each Held → Type 0
 CanCatchUpAll sc tick me kept lanes = (nodes : Each Site) × MayCatchUp sc (until_from (Some tick)) me kept lanes nodes
 
--- and then they are
+-- all nodes of a kind that may be swept up to this tick are swept
 abbrev pub CatchesUpAll : Scenario → (NodeName × ℕ) → Side → List KeptSite → List KeptSite → Each Held → Each Held → Type 0
 CatchesUpAll sc tick me before after held lanes = (nodes : Each Site) → MayCatchUp sc (until_from (Some tick)) me before held nodes
     → HaveCaughtUp sc (until_from (Some tick)) me (count_of me sc.sizes) after lanes nodes
 
--- the run was behind by what came up to the last tick, if there was one, and isn't any more
+-- the run was behind by what came up to the last tick, if there was one, and is not behind any more
 abbrev pub CatchesUp : Scenario → Option (NodeName × ℕ) → Run → Run → Type 0
 CatchesUp sc tick before after = (w v : World) → Trails sc (nodes_of before) before.scene (until_from tick) w v
     → HasCaughtUp sc (nodes_of after) after.scene w
@@ -292,7 +296,7 @@ abbrev pub CanTakeOwn : Scenario → Side → ℕ → ℕ → List KeptSite → 
 CanTakeOwn sc me i time own scene = (kept : Each KeptSite) × (until : Side → ℕ → ℕ) × (w : World) × (v : World) × (a : Timed)
     × MayTakeFirst sc kept scene until w v me i a time own
 
--- and then it is taken
+-- the tick of a node that may take it is taken
 abbrev pub TakesOwn : Scenario → Side → ℕ → ℕ → List KeptSite → List KeptSite → Scene → Scene → Type 0
 TakesOwn sc me i time before after around scene = (kept : Each KeptSite) (until : Side → ℕ → ℕ) (w v : World) (a : Timed)
     → MayTakeFirst sc kept around until w v me i a time before → TakesFirst sc v me i a after (of_kind (other me) kept) scene
@@ -306,7 +310,7 @@ TakesFirstOf sc before after at = (until : Side → ℕ → ℕ) (w v : World) (
 abbrev pub CanTickFirst : Scenario → Run → Type 0
 CanTickFirst sc run = (until : Side → ℕ → ℕ) × (w : World) × (v : World) × MayTickFirst sc (nodes_of run) run.scene until w v
 
--- and then it does, at this node and at this time, and this turn comes of it
+-- the first tick is taken, at this node and at this time, and this turn is the result
 abbrev pub TicksFirst : Scenario → Run → Run → (NodeName × ℕ) → Turn → Type 0
 TicksFirst sc before after at turn = (until : Side → ℕ → ℕ) (w v : World) → MayTickFirst sc (nodes_of before) before.scene until w v
     → GoesToTick sc (nodes_of after) after.scene until v at.0 at.1 turn
@@ -317,7 +321,7 @@ TicksFirst sc before after at turn = (until : Side → ℕ → ℕ) (w v : World
 abbrev pub CanStepOn : Scenario → Option (NodeName × ℕ) → Run → Type 0
 CanStepOn sc tick run = (n : ℕ) × (w : World) × (d : ℕ) × Along sc (nodes_of run) run.scene (until_from tick) n w d
 
--- and then it goes a step on, and this turn comes of it
+-- the run goes a step on, and this turn is the result
 abbrev pub StepsOn : Scenario → Option (NodeName × ℕ) → Option (NodeName × ℕ) → Run → Run → Turn → Type 0
 StepsOn sc tick next before after turn = (n : ℕ) (w : World) (d : ℕ) → Along sc (nodes_of before) before.scene (until_from tick) n w d
     → Comes sc (nodes_of after) after.scene (until_from next) n w d turn

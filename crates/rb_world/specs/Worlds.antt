@@ -34,7 +34,7 @@ pub record KeptWorld : Type 0 where
 
 -- Nodes.
 
--- The next tick that isn't quiet is pending at a node that runs, and nothing at one that does not
+-- The next tick that is not quiet is pending at a node that runs, and nothing at one that does not
 pub record Awaits (sc : Scenario) (me : Side) (i : ℕ) (s : Site) : Type 0 where
   pub running : s.runs ≡ true
       → s.ahead ≡ option_map (λ k. record { tick = k; time = time_of (clock_of sc me i) k }) (next_tick sc.sizes sc.plan me i s.core)
@@ -106,7 +106,7 @@ pub record NeedsEvent (sc : Scenario) (w : World) : Type 0 where
   pub going : w.book.ended ≡ false
   pub needs : needs_no_event sc w.book.upcoming ≡ false
 
--- how many events may be taken, by what is kept: none where the next record needs none, and none
--- after the last
+-- how many events may be taken, by what is kept: none if the next record needs none, and none after
+-- the last
 abbrev pub due_in : KeptWorld → ℕ
 due_in k = elim (k.scene.book.ended || is_free k.scene.book) [ true ↦ 0 | false ↦ how_many k.scene.agenda ]

@@ -15,7 +15,7 @@ use Rattle.rb_base.specs.declared.event.EventKind.TheVariants as kind
 use Rattle.rb_queue.specs.Waiting.{Held, HasLane, Ready, head_of, lane_of, ready_event, ready_of, tick_time_of, with_lane, without_ready}
 use Rattle.rb_world_agenda.specs.Holding.{HoldsSites, Shows, due_with, without_waiting}
 
--- the least time of a lane. Where it holds nothing it is the last time that there is
+-- the least time of a lane. If it holds nothing, it is the last time that there is
 abbrev pub key_of : Held → ℕ
 key_of lane = unwrap_or (head_of lane) 18446744073709551615
 
@@ -118,7 +118,7 @@ keys_of lanes = map key_of (in_order lanes)
 abbrev pub tick_times : Each Held → List ℕ
 tick_times lanes = map tick_time_of (in_order lanes)
 
--- the time of the first tick of all, and where none is pending the last time that there is
+-- the time of the first tick of all, and the last time that there is if none is pending
 abbrev pub first_tick_time : Each Held → ℕ
 first_tick_time lanes = least_key (tick_times lanes)
 
@@ -127,7 +127,7 @@ first_tick_time lanes = least_key (tick_times lanes)
 abbrev pub mark_of : ℕ → ℕ → ℕ
 mark_of position time = if nat_lt time 576460752303423488 then time * 32 + position else 18446744073709551615
 
--- the marks of ticks at these times, of which the first stands at this position
+-- the marks of ticks at these times, of which the first is at this position
 unfoldable pub marks_from : ℕ → List ℕ → List ℕ
 marks_from position [] = []
 marks_from position (t ∷ ts) = mark_of position t ∷ marks_from (suc position) ts

@@ -46,7 +46,7 @@ waits_with ahead Ticks = Tick (unwrap_or (option_map (λ a. a.tick) ahead) 0)
 abbrev pub due_with : Side → ℕ → Site → Ready → Due
 due_with me i s r = record { side = me; node = i; pending = waits_with s.ahead r }
 
--- it waits no more
+-- the site without what waited there
 abbrev pub without_waiting : Waits → Site → Site
 without_waiting (Tick k) s = record s { ahead = None }
 without_waiting (Arrival place c) s = record s { coming = remove s.coming place }

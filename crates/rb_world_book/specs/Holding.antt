@@ -53,7 +53,7 @@ IsComing sc (Begin frame) = frame ≤ sc.frames
 IsComing sc (Stage place) = IsStageOf sc place
 IsComing sc End = Unit {0}
 
--- a node is good to the end of a frame, these being the nodes that are, where the upcoming
+-- a node is good to the end of a frame, `lasting` being the nodes that are, if the upcoming
 -- milestone is a stage of it
 pub record Lasts (m : Milestone) (frame lasting j : ℕ) : Type 0 where
   pub place : Place
@@ -72,10 +72,10 @@ pub record HoldsKind {K : Type 0} (sc : Scenario) (kind : Side) (m : Milestone) 
   -- what each node saw of each source in its latest stage
   pub saw : ℕ → ℕ → See
   pub rows : map (λ s. s.row) (of_kind kind sites) ≡ map_from 0 (λ i t. row_seeing (saw i) t) (take (count_of kind sc.sizes) g.told)
-  -- of sources that are not good to the end of its frame this is kept
+  -- what is kept of sources that are not good to the end of their frame
   pub sights : (i j : ℕ) → is_good sc (other kind) j (told_at g.told i).place.frame (sync_slot_of sc.sizes) ≡ false → saw i j ≡ see_of (told_at g.told i) j
   pub begins : map (λ s. s.begun) (of_kind kind sites) ≡ map (begun_told kind) (take (count_of kind sc.sizes) g.told)
-  -- nobody sees nodes that are not there
+  -- nobody sees nodes that are not on the bus
   pub within : (i j : ℕ) → count_of (other kind) sc.sizes ≤ j → get_or (told_at g.told i).sees j Nothing ≡ Nothing
   pub good : g.good ≡ good_for sc kind m
   pub waiting : g.waiting ≡ waiting_for (count_of kind sc.sizes) g.good m g.told
@@ -159,7 +159,7 @@ GoodNext kind sizes good lasting place next =
     (sc : Scenario) → sizes ≡ sc.sizes → place.slot ≤ sync_slot_of sc.sizes → good ≡ good_at sc kind place.frame place.slot
     → lasting ≡ good_at sc kind place.frame (sync_slot_of sc.sizes) → good ≡ good_at sc kind next.frame next.slot
 
--- this is the next stage, and the same nodes are good there
+-- `next` is the next stage, and the same nodes are good there
 pub record IsSteady (l : KeptBook) (place next : Place) : Type 0 where
   pub after : place.slot + 1 < 2 ^ 16 → milestone_of (Stage next) ≡ after_stage l.shape place
   pub other : (place.stage == next.stage) ≡ false

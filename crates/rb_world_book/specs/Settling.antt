@@ -52,8 +52,8 @@ comes_when free way.ByItself = free
 abbrev pub is_due : KeptWay → KeptBook → Bool
 is_due w l = (l.bius.waiting == 0) && ((l.rmus.waiting == 0) && (comes_when (is_free l) w && not l.ended))
 
--- what the nodes of a kind told stays, and those are awaited that have not told of the upcoming
--- milestone
+-- what the nodes of a kind told stays, and the nodes that have not told of the upcoming milestone
+-- are awaited
 pub record GoesKind {K : Type 0} (kind : Side) (sizes : Sizes) (onsets : Faults) (place : Place) (before after : Group K) (m : KeptMilestone) : Type 0 where
   pub turns : (sc : Scenario) → sizes ≡ sc.sizes → before.good ≡ good_at sc kind place.frame place.slot
       → waiting_for (count_of kind sizes) before.good (kept.Stage place) before.told ≡ 0 → TurnsKind kind sizes before after m

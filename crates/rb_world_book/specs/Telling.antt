@@ -21,14 +21,14 @@ use Rattle.rb_world_book.specs.declared.told.Told.{Told}
 abbrev pub see_of : Told → ℕ → See
 see_of t j = get_or t.sees j Nothing
 
--- its latest row, where it saw this of each source
+-- a node's latest row, if it saw this of each source
 abbrev pub latest_seeing : (ℕ → See) → Told → Row
 latest_seeing saw t = record { place = t.place; sees = each_node saw; biu = t.biu; rmu = t.rmu; line = t.line }
 
 abbrev pub row_seeing : (ℕ → See) → Told → Option Row
 row_seeing saw t = if t.has_closed then Some (latest_seeing saw t) else None
 
--- its latest row, by what is kept
+-- a node's latest row, by what is kept
 abbrev pub row_told : Told → Option Row
 row_told t = row_seeing (see_of t) t
 
@@ -43,7 +43,7 @@ begun_in kind b = record { frame = b.frame; line = b.line; port = port_told kind
 abbrev pub begun_told : Side → Told → Option Begun
 begun_told kind t = option_map (begun_in kind) t.begun
 
--- it has told of a milestone last
+-- a node has told of a milestone last
 abbrev pub has_told : Milestone → Told → Bool
 has_told (Begin frame) t = is_some (begun_for frame (begun_told Biu t))
 has_told (Stage place) t = is_some (row_for place (row_told t))
@@ -55,7 +55,7 @@ is_at (Begin frame) place = false
 is_at (Stage stage) place = same_place place stage
 is_at End place = false
 
--- of a node that told nothing
+-- what is kept of a node that told nothing
 abbrev pub no_told : Told
 no_told = record {
   has_closed = false;
@@ -79,7 +79,7 @@ fresh_told = record {
   begun = None;
 }
 
--- of each of these sources what is new, and of the others what was kept before
+-- for each of the sources in `counted` what is new, and for the others what was kept before
 unfoldable pub kept_of : {X : Type 0} → ℕ → X → (ℕ → X) → List X → List X
 kept_of counted d new before = each_node (λ j. if has counted j then new j else get_or before j d)
 
@@ -87,7 +87,8 @@ kept_of counted d new before = each_node (λ j. if has counted j then new j else
 abbrev pub timed_in : List See → List ℕ → ℕ → See
 timed_in sees times j = judged_see (slice_index times j) (get_or sees j Nothing)
 
--- a node that told this has closed a stage. What it saw of a source is kept where that counts
+-- what is kept of a node that told that it has closed a stage. What it saw of a source is kept if
+-- that counts
 abbrev pub told_closed : ℕ → Closed → List ℕ → ℕ → ℕ → Option SlotLine → Told → Told
 told_closed counted c times biu rmu line t =
     record t {
@@ -99,10 +100,10 @@ told_closed counted c times biu rmu line t =
       line = line;
     }
 
--- and has begun a frame
+-- what is kept of a node that told that it has begun a frame
 abbrev pub told_begun_frame : LatestBegin → Told → Told
 told_begun_frame b t = record t { begun = Some b }
 
--- of node i
+-- what node i told
 abbrev pub told_at : List Told → ℕ → Told
 told_at told i = get_or told i no_told

@@ -35,7 +35,7 @@ row_if place good t = elim good [ true ↦ row_for place (row_told t) | false �
 abbrev pub row_at : ℕ → Place → ℕ → Told → Option Row
 row_at good place i t = row_if place (has good i) t
 
--- the same, where each node saw this
+-- node i's row of a stage, if each node saw this
 abbrev pub row_saw : (ℕ → ℕ → See) → ℕ → Place → ℕ → Told → Option Row
 row_saw saw good place i t = elim (has good i) [ true ↦ row_for place (row_seeing (saw i) t) | false ↦ None ]
 

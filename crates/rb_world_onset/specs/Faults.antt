@@ -1,4 +1,4 @@
--- From where on the nodes of a bus are not good, apart from the rest of a scenario.
+-- From which slot on the nodes of a bus are not good, apart from the rest of a scenario.
 use Rattle.std.specs.Prelude.{◌≡◌, ℕ, ◌&&◌, nat_lt, Bool, true, false, List, Option, Some, None, IfSome, get_or}
 use Rattle.rb_base.specs.Nodes.{Side}
 use Rattle.rb_base.specs.Sizes.{Sizes}
@@ -17,7 +17,7 @@ faults_of sc = record { sizes = sc.sizes; biu_onsets = sc.biu_onsets; rmu_onsets
 abbrev pub is_good_among : ℕ → List (Option (ℕ × ℕ)) → ℕ → ℕ → ℕ → Bool
 is_good_among count onsets frame slot i = nat_lt i count && is_before (get_or onsets i None) frame slot
 
--- the earlier of two onsets, of which the second counts only where it comes after this slot of this
+-- the earlier of two onsets, of which the second counts only if it comes after this slot of this
 -- frame
 abbrev pub earlier_after : ℕ → ℕ → Option (ℕ × ℕ) → Option (ℕ × ℕ) → Option (ℕ × ℕ)
 earlier_after frame slot next None = next

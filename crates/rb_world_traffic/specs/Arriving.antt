@@ -28,7 +28,7 @@ coming_to delays t bytes i =
 abbrev pub lane_with : Side → (ℕ → Coming) → (ℕ → Bool) → ℕ → Held → Held
 lane_with side coming is_one i lane = elim (is_one i) [ true ↦ with_arrival (coming i) lane | false ↦ lane ]
 
--- so with the lanes of all nodes of the kind, and no others
+-- the arrivals go into the lanes of all chosen nodes of the kind, and of no others
 abbrev pub lanes_with : Side → (ℕ → Coming) → (ℕ → Bool) → Each Held → Each Held
 lanes_with Biu coming is_one lanes = record lanes { bius = map_from 0 (lane_with Biu coming is_one) lanes.bius }
 lanes_with Rmu coming is_one lanes = record lanes { rmus = map_from 0 (lane_with Rmu coming is_one) lanes.rmus }

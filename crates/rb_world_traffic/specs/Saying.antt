@@ -22,7 +22,7 @@ use Rattle.rb_world_onset.specs.Faults.{faults_of}
 use Rattle.rb_world_traffic.specs.declared.saying.Said.{Said}
 use Rattle.rb_world_traffic.specs.Arriving.{number_of}
 
--- what is kept of a scenario: who is good where, how messages are spelled, and what is said
+-- what is kept of a scenario: who is good in which slot, how messages are spelled, and what is said
 abbrev pub KeptSayings : Type 0
 KeptSayings = Said
 
@@ -80,7 +80,7 @@ pub record AreOfKind (says : List Say) (side : Side) (count senders : ℕ) (list
   pub many : length lists ≡ count
   pub each : (i : ℕ) → i < count → AreFor says (name_of side i) senders (unwrap_or (slice_get lists i) [])
 
--- so for both kinds
+-- the numbers of the entries for each node of both kinds
 pub record AreIndexed (sizes : Sizes) (says : List Say) (bius rmus : List (List ℕ)) : Type 0 where
   pub to_bius : AreOfKind says Biu sizes.bius sizes.rmus bius
   pub to_rmus : AreOfKind says Rmu sizes.rmus sizes.bius rmus
@@ -121,7 +121,7 @@ Brings kept says clock to span before after =
     (sc : Scenario) → kept ≡ kept_of sc → after ≡ with_lane to (with_arrivals (all_brought sc clock span says) (lane_of before to)) before
 
 -- what is said to a node in a window has come to it, in its lane and at its site, in each scenario
--- of which this is kept and where this is the node's clock
+-- of which this is kept and in which this is the node's clock
 pub record SaysTo (kept : KeptSayings) (clock : Timeline) (to : NodeName) (span : Span) (before after : Each Held) : Type 0 where
   pub lanes : (sc : Scenario) → kept ≡ kept_of sc → clock ≡ clock_of sc (kind_of to) (number_of to)
       → after ≡ with_lane to (with_arrivals (says_in sc (kind_of to) (number_of to) span) (lane_of before to)) before

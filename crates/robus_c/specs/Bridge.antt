@@ -30,7 +30,7 @@ number_of code.ReadFault = 5
 number_of code.WriteFault = 6
 number_of code.OutOfMemory = 7
 
--- these words are those of the form
+-- the words are those of the form
 abbrev pub Ask : List (List ℕ) → Form → Type 0
 Ask words form = words ≡ words_of form
 

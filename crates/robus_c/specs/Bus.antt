@@ -34,7 +34,7 @@ number_of code.ReadFault = 5
 number_of code.WriteFault = 6
 number_of code.OutOfMemory = 7
 
--- these words are those of the form, whose numbers and letter are in range
+-- the words are those of the form, whose numbers and letter are in range
 pub record Ask (words : List (List ℕ)) (form : Form) : Type 0 where
   pub same : words ≡ words_of form
   pub in_range : IsInRange form

@@ -7,6 +7,6 @@ pub record Held : Type 0 where
   pub bytes : List ℕ
   pub failed : Bool
 
--- its count of faults goes to the end at the first of them
+-- the sink's count of faults goes to the end at the first of them
 abbrev pub faults_of : Held → ℕ
 faults_of sink = if sink.failed then last_count else 0
