@@ -47,7 +47,7 @@ or_middle false false c h = cc
 pub all_four : (a b c d : Bool) → a ≡ true → b ≡ true → c ≡ true → d ≡ true → (a && b && c && d) ≡ true
 all_four a b c d p q r s = rw (p, q, r, s) refl
 
--- the second is asked only where the first holds
+-- the second is asked only if the first holds
 pub and-same : (s a b : Bool) → (s ≡ true → a ≡ b) → (s && a) ≡ (s && b)
 and-same true a b same = same refl
 and-same false a b same = refl

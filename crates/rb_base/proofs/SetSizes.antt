@@ -196,7 +196,7 @@ size_less s k h here =
     only i true e = let same : i ≡ k = grind (arith, nat_tests) in let in_set : has s i ≡ true = ap (has s) same ∙ here in rw in_set refl
     only i false e = elim (has s i) as (λ b. (b && false) ≡ false) [ true ↦ refl | false ↦ refl ]
 
--- a set that has a node isn't empty
+-- a set that has a node is not empty
 pub size_some : (s k : ℕ) → k < 16 → has s k ≡ true → 0 < size s
 size_some s k h here =
     let is : (i : ℕ) → i < 16 → has (set_of (λ j. j == k)) i ≡ true → has s i ≡ true = λ i l e.

@@ -17,7 +17,7 @@ pub struct Event {
 #[derive(Clone, Debug, PartialEq, Eq, Drop)]
 pub enum EventKind {
     /// A tick of the node's clock. `wanted` says whether the node asks for a word at this tick, and
-    /// `word` is that word, or 0 where none is wanted.
+    /// `word` is that word, or 0 if none is wanted.
     Tick { word: u32, wanted: bool },
     /// The arrival of a message of at most 32 bytes from node `from` of the other kind.
     Arrive { from: u8, bytes: ArrayVec<u8, 32> },

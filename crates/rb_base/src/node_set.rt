@@ -59,7 +59,7 @@ impl<K: Copy> NodeSet<K> {
         self.bits &= !(1 << id.index());
     }
 
-    /// Takes the node with the lowest number out of the set and gives it. None exactly where the
+    /// Takes the node with the lowest number out of the set and gives it. `None` if and only if the
     /// set is empty. So a loop `while let Some(id) = left.pop_first()` walks over the nodes of a
     /// set in order.
     pub fn pop_first(&mut self) -> Option<NodeId<K>>
@@ -126,7 +126,7 @@ impl<K: Copy> NodeSet<K> {
         self.bits.count_ones() as u8
     }
 
-    /// The set as a mask: bit i is set exactly where node i is in the set.
+    /// The set as a mask: bit i is set if and only if node i is in the set.
     pub fn bits(&self) -> u16
         ensures { result ≡ self.now }
     {

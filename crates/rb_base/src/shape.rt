@@ -23,7 +23,7 @@ impl Model for Shape {
 }
 
 impl Shape {
-    /// The shape with these numbers. None exactly where there are not 1 to 16 BIUs, 1 to 16 RMUs
+    /// The shape with these numbers. `None` if and only if there are not 1 to 16 BIUs, 1 to 16 RMUs
     /// and 1 to 64 data slots.
     pub fn new(biu: u8, rmu: u8, slots: u16) -> Option<Shape>
         ensures range { IsSome result

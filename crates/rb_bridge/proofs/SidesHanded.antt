@@ -44,7 +44,7 @@ none-handed sc bank told [] w none = refl
 none-handed sc bank told (p ∷ ps) w none = ap (with_words sc bank told ps) (hand-none sc w (biu_on bank p) _ none) ∙ none-handed sc bank told ps w none
 
 -- what the words of some pairs are, of which one is handed over where the last turn was the record
--- of a frame, and none where it was not
+-- of a frame, and none if it was not
 pub record AreHanded (sc : Scenario) (bank : Bank) (told : ℕ → Option Heard) (pairs : List Pair) (w : World) : Type 0 where
   pub more : List HandIn
   pub is : IsHanded w (with_words sc bank told pairs w) more

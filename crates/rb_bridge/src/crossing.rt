@@ -76,8 +76,9 @@ fn cross_frame<K: Sink, D: Drive>(
 /// carries over. From the second frame on there is a line for each BIU of the left bus, and then of
 /// the right, that is good in the frame's last data slot: the word that it finds. The last line is
 /// `end` or the first `breach`. At the end both drives are asked for their last turns; at a breach
-/// that of the other bus may have been left on the way. `Failed` comes only where a write failed; a
-/// first part of the text has then been written. The sides must be as `open_side` gives them.
+/// that of the other bus may have been left on the way. `Failed` is the answer only if a write
+/// failed; a first part of the text has then been written. The sides must be as `open_side` gives
+/// them.
 pub fn cross<K: Sink, D: Drive>(
     left: &mut Side,
     right: &mut Side,

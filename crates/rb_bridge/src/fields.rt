@@ -48,7 +48,7 @@ pub(crate) fn push_heard(line: &mut ArrayString<96>, value: Heard)
     }
 }
 
-// A last field, where there is one.
+// A last field, if there is one.
 pub(crate) fn push_last(line: &mut ArrayString<96>, number: Option<u64>)
     requires { array_string_len line.old + 21 ≤ 96 }
     ensures bytes { line.new.bytes ≡ with_fields line.old.bytes (last_field number) }

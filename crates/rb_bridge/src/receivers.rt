@@ -86,8 +86,8 @@ fn write_port<K: Sink>(
 
 /// Writes what the receivers of a bus find in the frame of its ports: for each BIU that is good in
 /// the frame's last data slot the value that more than half of the first values are which it
-/// delivered of the bridge's BIUs. Each write asks for the rest of one line. `Failed` comes only
-/// where a write failed; a first part of the lines has then been written.
+/// delivered of the bridge's BIUs. Each write asks for the rest of one line. `Failed` is the answer
+/// only if a write failed; a first part of the lines has then been written.
 pub(crate) fn write_receivers<K: Sink>(
     ports: &Ports,
     right: bool,

@@ -91,7 +91,7 @@ pub(crate) fn note(kept: &mut Values, frame: u32, slot: u16, turn: &Turn)
     note_turn(kept, frame, slot, turn)
 }
 
-/// The word that a BIU, below 16, carries over: 0 where it delivered none, or Fault.
+/// The word that a BIU, below 16, carries over: 0 if it delivered none, or Fault.
 pub(crate) fn word_at(kept: &Values, biu: u8) -> u32
     requires { biu < 16 }
     ensures { (told : ℕ → Option Heard) → HoldValues told kept.now → result ≡ word_of (told biu) }

@@ -54,7 +54,7 @@ fn bridge_fields() -> &'static [Field]
     &FIELDS
 }
 
-// Whether a key that must be there isn't.
+// Whether a key that must be there is not.
 fn lacks(fields: &[Field], table: &Table) -> bool
     ensures { result ≡ lacks (fields_shown fields.now) (table_view table.now) }
 {

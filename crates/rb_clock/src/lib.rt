@@ -93,9 +93,9 @@ impl Clock {
     /// A clock whose tick 0 begins at `start`. A segment is a first tick and the length of the
     /// ticks from there on, `unit` give or take `drift`. Times and lengths are in reference units.
     ///
-    /// `NotRising` comes exactly where there is no segment, the first does not begin at tick 0, or
-    /// one does not begin after the one before it; else `TickOutOfBounds` exactly where a length is
-    /// not within the bounds.
+    /// `NotRising` is the answer if and only if there is no segment, the first does not begin at
+    /// tick 0, or one does not begin after the one before it; else `TickOutOfBounds` if and only if
+    /// a length is not within the bounds.
     pub fn new(
         alloc: Global,
         start: u64,

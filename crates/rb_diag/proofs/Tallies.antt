@@ -65,7 +65,7 @@ count_parts p q (x ∷ xs) =
 more_than_half : (all one other : ℕ) → one + other ≡ all → nat_lt all (2 * one) ≡ nat_lt other one
 more_than_half all one other sum = grind (arith, nat_tests)
 
--- more of the vectors that count name node j than spare it exactly where more than half name it
+-- more of the vectors that count name node j than spare it if and only if more than half name it
 most_is : (others senders : ℕ) (vector : ℕ → Heard) (j : ℕ)
     → most_against (set_of (counts others senders vector)) vector j ≡ nat_lt (sparing others senders vector j) (naming others senders vector j)
 unfolding against
@@ -111,7 +111,7 @@ convicted_is others senders trusted vector senders_bits trusted_bits valid suspe
 
 -- ---- whom nobody names
 
--- a node that is in no sender's vector so far isn't in the next one either
+-- a node that is in no sender's vector so far is not in the next one either
 pub unnamed_next : (p : ℕ → Bool) (named next i : ℕ) (j : ℕ) → (has named j ≡ false → count_if p (numbers i) ≡ 0) → has next j ≡ p i
     → has (bit_or named next) j ≡ false → count_if p (numbers (i + 1)) ≡ 0
 unnamed_next p named next i j so_far is none =

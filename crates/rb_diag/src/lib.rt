@@ -27,7 +27,7 @@ impl<K: Kind> Model for Ballot<K> {
 }
 
 impl<K: Kind> Ballot<K> {
-    /// A ballot with no vector, where there are `others` nodes of the other kind.
+    /// A ballot with no vector, if there are `others` nodes of the other kind.
     pub fn new(others: u8) -> Ballot<K>
         requires { others ≤ 16 }
         ensures { result ≡ record { others = others; vectors = no_vectors } }
@@ -122,7 +122,7 @@ fn mask_of(voted: Heard) -> u32
     }
 }
 
-// The mask of the nodes that the vector of sender i names, where it is one of the senders.
+// The mask of the nodes that the vector of sender i names, if it is one of the senders.
 fn named_by<S: Copy>(vectors: &[Heard; 16], senders: NodeSet<S>, i: u8) -> u32
     requires { i < 16 }
     ensures { (j : ℕ) → has result j ≡ (has senders i && names j (vector_in vectors.now i)) }

@@ -14,7 +14,7 @@ common_of s t r p is those_are = is ∙ same_set_of _ _ (λ j h. ap (λ b. has s
 pub without_those : (s t r : ℕ) (p : ℕ → Bool) → r ≡ set_of (λ i. has s i && not (has t i)) → t ≡ set_of p → r ≡ set_of (λ i. has s i && not (p i))
 without_those s t r p is those_are = is ∙ same_set_of _ _ (λ j h. ap (λ b. has s j && not b) (has-is t j p those_are h))
 
--- number k joins exactly where it passes
+-- number k joins if and only if it passes
 pub passing_next : (p : ℕ → Bool) (s t k : ℕ) → s ≡ passing_below k p → t ≡ (if p k then set_of (λ i. has s i || (i == k)) else s) → t ≡ passing_below (k + 1) p
 passing_next p s t k so_far is =
     let go : (b : Bool) → p k ≡ b → t ≡ (if b then set_of (λ i. has s i || (i == k)) else s) → t ≡ passing_below (k + 1) p =

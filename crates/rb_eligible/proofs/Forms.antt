@@ -98,7 +98,7 @@ message_from (Two bus) low high len short form =
     let is : len ≡ 12 = sym (length_spelled low high len short) ∙ eqb-true (length (spelled low high len)) 12 (and_first _ _ (and_first _ _ form)) in
     subst (λ n. has_form (Two bus) (spelled low high n) ≡ true → message_in (Two bus) (spelled low high n) ≡ fields_read low high) (sym is) (read_twelve bus low high) form
 
--- and where they have it not, nothing is
+-- and if they have it not, nothing is
 pub no_message : (version : Version) (bytes : List ℕ) → has_form version bytes ≡ false → message_in version bytes ≡ None
 unfolding message_in
 no_message version bytes form = rw form refl

@@ -84,7 +84,7 @@ shows_first kept received i at bytes s below all first at_is short bytes_are sho
           (with_other kept.came i j h apart) refl (get_or-set_other kept.soles i j s _ apart) (same_arrivals i j received a apart) (shown j h)
     ]
 
--- an arrival after which the source can't be good
+-- an arrival after which the source cannot be good
 pub shows_spoilt : (kept : KeptArrivals) (received : List Received) (i : ℕ) (a : Arrival) → i < 16
     → (has kept.came i ≡ false → 12 < length a.bytes) → HoldsArrivals kept received
     → HoldsArrivals (record { came = with_node kept.came i; spoilt = with_node kept.spoilt i; soles = kept.soles })

@@ -74,7 +74,7 @@ fn starts_as_word(low: u64, expect: &Expect) -> bool
 }
 
 /// The word that the bytes are which are kept as these two numbers, if they are one that is meant
-/// for the window. None also where they are another message that is meant for it.
+/// for the window. None also if they are another message that is meant for it.
 #[inline(always)]
 pub(crate) fn word_of(low: u64, tail: u64, expect: &Expect) -> Option<u32>
     requires { len_of tail ≤ 12 }

@@ -86,7 +86,7 @@ impl<K: Copy> Standing<K> {
     }
 
     /// The nodes against which there is direct evidence: the trusted ones that were expected and
-    /// didn't send exactly their message, and those that weren't expected and sent something.
+    /// did not send exactly their message, and those that were not expected and sent something.
     /// `ones` are those of which exactly one message came that is meant for the window, `came`
     /// those of which anything came.
     pub fn evidence(&self, expected: NodeSet<K>, ones: NodeSet<K>, came: NodeSet<K>) -> NodeSet<K>

@@ -14,9 +14,9 @@ use crate::standing::Standing;
 use rb_base::{Heard, NodeId, NodeSet};
 use rb_rules::Expect;
 
-/// What was taken in a window: of which sources exactly one message came that is meant for it.
-/// Where `alike` says that more than half of what was taken is alike, `value` is what it is; where
-/// it doesn't, that has to be counted.
+/// What was taken in a window: of which sources exactly one message came that is meant for it. If
+/// `alike` says that more than half of what was taken is alike, `value` is what it is; if it does
+/// not, that has to be counted.
 #[derive(Clone, Copy, Debug, PartialEq, Eq)]
 pub struct Taking<K> {
     pub ones: NodeSet<K>,
@@ -195,9 +195,9 @@ fn take_runs<K: Copy>(
     }
 }
 
-// Takes what came of the sources of the set, of each of which there is one arrival. Where all say
-// the same word, which is nearly always so, nothing is counted: else a frame of the generated run
-// with seed 7 would cost 1,438,800 instructions in place of 1,383,200.
+// Takes what came of the sources of the set, of each of which there is one arrival. If all say the
+// same word, which is nearly always so, nothing is counted: else a frame of the generated run with
+// seed 7 would cost 1,438,800 instructions in place of 1,383,200.
 #[inline(always)]
 fn take_due<K: Copy>(
     inbox: &Inbox<K>,
@@ -300,8 +300,8 @@ fn due_of<K: Copy>(inbox: &Inbox<K>, standing: &Standing<K>, expected: NodeSet<K
 /// Takes what came in a window of each source that is expected and eligible, if exactly one message
 /// came and it is meant for the window: `taken` then has by source the value of that message, which
 /// a call to resynchronize has not. Then each trusted source is accused that was expected and of
-/// which not exactly that came, or that wasn't expected and of which something came. What was taken
-/// in an earlier window is written over.
+/// which not exactly that came, or that was not expected and of which something came. What was
+/// taken in an earlier window is written over.
 #[inline(always)]
 pub fn take_with_evidence<K: Copy>(
     inbox: &Inbox<K>,

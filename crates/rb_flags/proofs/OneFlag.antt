@@ -1,4 +1,4 @@
--- A word is one flag at most, and none where it does not begin with a hyphen.
+-- A word is one flag at most, and none if it does not begin with a hyphen.
 use Rattle.std.proofs.Common.{◌≡◌, ◌<◌, ◌∙◌, ℕ, List, ap, arith, get_or, refl}
 use Rattle.rb_flags.specs.declared.Flag.{Flag}
 use Rattle.rb_flags.specs.declared.Flag.TheVariants.{Help, ShortHelp, Version}

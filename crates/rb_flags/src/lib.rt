@@ -16,7 +16,7 @@ pub enum Flag {
     Version,
 }
 
-/// The flag that the word is, byte by byte. None exactly where it is none.
+/// The flag that the word is, byte by byte. `None` if and only if it is none.
 pub fn flag_in(word: &str) -> Option<Flag>
     ensures some { IfSome result (λ flag. word.now ≡ flag_text flag) }
     ensures none { IfNone result ((flag : Flag) → word.now ≢ flag_text flag) }

@@ -121,8 +121,8 @@ fn may_have(tag: Tag, value: u32) -> bool
     }
 }
 
-/// The message with these fields. None exactly where there is none: no tag, a stage that is not 1
-/// to 3, or a value other than 0 beside a tag that is not Word.
+/// The message with these fields. `None` if and only if there is none: no tag, a stage that is not
+/// 1 to 3, or a value other than 0 beside a tag that is not Word.
 pub fn message_with(
     tag: Option<Tag>,
     frame: u16,
@@ -163,9 +163,9 @@ fn message_in(version: Version, bytes: &[u8]) -> Option<Message>
     )
 }
 
-/// The message that the bytes spell in this version. None exactly where they spell none: the number
-/// of bytes, the tag, the stage, the value beside its tag, the bus's number or the check is not one
-/// of a message. Whether a message suits the window in which it arrives is not asked here.
+/// The message that the bytes spell in this version. `None` if and only if they spell none: the
+/// number of bytes, the tag, the stage, the value beside its tag, the bus's number or the check is
+/// not one of a message. Whether a message suits the window in which it arrives is not asked here.
 #[tactic(auto, using(crate::proofs::Bytes::decoding))]
 pub fn decode(version: Version, bytes: &[u8]) -> Option<Message>
     ensures spelled { IfSome result (Spells version bytes.now) }

@@ -19,11 +19,11 @@ pub struct Voter {
 /// Which voter is meant.
 #[derive(Clone, Copy, Debug, PartialEq, Eq)]
 pub enum Which {
-    /// The value that more than half of the values are, where Fault counts as a value, and Fault
-    /// where no value is.
+    /// The value that more than half of the values are, where Fault counts as a value, and Fault if
+    /// no value is.
     Most,
     /// The middle word of the values: of n words in ascending order the one at place (n - 1) / 2,
-    /// counted from 0 and rounded down, and Fault where there is no word.
+    /// counted from 0 and rounded down, and Fault if there is no word.
     Mid,
 }
 
@@ -90,8 +90,8 @@ impl Voters {
     }
 }
 
-/// The two voters, in boxes that this allocator gives; where it gives none, its error leaves by
-/// `?`. They are made in the function that calls this, since a function may not hand out a boxed
+/// The two voters, in boxes that this allocator gives; if it gives none, its error leaves by `?`.
+/// They are made in the function that calls this, since a function may not hand out a boxed
 /// closure.
 #[macro_export]
 macro_rules! voters {

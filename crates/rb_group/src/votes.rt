@@ -8,8 +8,8 @@ use rb_base::Heard;
 use rb_mid::middle;
 use rb_vote::majority;
 
-/// The value that more than half of the values are, where Fault counts as a value, and Fault where
-/// no value is.
+/// The value that more than half of the values are, where Fault counts as a value, and Fault if no
+/// value is.
 pub fn most_of(values: &ArrayVec<Heard, 16>) -> Heard
     ensures { result ≡ majority_of values.now.items }
 {
@@ -17,8 +17,8 @@ pub fn most_of(values: &ArrayVec<Heard, 16>) -> Heard
 }
 
 /// The middle word of the values: of n words in ascending order the one at place (n - 1) / 2,
-/// counted from 0 and rounded down, so the lower of two. Fault doesn't count, and is the answer
-/// exactly where there is no word.
+/// counted from 0 and rounded down, so the lower of two. Fault does not count, and is the answer if
+/// and only if there is no word.
 pub fn mid_of(values: &ArrayVec<Heard, 16>) -> Heard
     ensures { result ≡ middle_word_of values.now.items }
 {

@@ -30,8 +30,8 @@ pub struct Query<'a> {
     pub asked: &'a Asked,
 }
 
-/// Whether each node of the mask, whose bit i is BIU i, is a BIU of a bus of this shape. Where one
-/// is not, the scenario is refused with code 14 after all rules of a scenario; the line is
+/// Whether each node of the mask, whose bit i is BIU i, is a BIU of a bus of this shape. If one is
+/// not, the scenario is refused with code 14 after all rules of a scenario; the line is
 /// `refused_line(14, None, false)`.
 pub fn has_members(shape: &Shape, mask: u16) -> bool
     ensures { IsTrue result ↔ AreMembers shape.now mask }

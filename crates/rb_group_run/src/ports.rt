@@ -93,7 +93,7 @@ fn hear(groups: &mut [Group; 16], frame: u32, turn: &Turn)
     }
 }
 
-/// The frame of a turn, where it has one, or else this one. That of the end is the one after all
+/// The frame of a turn, if it has one, or else this one. That of the end is the one after all
 /// `frames`.
 pub fn frame_or(turn: &Turn, frames: u32, newest: u32) -> u32
     ensures { result ≡ frame_or frames newest (record_of turn.now) }

@@ -14,9 +14,9 @@ use rb_world::{Drive, World};
 /// replicas. Once a frame is complete, that is with the first turn of a later one, there is a line
 /// for each BIU that is good in the frame's last data slot: the value that the voter finds among
 /// the first values that this BIU delivered in the frame of each member. The last line is `end` or
-/// `breach`; a breach leaves the values of its frame out. `Failed` comes only where a write failed;
-/// a first part of the text has then been written. The world must be as `World::open` gives it, and
-/// the scope that of the same scenario.
+/// `breach`; a breach leaves the values of its frame out. `Failed` is the answer only if a write
+/// failed; a first part of the text has then been written. The world must be as `World::open` gives
+/// it, and the scope that of the same scenario.
 pub fn write_groups<K: Sink, D: Drive>(
     world: &mut World,
     apps: &Apps,

@@ -20,8 +20,8 @@ pub struct HostEpoch {
     pub rmu: u16,
 }
 
-/// A delivery, if `delivers`: in which slot of which frame, of which BIU, and the word; where that
-/// is none, `none` is true and `word` 0. Else all numbers are 0.
+/// A delivery, if `delivers`: in which slot of which frame, of which BIU, and the word; if that is
+/// none, `none` is true and `word` 0. Else all numbers are 0.
 #[repr(C)]
 #[derive(Clone, Copy, Debug, PartialEq, Eq)]
 pub struct HostDelivery {

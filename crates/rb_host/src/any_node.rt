@@ -59,7 +59,7 @@ impl AnyNode {
         }
     }
 
-    /// The number of the first tick from the next on that isn't quiet, or 2^31 where that would not
+    /// The number of the first tick from the next on that is not quiet, or 2^31 if that would not
     /// be below 2^31.
     pub fn next_tick(&self) -> u64
         ensures { IsNextTick self.now result }

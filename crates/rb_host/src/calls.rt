@@ -71,7 +71,7 @@ pub fn arrive(alloc: Global, node: &mut Handle, from: u8, bytes: &[u8]) -> bool
     true
 }
 
-/// What the node wants to be handed for its next tick. Nothing where there is no node.
+/// What the node wants to be handed for its next tick. Nothing if there is no node.
 pub fn wants(alloc: Global, node: &mut Handle) -> HostWant
     ensures wants { IfSome (node_in node.old) (λ n. IsHostWant n result) }
     ensures none { node_in node.old ≡ None → result ≡ record { what = 0; slot = 0 } }
@@ -86,7 +86,7 @@ pub fn wants(alloc: Global, node: &mut Handle) -> HostWant
 }
 
 /// A tick of the node's clock, with the request or the word for the case that one is wanted, and
-/// what the node gives. Whether there is a node; where there is none, `act` is as it was.
+/// what the node gives. Whether there is a node; if there is none, `act` is as it was.
 pub fn tick(alloc: Global, node: &mut Handle, word: u32, act: &mut HostAct) -> bool
     ensures there { result ≡ is_some (node_in node.old) }
     ensures ticks { Becomes (λ n m. Ticks n word m act.new) (node_in node.old) (node_in node.new) }
@@ -100,8 +100,8 @@ pub fn tick(alloc: Global, node: &mut Handle, word: u32, act: &mut HostAct) -> b
     true
 }
 
-/// The number of the first tick from the next on that isn't quiet; 2^31 where that would not be
-/// below 2^31, and where there is no node.
+/// The number of the first tick from the next on that is not quiet; 2^31 if that would not be below
+/// 2^31, and if there is no node.
 pub fn next_tick(alloc: Global, node: &mut Handle) -> u64
     ensures next { IfSome (node_in node.old) (λ n. IsNextTick n result) }
     ensures none { node_in node.old ≡ None → result ≡ 2 ^ 31 }

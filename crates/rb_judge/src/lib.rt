@@ -88,8 +88,8 @@ impl Judge {
         self.rmus.begin(good_rmu, trusted_rmu);
     }
 
-    /// In the stage that runs, the receiver saw this of node `from` of the other kind. Where
-    /// nothing is noted, it saw nothing.
+    /// In the stage that runs, the receiver saw this of node `from` of the other kind. If nothing
+    /// is noted, it saw nothing.
     pub fn note(&mut self, receiver: NodeName, from: u8, see: See)
         requires good { is_good_now self.old receiver ≡ true }
         requires source { from < sources_of self.old receiver }

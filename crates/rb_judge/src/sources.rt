@@ -30,7 +30,7 @@ pub struct Sources<K> {
     pub kept: [KeptSight; 16],
 }
 
-// The set with node i exactly where `member`.
+// The set with node i if and only if `member`.
 fn with_or_without<K: Copy>(set: NodeSet<K>, i: u8, member: bool) -> NodeSet<K>
     requires { i < 16 }
     ensures { (k : ℕ) → k < 16 → has result k ≡ (if k == i then member else has set k) }

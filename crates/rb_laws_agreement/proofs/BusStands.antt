@@ -1,4 +1,4 @@
--- Where good nodes begin frames and slots in time, the rounds stand for a run of the abstract bus.
+-- If good nodes begin frames and slots in time, the rounds stand for a run of the abstract bus.
 use Rattle.std.proofs.Common.{◌≡◌, ℕ, zero, suc, ◌+◌, ◌*◌, ◌<◌, ◌≤◌, nat_lt, Bool, true, false, List, inl, inr, refl, sym, ◌∙◌, ap, subst, arith}
 use Rattle.std.proofs.lemmas.Bool.{cases_lt, le-ltb, lt-ltb}
 use Rattle.rb_base.specs.Nodes.{Side, has}

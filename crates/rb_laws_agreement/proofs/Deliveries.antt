@@ -50,7 +50,7 @@ owner_sending Sync sender = None
 abbrev pub delivery_from : NodeState → ℕ → Heard → ℕ → Delivery
 delivery_from st slot value p = record { frame = st.frame; slot = slot; sender = p; value = value }
 
--- a BIU delivers the vote of stage 2, where there is an owner
+-- a BIU delivers the vote of stage 2, if there is an owner
 pub delivery-2 : (st : NodeState) (slot : ℕ) (role : Role) (sender : Sender) (voted : Heard)
     → delivery_of Biu st slot role sender 2 voted ≡ option_map (delivery_from st slot voted) (owner_sending role sender)
 delivery-2 st slot (Schedule i) sender voted = refl
@@ -171,8 +171,7 @@ rows-long sc m =
     length-each (λ me i (r : Result). r.row) (results_of sc m) Biu
     ∙ length-each (λ me i st. go_through sc m (sent_in sc m) me i st (window_in sc m me st)) m.nodes Biu
 
--- in stage 2 the lines of a slot are delivered: the value, at each good BIU, where there is an
--- owner
+-- in stage 2 the lines of a slot are delivered: the value, at each good BIU, if there is an owner
 pub lines_2 : (sc : Scenario) (hands : List HandIn) (n : ℕ) (m : Moment) (s : Shared) (slot : ℕ) (c : Setting sc hands n m s slot 1) (value : Heard)
     → ((i : ℕ) (st : NodeState) → IsGoodNode sc m (kind_in sc.sizes slot) i st → vote_of sc hands n m s slot 1 c (kind_in sc.sizes slot) i st ≡ value)
     → filter_map line_in (of_kind Biu (rows_of sc m)) ≡ lines_in sc m.frame slot (owner_sending (role_of sc.sizes slot) (sender_of sc.sizes s slot)) value

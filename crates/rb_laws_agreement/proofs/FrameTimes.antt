@@ -1,5 +1,4 @@
--- Where good nodes begin frames near each other, and frames take as long as they must, times are
--- kept.
+-- If good nodes begin frames near each other, and frames take as long as they must, times are kept.
 use Rattle.std.proofs.Common.{◌≡◌, ℕ, zero, suc, ◌+◌, ◌-◌, ◌*◌, ◌≤◌, Bool, true, false, List, [], length, inl, inr, ◌⊎◌, Option, Some, None, option_map, slice_get, if◌then◌else◌, refl, sym, ◌∙◌, ap, subst, arith}
 use Rattle.std.proofs.lemmas.Option.{same_Some}
 use Rattle.rb_base.specs.Nodes.{Side}
@@ -113,14 +112,14 @@ begun-after sc hands law frame complete me i st g =
 
 -- The first time of a frame.
 
--- the time at which a node begins the frame, where it is good
+-- the time at which a node begins the frame, if it is good
 start-at : Scenario → Side → ℕ → Bool → Option NodeState → Option ℕ
 start-at sc me i good st = if good then option_map (λ st. time_in_frame sc me i st 0) st else None
 
 pub starts : Scenario → List HandIn → ℕ → Side → ℕ → Option ℕ
 starts sc hands frame me i = start-at sc me i (is_good sc me i frame 0) (slice_get (of_kind me (before_slot sc hands frame 0).nodes) i)
 
--- the least of these; where there is none, what is left
+-- the least of these; if there is none, what is left
 least-or : (sc : Scenario) (hands : List HandIn) (frame : ℕ) → IsFirstOf (starts sc hands frame) 16 ⊎ HaveNone (starts sc hands frame) 16 → ℕ → ℕ
 least-or sc hands frame (inl first) otherwise = first.at
 least-or sc hands frame (inr none) otherwise = otherwise

@@ -121,7 +121,7 @@ voted-for x trusted owners e pr s p sender got all i g =
     all-vote x trusted owners 1 e pr s (omega arith) (omega arith) (kind_in x) (unwrap_or got Fault)
     (λ j h. relay-says x trusted owners s p sender j h ∙ ap (λ o. Some (unwrap_or o Fault)) (all j h)) i g
 
--- a good source, where there is a good node that votes
+-- a good source, if there is a good node that votes
 some-source : (x : Exchange) → KeepsPremise x → (q : ℕ) → 1 ≤ q → q < 3 → (me : Side) (i : ℕ) → x.good me i ≡ true → Passing (x.good (other me)) 0 16
 some-source x pr q late small me i g =
     let more : GoodOutnumber (x.good (other me)) (takes_after x q me i) = pr.most q me i late small g in

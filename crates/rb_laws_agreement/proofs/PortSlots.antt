@@ -105,7 +105,7 @@ delivered-port : (i slot : ℕ) (st : NodeState) (vote value : Heard) (owner : O
 delivered-port i slot st vote value None port same = refl
 delivered-port i slot st vote value (Some p) port same = ap (delivered_to port) (same p refl)
 
--- what the bus delivers in a slot is its value, where it has an owner
+-- what the bus delivers in a slot is its value, if it has an owner
 delivered-is : (sc : Scenario) (hands : List HandIn) (frame slot : ℕ) (r : IsSlot sc hands frame slot) (i : ℕ) → is_good sc Biu i frame slot ≡ true
     → delivered_in sc hands frame slot ≡ option_map (λ p. value_of_slot sc hands frame slot r) (owner_sending (role_of sc.sizes slot) (sender_of sc.sizes r.shared slot))
 delivered-is sc hands frame slot r i good =

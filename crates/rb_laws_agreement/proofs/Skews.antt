@@ -1,5 +1,4 @@
--- Where times are kept, good nodes begin slots near each other, and all that the bus promises
--- holds.
+-- If times are kept, good nodes begin slots near each other, and all that the bus promises holds.
 use Rattle.std.proofs.Common.{◌≡◌, ℕ, ◌+◌, ◌-◌, ◌*◌, ◌<◌, ◌≤◌, List, ◌∙◌, ap, arith}
 use Rattle.rb_rules.specs.declared.plan.Plan.{Plan}
 use Rattle.rb_rules.specs.Goodness.{Scenario}

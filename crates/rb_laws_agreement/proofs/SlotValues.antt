@@ -1,4 +1,4 @@
--- Each complete slot below the sync slot has one value, and where its sender is good this is the
+-- Each complete slot below the sync slot has one value, and if its sender is good this is the
 -- sender's own.
 use Rattle.std.proofs.Common.{◌≡◌, ℕ, suc, true, List, [], ◌∷◌, ◌++◌, slice_get, refl, sym, ◌∙◌, ap, subst, arith}
 use Rattle.rb_base.specs.Nodes.{Side}

@@ -113,7 +113,7 @@ says_vote sizes me i st slot word = go (sender_at sizes me st slot)
     go EachTrusted = inl refl
     go (Node p) = one-way (listens (other me) (role_of sizes slot) 3) (get_or st.votes slot Fault)
 
--- a node says nothing where the other kind doesn't listen
+-- a node says nothing if the other kind does not listen
 pub says_nothing : (sizes : Sizes) (me : Side) (i : ℕ) (st : NodeState) (slot stage word : ℕ) → listens (other me) (role_of sizes slot) stage ≡ false
     → says sizes me i st slot stage word ≡ None
 says_nothing sizes me i st slot stage word deaf = go (sender_at sizes me st slot)
@@ -149,7 +149,7 @@ vote_is_said sizes me i p st slot word sender speaks =
     let role : Role = role_of sizes slot in
     ap (λ x. says_of me i st slot role x 3 word) sender ∙ ap (λ b. if b then Some (get_or st.votes slot Fault) else None) speaks
 
--- what is the value, or nothing, isn't unlike it
+-- what is the value, or nothing, is not unlike it
 pub only-alike : (said : Option Heard) (value : Heard) → IsOnly said value → is_unlike value said ≡ false
 only-alike said value (inl none) = ap (is_unlike value) none
 only-alike said value (inr some) = ap (is_unlike value) some ∙ alike_is_not_unlike value

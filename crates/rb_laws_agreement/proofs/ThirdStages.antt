@@ -110,7 +110,7 @@ none_unlike_3 sc hands n m s slot c me i j st source here there value reference 
 
 -- After stage 3.
 
--- a node whose kind doesn't vote in a stage keeps its votes
+-- a node whose kind does not vote in a stage keeps its votes
 pub votes_kept : (sc : Scenario) (hands : List HandIn) (n : ℕ) (m : Moment) (s : Shared) (slot q : ℕ) (c : Setting sc hands n m s slot q) (me : Side) (i : ℕ) (st now : NodeState)
     → IsGoodNode sc m me i st → after sc m me i st ≡ now → votes_in me (role_of sc.sizes slot) (q + 1) ≡ false → now.votes ≡ st.votes
 votes_kept sc hands n m s slot q c me i st now here is none =

@@ -7,8 +7,8 @@ ghost use Rattle.rb_laws_agreement.specs.Held.{HeldWordsAreDelivered};
 ghost use Rattle.rb_laws_agreement.specs.Laws.{AccusedByAllIsConvicted, DeliveriesAreRight, GoodNodesAgree, GoodNodesHoldOneSchedule, GoodSendersAreHeard, NoGoodNodeIsAccused, NoGoodNodeIsConvicted, PortsFollowTheBus, PortsHoldOneState, RoundsStepTheBus, TimeIsAllThatIsLeft, TimeKeepsThePromise, UnheardNodesHaveNoVector};
 ghost use Rattle.rb_laws_agreement.specs.OneSlot.{OneSlotAgrees, VotesAgree, VotesAreValid};
 
-/// In one stage, whatever comes of the others: where all good sources say one value, and more of
-/// what a node takes comes of them than of others, that is its vote.
+/// In one stage, whatever comes of the others: if all good sources say one value, and more of what
+/// a node takes comes of them than of others, that is its vote.
 pub fn votes_are_valid()
     ensures { VotesAreValid }
 {}
@@ -33,14 +33,14 @@ pub fn good_nodes_agree()
     ensures { GoodNodesAgree }
 {}
 
-/// Where the sender is good, the vote is what it sent: its request, the word that its application
+/// If the sender is good, the vote is what it sent: its request, the word that its application
 /// offered, its vector.
 pub fn good_senders_are_heard()
     ensures { GoodSendersAreHeard }
 {}
 
-/// In each complete slot all good BIUs deliver one value, and where the slot's owner is good, the
-/// word that its application offered.
+/// In each complete slot all good BIUs deliver one value, and if the slot's owner is good, the word
+/// that its application offered.
 pub fn deliveries_are_right()
     ensures { DeliveriesAreRight }
 {}
@@ -95,8 +95,8 @@ pub fn rounds_step_the_bus()
     ensures { RoundsStepTheBus }
 {}
 
-/// Where good nodes begin frames at most `p` reference units apart, and each frame takes as long as
-/// it must, the rounds stand for a run of the abstract bus.
+/// If good nodes begin frames at most `p` reference units apart, and each frame takes as long as it
+/// must, the rounds stand for a run of the abstract bus.
 pub fn time_is_all_that_is_left()
     ensures { TimeIsAllThatIsLeft }
 {}

@@ -1,4 +1,4 @@
--- A frame begins with its record. Where no BIU is good at its start, the run ends there.
+-- A frame begins with its record. If no BIU is good at its start, the run ends there.
 use Rattle.std.proofs.Common.{◌≡◌, ℕ, zero, suc, ◌+◌, ◌-◌, ◌*◌, ◌<◌, ◌≤◌, ◌==◌, nat_lt, Bool, true, false, inl, inr, Option, Some, None, List, [], ◌∷◌, ◌++◌, append_assoc, length, slice_get, option_map, refl, sym, ◌∙◌, ap, subst, arith}
 use Rattle.std.proofs.Math.Nat.{add-sub_of_le}
 use Rattle.std.proofs.lemmas.Bool.{cases_lt, le-ltb, lt-ltb}

@@ -1,5 +1,5 @@
--- What a BIU delivers in a slot, by the records: what the bus does, where it is good there, and
--- else nothing.
+-- What a BIU delivers in a slot, by the records: what the bus does, if it is good there, and else
+-- nothing.
 use Rattle.std.proofs.Common.{◌≡◌, ℕ, zero, suc, ◌+◌, ◌-◌, ◌*◌, ◌^◌, ◌<◌, ◌≤◌, ◌==◌, Bool, true, false, inl, inr, cond, Option, Some, None, List, [], ◌∷◌, ◌++◌, filter, map, if◌then◌else◌, refl, sym, ◌∙◌, ap, subst, arith}
 use Rattle.std.specs.List.{range_with_len}
 use Rattle.std.specs.Option.{option_or}
@@ -130,7 +130,7 @@ value_by sc hands frame slot i n = value_in slot (told_in frame i (moment sc han
 abbrev completed : Scenario → ℕ → ℕ → ℕ
 completed sc frame slot = frame * (windows_in sc.sizes + 1) + 3 * slot + 3
 
--- a step with which another slot is complete, or this one where the BIU is not good in it, adds no
+-- a step with which another slot is complete, or this one if the BIU is not good in it, adds no
 -- value
 abbrev pub AddsNoValue : Scenario → ℕ → ℕ → ℕ → ℕ → Type 0
 AddsNoValue sc frame slot i p = suc p ≡ completed sc frame slot → is_good sc Biu i frame slot ≡ false

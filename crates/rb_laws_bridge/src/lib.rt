@@ -28,14 +28,14 @@ pub fn frames_are_told_in_order()
 {}
 
 /// In every lawful scenario, once a record of a later frame is given, the next frame begins with
-/// it. Where no BIU is good at that frame's start, it is the last of the run, so nothing is handed
-/// in there.
+/// it. If no BIU is good at that frame's start, it is the last of the run, so nothing is handed in
+/// there.
 pub fn frames_begin_in_order()
     ensures { FramesBeginInOrder }
 {}
 
 /// In every scenario, the first records of a run, up to a frame, stay the first, whatever is handed
-/// in for later frames. Where the last of them ends the run, they stay all.
+/// in for later frames. If the last of them ends the run, they stay all.
 pub fn earlier_records_stay()
     ensures { EarlierRecordsStay }
 {}
@@ -51,7 +51,7 @@ pub fn other_bius_tell_nothing()
     ensures { OtherBiusTellNothing }
 {}
 
-/// Where no breach of either bus comes up to a frame's end: if the pairs whose BIU on a bank owns a
+/// If no breach of either bus comes up to a frame's end: if the pairs whose BIU on a bank owns a
 /// data slot in it and is good in all of it, and whose BIU across the bridge was good in all of the
 /// frame before, outnumber the other pairs whose BIU there owns one, each BIU of that bank that is
 /// good in the whole frame finds the word that the other bus delivered in its carried slot of the

@@ -1,5 +1,5 @@
--- For the law that events are rounds: where no node is good any more, what is settled by itself
--- leaves nothing that waits for an event.
+-- For the law that events are rounds: if no node is good any more, what is settled by itself leaves
+-- nothing that waits for an event.
 use Rattle.std.proofs.Common.{◌≡◌, ℕ, zero, suc, ◌+◌, ◌*◌, ◌<◌, ◌≤◌, ◌==◌, ◌&&◌, ◌⊎◌, not, nat_lt, Bool, true, false, List, [], ◌∷◌, ◌++◌, length, refl, ap, sym, ◌∙◌, subst, arith, inl, inr, Option, Some, None, slice_get, if◌then◌else◌}
 use Rattle.std.proofs.lemmas.Bool.{and_parts, cases_lt, eqb-true}
 use Rattle.rb_base.specs.Nodes.{Side, has}

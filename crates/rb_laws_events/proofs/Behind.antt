@@ -280,7 +280,7 @@ pub record ClosesNow (sc : Scenario) (hands : List HandIn) (t : ℕ) (me : Side)
   pub good : is_good_at sc (moment sc hands p) me i ≡ true
   pub time : t ≡ time_of (clock_of sc me i) (last_tick sc (moment sc hands p) me st)
 
--- a node closes a window only where another has not passed it
+-- a node closes a window only if another has not passed it
 pub closes-before : (sc : Scenario) (hands : List HandIn) (now t : ℕ) (at : Side → ℕ → ℕ) (sites : Each Site) (n : ℕ) → IsLawful sc → now ≤ t → SitesStand sc hands now at sites
     → HavePassed sc hands now at → AllPend t sites → (moment sc hands n).window < stages_in sc.sizes → IsBehind sc hands at sites n
     → ((q : ℕ) → q < n → (moment sc hands q).window ≤ stages_in sc.sizes → InTime sc (moment sc hands q) (moment sc hands (next_stage sc.sizes (moment sc hands q) q)))

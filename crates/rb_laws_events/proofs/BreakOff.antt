@@ -111,7 +111,7 @@ runs-small sc N hands b q sent sites keeps off h me i s there runs = elim (keeps
   | inr good ↦ h.small me i s there good
 ]
 
--- after an event that leaves the book: either the stage isn't complete, or the run has ended
+-- after an event that leaves the book: either the stage is not complete, or the run has ended
 settles-off : (sc : Scenario) (N : ℕ → List HandIn → ℕ → (Side → ℕ → ℕ → Bool) → Each Site → Type 0) (hands : List HandIn) (b q : ℕ) (sent : Side → ℕ → ℕ → Bool) (x : World) → HasRoom sc.plan → x.hands ≡ hands
     → KeepsNodes sc q (N q) → BreaksAt sc hands b q → AllSent sc hands b sent → NodesOff sc N hands b q sent x.sites → x.book ≡ (moment sc hands b).book → needs_no_event sc x.book.upcoming ≡ false
     → PortsBreak sc x → BreaksOff sc N (settle sc ByAnEvent 2 x) ⊎ IsOver sc N (settle sc ByAnEvent 2 x)

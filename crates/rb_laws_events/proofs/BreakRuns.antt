@@ -102,7 +102,7 @@ tells-it sc hands b me i s h =
     ∙ ap (λ p. is_some (elim (same_place p place) as (λ _. Option Row) [ true ↦ Some h.row | false ↦ None ])) h.place
     ∙ ap (λ t. is_some (elim t as (λ _. Option Row) [ true ↦ Some h.row | false ↦ None ])) (place-same place)
 
--- where the stage isn't complete, some good node waits for its last tick
+-- where the stage is not complete, some good node waits for its last tick
 pub record WaitsYet (sc : Scenario) (hands : List HandIn) (b : ℕ) (sites : Each Site) : Type 0 where
   pub me : Side
   pub i : ℕ

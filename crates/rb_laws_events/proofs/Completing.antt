@@ -30,8 +30,8 @@ use Rattle.rb_laws_events.proofs.WorldBooks.{settle_rest}
 
 -- The event.
 
--- an event at node i of a kind: where all nodes stand then, and what that node tells that it did
--- not tell before
+-- an event at node i of a kind: if all nodes stand then, and what that node tells that it did not
+-- tell before
 pub record EventAt (sc : Scenario) (hands : List HandIn) (at now_at : Side → ℕ → ℕ) (sites now_sites : Each Site) : Type 0 where
   pub me : Side
   pub i : ℕ

@@ -1,4 +1,4 @@
--- For the law that cores follow the rounds: where the run breaks off, a core that has closed the
+-- For the law that cores follow the rounds: if the run breaks off, a core that has closed the
 -- breaking stage stands in a moment by which the run has ended, and each other one still holds the
 -- state of the rounds.
 use Rattle.std.proofs.Common.{◌≡◌, ℕ, zero, suc, ◌+◌, ◌*◌, ◌-◌, ◌<◌, ◌≤◌, ◌⊎◌, Bool, true, false, refl, ap, sym, ◌∙◌, subst, arith, inl, inr, List, Option, Some, None, slice_get}

@@ -1,5 +1,5 @@
 -- For the law that events are rounds where the premise on faults is broken in a sync slot: a node
--- that doesn't listen in a stage of the sync slot tells what the rounds tell at its last tick,
+-- that does not listen in a stage of the sync slot tells what the rounds tell at its last tick,
 -- whatever came to it, and closes nothing before the last tick of the next window.
 use Rattle.std.proofs.Common.{◌≡◌, ℕ, ◌+◌, ◌*◌, ◌<◌, ◌==◌, Bool, true, false, List, ap, sym, ◌∙◌, subst, arith}
 use Rattle.std.proofs.lemmas.Bool.Decides.{nat_tests}

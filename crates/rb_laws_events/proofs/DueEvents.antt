@@ -1,5 +1,5 @@
 -- For the law that events are rounds: what is due: it is pending at its node, nothing is pending
--- before it, and where it is a tick nothing comes to the node at its time.
+-- before it, and if it is a tick nothing comes to the node at its time.
 use Rattle.std.proofs.Common.{◌≡◌, ℕ, zero, suc, ◌+◌, ◌<◌, ◌≤◌, ◌==◌, ◌&&◌, ◌||◌, min, Bool, true, false, List, [], ◌∷◌, ◌++◌, map, filter, cond, refl, sym, ◌∙◌, ap, subst, arith, Option, Some, None, slice_get, option_map}
 use Rattle.std.specs.Prelude.{flat_map, option_to_list}
 use Rattle.std.specs.List.{enumerate_from, range_with_len}
@@ -93,7 +93,7 @@ least-of (x ∷ xs) t e = by (least-of xs) (least xs) refl e
 
 -- What is ready at a node.
 
--- what it is that this may be taken at a node at time t, where nothing is pending there before it
+-- what it is that this may be taken at a node at time t, if nothing is pending there before it
 abbrev pub IsReady : ℕ → Site → Pending → Type 0
 IsReady t s (Tick k) = (a : Timed) × ((s.ahead ≡ Some a) × ((a.tick ≡ k) × ((a.time ≡ t) × Every (λ c. t < c.time) s.coming)))
 IsReady t s (Arrival n c) = StandsAt n c s.coming × (c.time ≡ t)
@@ -350,8 +350,8 @@ none-absurd sc w known t e none =
     (every-flat (λ u. t < u) times_of (in_order w.sites) (every-append (λ s. Every (λ u. t < u) (times_of s)) w.sites.bius w.sites.rmus bius rmus)) e in
     absurd (omega arith)
 
--- before the last record, and where the next one needs an event, some event is due as long as
--- anything is pending
+-- before the last record, and if the next one needs an event, some event is due as long as anything
+-- is pending
 pub some-due : (sc : Scenario) (w : World) (t : ℕ) → ComesFromNodes sc w → (w.book.ended || needs_no_event sc w.book.upcoming) ≡ false
     → least (flat_map times_of (in_order w.sites)) ≡ Some t → due_of sc w ≡ [] → ⊥
 unfolding due_of

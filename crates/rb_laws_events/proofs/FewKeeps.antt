@@ -1,5 +1,5 @@
--- For the law that pending events are few: where the run breaks off in a sync slot the nodes keep
--- room for what comes to them until it has ended.
+-- For the law that pending events are few: if the run breaks off in a sync slot the nodes keep room
+-- for what comes to them until it has ended.
 use Rattle.std.proofs.Common.{◌≡◌, ℕ, zero, suc, ◌+◌, ◌*◌, ◌^◌, ◌<◌, ◌≤◌, ◌&&◌, Bool, true, false, List, [], ◌∷◌, ◌++◌, length, refl, ap, sym, ◌∙◌, subst, arith, inl, inr, Option, Some, None, slice_get}
 use Rattle.std.proofs.lemmas.Bool.{cases_lt}
 use Rattle.std.proofs.lemmas.Option.{same_Some, slice_get_within}

@@ -1,7 +1,7 @@
 -- For the law that events are rounds where the premise on faults is broken in a sync slot: the last
 -- tick of a window at a node, with nothing known of what comes after. It shows what the rounds tell
 -- of the window, where all that was sent to the node has come; and whatever came to it, where it
--- doesn't listen.
+-- does not listen.
 use Rattle.std.proofs.Common.{◌≡◌, ℕ, ◌+◌, ◌^◌, ◌<◌, ◌≤◌, ◌==◌, ◌&&◌, ◌⊎◌, nat_le, Bool, true, false, List, [], map, ap, sym, ◌∙◌, subst, arith, Some, None}
 use Rattle.std.proofs.lemmas.Bool.{le-leb}
 use Rattle.std.proofs.lemmas.Bool.Decides.{nat_tests}
@@ -93,7 +93,7 @@ shows-heard sc hands sent now ports me i p s st a room frame all_sent words late
       ap (λ (c : Core). c.state) acts.core ∙ sym (ap (λ (r : Result). r.state) is),
     )
 
--- the row of a close in which a node doesn't listen
+-- the row of a close in which a node does not listen
 deaf-window : (sizes : Sizes) (plan : Plan) (me : Side) (i : ℕ) (st : NodeState) (w : Window) (arrivals : ℕ → List Arrival) (heard : ℕ → List Coming)
     → w.slot ≡ sync_slot_of sizes → listens me Sync w.stage ≡ false
     → row_of me i (close_window sizes plan me i st w arrivals).state heard (close_window sizes plan me i st w arrivals).closed ≡ silent_row sizes me st w.stage
@@ -125,7 +125,7 @@ deaf-through sc m me i st good tick slot deaf =
     ap (λ b. (elim b as (λ _. Result) [ true ↦ close_on sc me i kept w heard | false ↦ record { state = st; row = None } ]).row) both
     ∙ ap (λ r. Some r) (deaf-window sc.sizes sc.plan me i kept w (λ j. map (arrival_of (clock_of sc me i)) (heard j)) heard slot deaf)
 
--- a node that doesn't listen, whatever has come
+-- a node that does not listen, whatever has come
 pub shows-deaf : (sc : Scenario) (m : Moment) (ports : List PortState) (me : Side) (i : ℕ) (s : Site) (st : NodeState) (k : ℕ)
     → HasRoom sc.plan → is_good_at sc m me i ≡ true → IsInWindow sc.sizes sc.plan me i st m.window (word_at sc m me i st) k s.core.state → s.core.had ≤ k → k < 2 ^ 31
     → HasWord sc ports me i st m.window (word_at sc m me i st) → k ≡ last_tick sc m me st

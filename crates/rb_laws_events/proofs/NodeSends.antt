@@ -124,7 +124,7 @@ other-stage sizes plan me i st slot r n word k ticks inside keeps le small withi
       | inr gt ↦ more-differs s.tick k (apart sizes plan me st n (3 * slot + r) k s.tick ticks gt (omega arith) at sent)
     ])
 
--- the message of stage r + 1, where those of the others don't go out
+-- the message of stage r + 1, where those of the others do not go out
 only : (sizes : Sizes) (plan : Plan) (me : Side) (i : ℕ) (st : NodeState) (slot word k : ℕ) (r : ℕ) → r < 3
     → ((q : ℕ) → q < 3 → (q < r) ⊎ (r < q) → if_at k (sending sizes plan me i st slot (q + 1) word) ≡ None)
     → option_or (if_at k (sending sizes plan me i st slot 1 word)) (option_or (if_at k (sending sizes plan me i st slot 2 word)) (if_at k (sending sizes plan me i st slot 3 word)))
@@ -228,7 +228,7 @@ said-is sizes plan me i st n word k ticks inside keeps le at =
           (sync-said sizes plan me i st r word k ticks inside keeps (omega arith) (subst (λ m. IsTickIn sizes plan me st m k) (sym e) at))
     ]
 
--- Where the message of a window goes out.
+-- If the message of a window goes out.
 
 sync-sent : (sizes : Sizes) (plan : Plan) (me : Side) (i : ℕ) (st : NodeState) (r word : ℕ) (s : Sending) → SendsInside plan → KeepsTime sizes plan me st
     → r < 4 → sending_at sizes plan me i st (3 * sync_slot_of sizes + r) word ≡ Some s → IsTickIn sizes plan me st (3 * sync_slot_of sizes + r) s.tick
@@ -268,7 +268,7 @@ sent-in sizes plan me i st n word s inside keeps le e =
           (sync-sent sizes plan me i st r word s inside keeps (omega arith) (ap (λ m. sending_at sizes plan me i st m word) f ∙ e))
     ]
 
--- Where nothing is sent the sender keeps nothing.
+-- If nothing is sent the sender keeps nothing.
 
 no-message : (m : Option Message) (t : ℕ) → option_and_then (λ m. option_map (λ tick. let x : Sending = record { tick = tick; message = m } in x) (Some t)) m ≡ None → m ≡ None
 no-message None t e = refl

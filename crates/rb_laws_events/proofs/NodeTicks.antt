@@ -104,7 +104,7 @@ like-keeps sizes plan me i st y h keeps = record {
   next = λ x e. let epoch : y.epoch ≡ st.epoch = h.epoch in let low : st.epoch + tail_start_of sizes plan ≤ x = keeps.next x (sym h.next ∙ e) in omega arith;
 }
 
--- The node doesn't turn at a tick of its windows.
+-- The node does not turn at a tick of its windows.
 
 pub tail-first : (sizes : Sizes) (plan : Plan) (me : Side) (st : NodeState) → first_of sizes plan me st (stages_in sizes) ≡ tail_start_of sizes plan
 tail-first sizes plan me st = ap (λ w. w.first) (sync-numbered sizes plan me st 3)

@@ -43,7 +43,7 @@ from-says sizes me i st slot stage a b e = record {
   kept = ap (λ v. if (stage == 1) && is_some v then record st { sent = v } else st) e;
 }
 
--- Where no word from outside is said, all words come to the same.
+-- If no word from outside is said, all words come to the same.
 
 not-below : (a b c : ℕ) → nat_lt a (b + c) ≡ false → nat_lt a b ≡ false
 not-below a b c h = grind (arith, nat_tests)
@@ -131,7 +131,7 @@ rmu-words sizes i st slot stage a b = by (takes_word sizes slot stage) refl
         (subst (λ s. says sizes Rmu i st slot s a ≡ says sizes Rmu i st slot s b) (one-is stage parts.0)
         (rmu-silent sizes i st slot a (sender_at sizes Rmu st slot) parts.1 ∙ sym (rmu-silent sizes i st slot b (sender_at sizes Rmu st slot) parts.1)))
 
--- Whether a message is said doesn't depend on the word.
+-- Whether a message is said does not depend on the word.
 
 none-value : (me : Side) (i : ℕ) (st : NodeState) (slot : ℕ) (role : Role) (sender : Sender) (stage a b : ℕ)
     → value_said me i st slot role sender stage a ≡ None → value_said me i st slot role sender stage b ≡ None
@@ -258,7 +258,7 @@ free-fits sizes me i st slot stage given right m e same =
           ∙ sym (kept-some sizes me i st slot stage right m p) ∙ sym (ap (state_kept sizes me i st right) f);
     }
 
--- the word that is wanted for a message, or 0 where none is
+-- the word that is wanted for a message, or 0 if none is
 abbrev pub word_wanted : Scenario → List PortState → ℕ → Option Message → ℕ
 word_wanted sc ports i m = word_of sc ports i (slot_wanted sc.sizes m)
 

@@ -1,5 +1,5 @@
 -- For the law that events are rounds: one due event keeps the whole invariant, as long as the nodes
--- are in time where they stand and where the node of the event stands next.
+-- are in time where they stand and if the node of the event stands next.
 use Rattle.std.proofs.Common.{◌≡◌, ℕ, zero, suc, ◌<◌, ◌≤◌, ◌&&◌, not, Bool, true, false, List, length, refl, ap, sym, ◌∙◌, subst, arith, Option, Some, None, slice_get}
 use Rattle.std.proofs.lemmas.Option.{same_Some}
 use Rattle.rb_base.specs.Nodes.{Side, other}

@@ -1,4 +1,4 @@
--- For the law that events are rounds: where each node has told what it tells in the rounds, a stage
+-- For the law that events are rounds: if each node has told what it tells in the rounds, a stage
 -- that the world settles is settled as in the rounds.
 use Rattle.std.proofs.Common.{◌≡◌, ℕ, zero, suc, ◌+◌, ◌%◌, ◌<◌, ◌≤◌, ◌==◌, ◌&&◌, ◌||◌, not, nat_le, nat_lt, Bool, true, false, List, [], ◌∷◌, ◌++◌, length, refl, ap, sym, ◌∙◌, subst, arith, Option, Some, None, is_some, slice_get, option_map}
 use Rattle.std.specs.List.{list_all}

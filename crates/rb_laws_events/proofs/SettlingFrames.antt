@@ -1,6 +1,6 @@
--- For the law that events are rounds: where each node has told what it tells in the rounds, the
--- start of a frame that the world settles is settled as in the rounds, and so whatever is settled
--- makes the book one of the rounds'.
+-- For the law that events are rounds: if each node has told what it tells in the rounds, the start
+-- of a frame that the world settles is settled as in the rounds, and so whatever is settled makes
+-- the book one of the rounds'.
 use Rattle.std.proofs.Common.{◌≡◌, ℕ, zero, suc, ◌+◌, ◌<◌, ◌≤◌, ◌==◌, ◌&&◌, ◌||◌, ◌⊎◌, not, nat_lt, Bool, true, false, List, [], ◌∷◌, length, map, refl, ap, sym, ◌∙◌, subst, arith, inl, inr, Option, Some, None, is_some, slice_get, option_map, if◌then◌else◌}
 use Rattle.std.proofs.lemmas.Bool.{and_parts, cases_lt, eqb-true, le-ltb, lt-ltb}
 use Rattle.std.proofs.lemmas.Option.{same_Some, slice_get_past, slice_get_within}
@@ -148,7 +148,7 @@ unfolding begin_frame ports_before
 first-settled sc hands sites ticks counts rounds complete =
     ap (λ b. with_frame sc 0 (present (in_order b)) fresh_book) (begun-are sc hands 0 sites ticks refl counts rounds complete)
 
--- Where the run is.
+-- If the run is.
 
 -- a run that has not ended is in one of its frames, or at the start of the one after the last
 pub record RunsIn (sc : Scenario) (m : Moment) : Type 0 where

@@ -1,5 +1,5 @@
 -- For the law that events are rounds where the premise on faults is broken in a sync slot: nodes of
--- the kind that is heard in a stage of the sync slot don't listen in it, so whatever came to them
+-- the kind that is heard in a stage of the sync slot do not listen in it, so whatever came to them
 -- they say nothing in the next one, and in the tail.
 use Rattle.std.proofs.Common.{◌≡◌, ℕ, zero, suc, ◌+◌, ◌*◌, ◌<◌, true, false, refl, ap, sym, ◌∙◌, subst, arith, Option, Some, None}
 use Rattle.rb_base.specs.Nodes.{Side, other}
@@ -43,7 +43,7 @@ deaf-keeps sizes plan me st stage first sense deaf keeps =
       next = λ x e. h.next x e;
     }
 
--- where the other kind doesn't listen a node says nothing
+-- where the other kind does not listen a node says nothing
 none-called : (sizes : Sizes) (plan : Plan) (me : Side) (i : ℕ) (c : NodeState) (stage word : ℕ) → listens (other me) Sync stage ≡ false
     → sending sizes plan me i c (sync_slot_of sizes) stage word ≡ None
 none-called sizes plan me i c stage word unheard = by (sending sizes plan me i c (sync_slot_of sizes) stage word) refl

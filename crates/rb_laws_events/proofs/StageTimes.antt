@@ -1,4 +1,4 @@
--- For the law that events are rounds: where a run has not ended, the calls and the epochs of good
+-- For the law that events are rounds: if a run has not ended, the calls and the epochs of good
 -- nodes come where they must, and no window ends too late for a clock.
 use Rattle.std.proofs.Common.{◌≡◌, ℕ, ◌+◌, ◌*◌, ◌-◌, ◌^◌, ◌≤◌, ◌<◌, true, List, ap, sym, ◌∙◌, subst, arith, inl, inr, Some, slice_get}
 use Rattle.std.proofs.lemmas.Bool.{cases_lt}

@@ -87,7 +87,7 @@ deaf-tail : (me : Side) → listens me Sync 4 ≡ false
 deaf-tail Biu = refl
 deaf-tail Rmu = refl
 
--- a close in which the node doesn't listen
+-- a close in which the node does not listen
 pub closed-same : (sizes : Sizes) (plan : Plan) (me : Side) (i : ℕ) (st : NodeState) (w : Window) (arrivals : ℕ → List Arrival) → w.slot ≡ sync_slot_of sizes → listens me Sync w.stage ≡ false
     → KeepsMiddles st (close_window sizes plan me i st w arrivals).state
 closed-same sizes plan me i st w arrivals slot deaf =

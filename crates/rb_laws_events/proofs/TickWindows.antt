@@ -145,7 +145,7 @@ holds offset w low high = and_from (nat_le w.first offset) (nat_le offset w.last
 holds-not : (offset : ℕ) (w : Window) → w.last < offset → holds_offset offset w ≡ false
 holds-not offset w high = and_right (nat_le w.first offset) (nat_le offset w.last) (grind (arith, nat_tests))
 
--- the windows before the one that begins with an offset, or with an earlier one, don't hold it
+-- the windows before the one that begins with an offset, or with an earlier one, do not hold it
 none-before : (sizes : Sizes) (plan : Plan) (me : Side) (st : NodeState) (n offset : ℕ) → HasTicks plan → n ≤ stages_in sizes
     → first_of sizes plan me st n ≤ offset → (m : ℕ) (w : Window) → m < n → slice_get (windows_of_frame sizes plan) m ≡ Some w
     → holds_offset offset w ≡ false

@@ -1,4 +1,4 @@
--- For the law that events are rounds: where all good nodes are in time, each message lands in the
+-- For the law that events are rounds: if all good nodes are in time, each message lands in the
 -- window that it is for, and a node that closes a window has been sent all that is sent for it.
 use Rattle.std.proofs.Common.{◌≡◌, ℕ, ◌<◌, ◌≤◌, ◌⊎◌, Bool, true, false, List, [], ◌∷◌, length, refl, ap, sym, ◌∙◌, subst, arith, inl, inr, Option, Some, None, slice_get, option_and_then, option_map, option_to_list}
 use Rattle.std.proofs.lemmas.Bool.{cases_lt, lt-ltb, true≢false}

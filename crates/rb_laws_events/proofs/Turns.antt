@@ -1,5 +1,5 @@
--- For the law that a turn is a record: where events are rounds, each call gives no record or the
--- next of the rounds.
+-- For the law that a turn is a record: if events are rounds, each call gives no record or the next
+-- of the rounds.
 use Rattle.std.proofs.Common.{◌≡◌, ℕ, ◌+◌, List, [], ◌∷◌, ◌++◌, length, append_assoc, refl, ap, sym, ◌∙◌, subst, arith, inl, inr, Some, slice_get}
 use Rattle.rb_base.proofs.Plain.{slice_get-back}
 use Rattle.rb_rules.specs.Book.{Record}

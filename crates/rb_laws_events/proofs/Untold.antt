@@ -1,5 +1,5 @@
--- For the law that events are rounds: where a milestone is not complete, some good node has not
--- told of it; and where nobody has closed a stage, it is not complete.
+-- For the law that events are rounds: if a milestone is not complete, some good node has not told
+-- of it; and if nobody has closed a stage, it is not complete.
 use Rattle.std.proofs.Common.{◌≡◌, ℕ, zero, suc, ◌+◌, ◌*◌, ◌-◌, ◌<◌, ◌==◌, ◌&&◌, ◌||◌, ◌⊎◌, not, Bool, true, false, List, [], ◌∷◌, ◌++◌, refl, ap, sym, ◌∙◌, subst, arith, inl, inr, Option, Some, None, is_some, slice_get}
 use Rattle.std.specs.List.{list_all}
 use Rattle.std.proofs.lemmas.Bool.{and_parts, cases_lt, eqb-true, true≢false}
@@ -59,7 +59,7 @@ somebody sc frame slot h =
     both-true : (a b : Bool) → a ≡ true → b ≡ true → (a && b) ≡ true
     both-true a b h k = rw (h, k) refl
 
--- and where nobody is, there is none
+-- and if nobody is, there is none
 pub nobody : (sc : Scenario) → IsShape sc.sizes → (frame slot : ℕ) → nobody_good sc frame slot ≡ true → (me : Side) (i : ℕ) → is_good sc me i frame slot ≡ true → ⊥
 nobody sc shape frame slot h me i good =
     let parts = and_parts (good_at sc Biu frame slot == 0) (good_at sc Rmu frame slot == 0) h in

@@ -77,7 +77,7 @@ pub kind-other : (me : Side) → same_side me (other me) ≡ false
 kind-other Biu = refl
 kind-other Rmu = refl
 
--- it doesn't reach a node of its own kind, nor one that has stopped
+-- it does not reach a node of its own kind, nor one that has stopped
 pub reached-not : (sc : Scenario) (me : Side) (i frame k : ℕ) (m : Option Message) (side : Side) (j : ℕ) (s : Site) → (same_side side (other me) && s.runs) ≡ false
     → reached sc me i frame k m side j s ≡ s
 reached-not sc me i frame k None side j s e = refl

@@ -53,7 +53,7 @@ pub fn close_order()
 
 /// Whatever is chosen among what is due, the records of a run event by event are the first of those
 /// of its rounds, and all of them once it has ended: in every lawful scenario, whatever is handed
-/// in, also where the premise on faults is broken.
+/// in, also if the premise on faults is broken.
 pub fn events_are_rounds()
     ensures { EventsAreRoundsInLawful }
 {}
@@ -95,10 +95,10 @@ pub fn cores_are_those_of_the_rounds()
     ensures { CoresAreThoseOfTheRounds }
 {}
 
-/// In every world, also where the run breaks off with a stage of a sync slot that some nodes have
-/// left already: each core that runs and has a tick to come holds the state of the rounds at its
-/// own moment, and each such BIU has its port of that moment, unless the run has ended by that
-/// moment in the rounds.
+/// In every world, also if the run breaks off with a stage of a sync slot that some nodes have left
+/// already: each core that runs and has a tick to come holds the state of the rounds at its own
+/// moment, and each such BIU has its port of that moment, unless the run has ended by that moment
+/// in the rounds.
 pub fn cores_follow_the_rounds()
     ensures { CoresFollowTheRounds }
 {}

@@ -3,8 +3,7 @@
 
 ghost use Rattle.rb_laws_letters.specs.Laws.{GoodPortsReceiveAlike, GoodSendersAreReceived, LettersAreRead, LettersArrive, SendersSendTheirLetters, WordsGiveTheirLetters};
 
-/// The words of a letter, where none is open before them, give this letter alone, and leave none
-/// open.
+/// The words of a letter, if none is open before them, give this letter alone, and leave none open.
 pub fn letters_are_read()
     ensures { LettersAreRead }
 {}
@@ -27,10 +26,10 @@ pub fn good_ports_receive_alike()
     ensures { GoodPortsReceiveAlike }
 {}
 
-/// In every lawful scenario, whatever is handed in: where the sender is good, a good port receives
-/// the words that it offers, each once and in order. Where these are the first of some letters'
-/// words, but for zeros, it receives the first of these letters, each whole and once, and all of
-/// them once all their words were delivered.
+/// In every lawful scenario, whatever is handed in: if the sender is good, a good port receives the
+/// words that it offers, each once and in order. If these are the first of some letters' words, but
+/// for zeros, it receives the first of these letters, each whole and once, and all of them once all
+/// their words were delivered.
 pub fn good_senders_are_received()
     ensures { GoodSendersAreReceived }
 {}

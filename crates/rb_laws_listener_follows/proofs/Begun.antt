@@ -1,5 +1,5 @@
--- Where a frame is complete, each node that is good at the start of the next one has turned from
--- what it was at the frame's end.
+-- If a frame is complete, each node that is good at the start of the next one has turned from what
+-- it was at the frame's end.
 use Rattle.std.proofs.Common.{◌≡◌, ℕ, suc, ◌+◌, ◌-◌, ◌*◌, true, List, None, Some, sym, ◌∙◌, ap, subst, arith}
 use Rattle.rb_base.specs.Nodes.{Side}
 use Rattle.rb_base.specs.Sizes.{Sizes, sync_slot_of}

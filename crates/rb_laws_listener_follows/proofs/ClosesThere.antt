@@ -1,5 +1,5 @@
--- Where a listener stands before a window of a frame that it follows, it closes the window as the
--- bus does.
+-- If a listener stands before a window of a frame that it follows, it closes the window as the bus
+-- does.
 use Rattle.std.proofs.Common.{◌≡◌, ℕ, suc, ◌+◌, ◌-◌, ◌*◌, ◌/◌, ◌%◌, ◌<◌, ◌≤◌, List, sym, ◌∙◌, ap, subst, arith}
 use Rattle.rb_base.specs.Nodes.Side.{Biu}
 use Rattle.rb_base.specs.Sizes.{sync_slot_of}

@@ -1,4 +1,4 @@
--- Where stage 3 of the sync slot passes, good nodes begin the next frame when they know it then.
+-- If stage 3 of the sync slot passes, good nodes begin the next frame when they know it then.
 use Rattle.std.proofs.Common.{◌≡◌, ℕ, suc, ◌+◌, ◌*◌, List, ap, subst, arith}
 use Rattle.rb_base.specs.Nodes.{Side}
 use Rattle.rb_base.specs.Sizes.{sync_slot_of}

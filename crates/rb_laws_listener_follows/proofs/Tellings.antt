@@ -23,7 +23,7 @@ use Rattle.rb_laws_listener_learns.specs.Ears.{Ear, listening_at, told_at}
 use Rattle.rb_laws_listener_follows.specs.Following.{epoch_with}
 use Rattle.rb_laws_listener_follows.proofs.FollowerRuns.{acts_by}
 
--- the start of a frame, where this is its tick
+-- the start of a frame, if this is its tick
 act-epoch : (sizes : Sizes) (plan : Plan) (c : Core) (st : NodeState) → (act_on sizes plan Biu 16 c st None st).epoch ≡ epoch_at sizes Biu st c.had
 unfolding act_on
 act-epoch sizes plan c st = by (is_last sizes plan Biu st c.had)

@@ -22,20 +22,20 @@ pub fn rmus_are_heard_in_time()
     ensures { RmusAreHeardInTime }
 {}
 
-/// Where the learned frame comes to its end before the first breach of the premise with the
-/// listener, the listener begins its first frame, the one after the learned one, at most `p`
-/// reference units from each good node.
+/// If the learned frame comes to its end before the first breach of the premise with the listener,
+/// the listener begins its first frame, the one after the learned one, at most `p` reference units
+/// from each good node.
 pub fn first_frames_begin_near()
     ensures { FirstFramesBeginNear }
 {}
 
-/// Where the learned frame comes to its end before the first breach of the premise with the
-/// listener, the listener follows the bus in each later frame that starts before that breach: it
-/// begins the frame at most `p` reference units from each good node, and tells with that tick, and
-/// with no other, that it begins and whom the good nodes convict. In each slot that comes before
-/// the breach it closes its windows, with their last ticks and with no others, with the schedule
-/// and the trusted nodes of the bus, and delivers what the bus does. Of the learned frame and
-/// earlier ones it tells nothing.
+/// If the learned frame comes to its end before the first breach of the premise with the listener,
+/// the listener follows the bus in each later frame that starts before that breach: it begins the
+/// frame at most `p` reference units from each good node, and tells with that tick, and with no
+/// other, that it begins and whom the good nodes convict. In each slot that comes before the breach
+/// it closes its windows, with their last ticks and with no others, with the schedule and the
+/// trusted nodes of the bus, and delivers what the bus does. Of the learned frame and earlier ones
+/// it tells nothing.
 pub fn listeners_follow_the_bus()
     ensures { ListenersFollowTheBus }
 {}

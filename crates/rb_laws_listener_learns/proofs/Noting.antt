@@ -37,7 +37,7 @@ pub record IsOnly (sc : Scenario) (ear : Ear) (since k n frame slot j at : ℕ) 
   pub suits : tag_suits (m.slot == sync_slot_of sc.sizes) m.tag ≡ true
   pub only : (b o : ℕ) (x : Message) → IsSince since b o k n → IsPlacedAt sc ear frame slot j b o x → (b ≡ at) × (o ≡ i)
 
--- one message has a tag that doesn't suit, or there came another before it
+-- one message has a tag that does not suit, or there came another before it
 abbrev pub IsSpoiltBy : Scenario → Ear → ℕ → ℕ → ℕ → ℕ → ℕ → Message → Type 0
 IsSpoiltBy sc ear frame slot j at i m =
     (tag_suits (m.slot == sync_slot_of sc.sizes) m.tag ≡ false)

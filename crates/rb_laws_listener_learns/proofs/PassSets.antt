@@ -1,4 +1,4 @@
--- A pass by the newest calls: where one more call makes a pass that was not there, it is one of the
+-- A pass by the newest calls: if one more call makes a pass that was not there, it is one of the
 -- pass.
 use Rattle.std.proofs.Common.{◌≡◌, ◌⊎◌, ℕ, zero, suc, ◌+◌, ◌-◌, ◌*◌, ◌<◌, ◌≤◌, ◌==◌, ◌&&◌, nat_le, nat_lt, Bool, true, false, Option, Some, None, List, [], ◌∷◌, length, get_or, slice_set, inl, inr, refl, sym, ◌∙◌, ap, arith}
 use Rattle.std.proofs.lemmas.Bool.{cases_lt, eqb-true, leb-true, lt-ltb, ltb-true}

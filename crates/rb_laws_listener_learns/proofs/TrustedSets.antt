@@ -1,4 +1,4 @@
--- Where a listener decides, it knows whom all good nodes trust in the learned frame.
+-- If a listener decides, it knows whom all good nodes trust in the learned frame.
 use Rattle.std.proofs.Common.{◌≡◌, ℕ, suc, ◌+◌, ◌-◌, ◌*◌, ◌%◌, ◌^◌, ◌<◌, ◌≤◌, ◌&&◌, not, nat_lt, Bool, true, Some, if◌then◌else◌, unwrap_or, List, get_or, slice_get, inl, inr, refl, sym, ◌∙◌, ap, subst, arith}
 use Rattle.std.proofs.lemmas.Bool.{and_from, cases_lt, lt-ltb, ltb-true}
 use Rattle.std.proofs.lemmas.Option.{same_Some}
@@ -241,7 +241,7 @@ trusted-lt sc hands law f n j st complete le here good node kind =
     ∙ e.next_trusted Rmu j first.st (record { good = always-good-in sc hands law j (suc f) 0 running good; state = first.node.there }) kind in
     subst (λ x. x < 2 ^ 16) (sym after) (set_of-lt (λ t. has (e.shared.trusted kind) t && not (has (convicted_all sc.sizes e.shared kind) t)))
 
--- Where a listener decides.
+-- If a listener decides.
 
 pub record KnowsAt (sc : Scenario) (hands : List HandIn) (ear : Ear) (learned : ℕ) (records : List Sense) : Type 0 where
   pub frame_before : ℕ

@@ -38,8 +38,7 @@ pub fn ears_are_fed_events()
     ensures { EarsAreFedEvents }
 {}
 
-/// Where a listener learns a frame, it is the one after a frame of the bus in which the RMUs
-/// called.
+/// If a listener learns a frame, it is the one after a frame of the bus in which the RMUs called.
 pub fn the_frame_sought_is_real()
     ensures { TheFrameSoughtIsReal }
 {}
@@ -73,30 +72,30 @@ pub fn frames_come_apart()
     ensures { FramesComeApart }
 {}
 
-/// Where the tick is fixed at which a listener decides, all calls of good RMUs in the frame that it
+/// If the tick is fixed at which a listener decides, all calls of good RMUs in the frame that it
 /// learns come before it.
 pub fn decisions_come_after_the_calls()
     ensures { DecisionsComeAfterTheCalls }
 {}
 
-/// Where a listener decides, all is recorded that an RMU, good in the learned frame up to its sync
+/// If a listener decides, all is recorded that an RMU, good in the learned frame up to its sync
 /// slot, sent in that frame in the places that are recorded.
 pub fn records_of_the_good_are_whole()
     ensures { RecordsOfTheGoodAreWhole }
 {}
 
-/// Where a listener decides, it trusts by what it has recorded just the nodes that the bus trusts
-/// in the learned frame.
+/// If a listener decides, it trusts by what it has recorded just the nodes that the bus trusts in
+/// the learned frame.
 pub fn listeners_trust_as_the_bus()
     ensures { ListenersTrustAsTheBus }
 {}
 
-/// Where a listener decides, it finds its first frame, and the first tick of that is still to come.
+/// If a listener decides, it finds its first frame, and the first tick of that is still to come.
 pub fn decisions_come_in_time()
     ensures { DecisionsComeInTime }
 {}
 
-/// Where a listener decides by a frame that comes to its end before the first breach of the premise
+/// If a listener decides by a frame that comes to its end before the first breach of the premise
 /// with the listener, it has learned what it needs to follow: whom the bus trusts in that frame and
 /// in the next, the calls of the good RMUs, and the first tick of the next frame by their middle.
 pub fn listeners_learn()

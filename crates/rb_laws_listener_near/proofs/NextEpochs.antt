@@ -1,4 +1,4 @@
--- Where the third stage of the sync slot passes, a listener whose middle is near those of the good
+-- If the third stage of the sync slot passes, a listener whose middle is near those of the good
 -- BIUs begins the next frame near all good nodes.
 use Rattle.std.proofs.Common.{◌≡◌, ℕ, ◌+◌, ◌*◌, ◌≤◌, ◌<◌, min, max, true, false, List, Some, option_and_then, option_map, unwrap_or, slice_get, ◌⊎◌, inl, inr, refl, sym, ◌∙◌, ap, subst, arith}
 use Rattle.std.proofs.lemmas.Bool.{cases_lt}

@@ -53,7 +53,7 @@ use Rattle.rb_laws_logs.proofs.Positions.{StandsAt, one-place, stands-at}
 use Rattle.rb_laws_logs.proofs.TickText.{AfterTick, Turns, after-close, after-open, first-not-last, turns-now}
 use Rattle.rb_laws_logs.proofs.Worlds.{MayTake, first-due, may-take, no-hands, tick-done, worlds-in-run}
 
--- Where the node stands.
+-- If the node stands.
 
 -- the moment in which the world has it is the one that is known
 pub record Here (sc : Scenario) (name : NodeName) (w : World) (h : StandsInRounds sc w) (s : Site) (p : ℕ) (st : NodeState) (a : Timed) : Type 0 where

@@ -63,7 +63,7 @@ plus-none n = omega arith
 
 -- Begins.
 
--- what a node says of its frame doesn't change within it
+-- what a node says of its frame does not change within it
 convicted-stay : (sizes : Sizes) (side me : Side) (a b : NodeState) → Stays a b → convicted_of sizes side me b ≡ convicted_of sizes side me a
 convicted-stay sizes Biu Biu a b h = rw (h.near) refl
 convicted-stay sizes Rmu Rmu a b h = rw (h.near) refl

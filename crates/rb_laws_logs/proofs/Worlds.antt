@@ -1,5 +1,5 @@
--- For the law of record and replay: the worlds of a run in which the first due event is taken,
--- where it has no breach: all nodes stand in the rounds, and so does one that takes a tick.
+-- For the law of record and replay: the worlds of a run in which the first due event is taken, if
+-- it has no breach: all nodes stand in the rounds, and so does one that takes a tick.
 use Rattle.std.proofs.Common.{◌≡◌, ℕ, zero, suc, ◌<◌, ◌≤◌, ◌⊎◌, Bool, true, false, List, [], ◌∷◌, refl, ap, sym, ◌∙◌, subst, inl, inr, Some, None, slice_get}
 use Rattle.std.proofs.lemmas.Option.{same_Some}
 use Rattle.rb_base.specs.Nodes.{Side}

@@ -1,4 +1,4 @@
--- For the law that what is pending behind is few: where the run breaks off in a sync slot the nodes
+-- For the law that what is pending behind is few: if the run breaks off in a sync slot the nodes
 -- keep room for what came to them, too.
 use Rattle.std.proofs.Common.{◌≡◌, ℕ, zero, suc, ◌+◌, ◌*◌, ◌<◌, ◌≤◌, ◌&&◌, Bool, true, false, List, [], ◌∷◌, ◌++◌, append_assoc, cond, filter, length, length-append, refl, remove, ap, sym, ◌∙◌, subst, arith, inl, Option, Some, None, option_map, slice_get}
 use Rattle.std.proofs.lemmas.Option.{same_Some, slice_get_within}

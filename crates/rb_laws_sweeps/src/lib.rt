@@ -24,16 +24,16 @@ pub fn sweeps_keep_the_rest()
     ensures { SweepsKeepTheRest }
 {}
 
-/// Where what is due is from nodes that there are, and neither it nor what the node has had is past
+/// If what is due is from nodes that there are, and neither it nor what the node has had is past
 /// the ticks that a node may have: a sweep leaves pending what comes at the time or later, in its
-/// order (`coming`). Of each source the core keeps as many more as were due, and where one was due
-/// and nothing was kept, that one (`inbox`); so it is with what came (`got`), which stays in step
-/// with what the core keeps (`together`). The rest of the node is as it was (`is`, `state`).
+/// order (`coming`). Of each source the core keeps as many more as were due, and if one was due and
+/// nothing was kept, that one (`inbox`); so it is with what came (`got`), which stays in step with
+/// what the core keeps (`together`). The rest of the node is as it was (`is`, `state`).
 pub fn sweeps_bring()
     ensures { SweepsBring }
 {}
 
-/// Where nothing comes before the time a sweep changes nothing.
+/// If nothing comes before the time a sweep changes nothing.
 pub fn nothing_is_swept()
     ensures { NothingIsSwept }
 {}
@@ -49,7 +49,7 @@ pub fn hearing_takes_the_first()
     ensures { HearingTakesTheFirst }
 {}
 
-/// Where nothing comes before the time nothing is heard.
+/// If nothing comes before the time nothing is heard.
 pub fn nothing_is_heard()
     ensures { NothingIsHeard }
 {}
@@ -88,9 +88,9 @@ pub fn some_tick_is_first()
     ensures { SomeTickIsFirst }
 {}
 
-/// In every lawful scenario, whatever was chosen before: where the world is ahead of another, each
-/// of whose nodes lacks only arrivals before a time, and the first tick is pending there, takes of
-/// the first due event lead to the tick. One take more, that of the tick, leads to a world that is
+/// In every lawful scenario, whatever was chosen before: if the world is ahead of another, each of
+/// whose nodes lacks only arrivals before a time, and the first tick is pending there, takes of the
+/// first due event lead to the tick. One take more, that of the tick, leads to a world that is
 /// ahead of what the tick alone makes of the other: one node is swept, takes its tick, and what
 /// that completes is settled. The times of the nodes only rise. What each node is told in these
 /// takes is what the other world had left for it, then its tick if it is the tick's node, but for
@@ -116,7 +116,7 @@ pub fn stopped_stay_empty()
 {}
 
 /// In every lawful scenario, whatever was chosen before: room for `most_pending` events at each
-/// node is enough also where a world leaves arrivals behind, as long as nothing is pending at nodes
+/// node is enough also if a world leaves arrivals behind, as long as nothing is pending at nodes
 /// that have stopped.
 pub fn pending_behind_is_few()
     ensures { PendingBehindIsFew }

@@ -31,7 +31,7 @@ close-keeps : (sizes : Sizes) (me : Side) (st : NodeState) (sent : Option Heard)
 unfolding close_sync sync_outcome_of
 close-keeps sizes me st sent stage first sense = record { k1 = refl; k2 = refl; k3 = refl }
 
--- what the window of a node that is good there leaves, where it has a tick
+-- what the window of a node that is good there leaves, if it has a tick
 pub keeps : (sc : Scenario) (m : Moment) (stage : ℕ) (ws : Windows sc m (sync_slot_of sc.sizes) stage) (me : Side) (i : ℕ) (st : NodeState)
     → is_good sc me i m.frame (sync_slot_of sc.sizes) ≡ true → ws.first me st ≤ ws.last me st
     → Keeps me stage (sync_closing_of st.far (expects_call me st stage) (sense_in sc m (sync_slot_of sc.sizes) stage ws me i st)

@@ -1,5 +1,5 @@
--- The third stage of the sync slot: where it passes, each good node knows when its next frame
--- begins, near the others. And the tail.
+-- The third stage of the sync slot: if it passes, each good node knows when its next frame begins,
+-- near the others. And the tail.
 use Rattle.std.proofs.Common.{◌≡◌, ℕ, ◌+◌, ◌-◌, ◌*◌, ◌≤◌, ◌<◌, min, max, true, List, Some, option_map, refl, sym, ◌∙◌, ap, arith}
 use Rattle.rb_base.specs.Nodes.{Side}
 use Rattle.rb_base.specs.Nodes.Side.{Biu, Rmu}

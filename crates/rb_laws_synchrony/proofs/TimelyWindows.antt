@@ -1,4 +1,4 @@
--- When a window is timely: where what good nodes send in it is sent at their own ticks of it, and
+-- When a window is timely: if what good nodes send in it is sent at their own ticks of it, and
 -- between two times about which the windows of all good nodes lie.
 use Rattle.std.proofs.Common.{◌≡◌, ℕ, ◌+◌, ◌≤◌, true, [], Option, Some, None, slice_get, option_map, option_and_then, refl, sym, ◌∙◌, ap, subst, arith}
 use Rattle.std.specs.Prelude.{All, IfSome, option_to_list}

@@ -1,4 +1,4 @@
--- The rows of delays: where a place is in a sender's ranges, each of its latest rules has it.
+-- The rows of delays: if a place is in a sender's ranges, each of its latest rules has it.
 use Rattle.std.proofs.Common.{◌≡◌, ℕ, zero, suc, add-one, max, min, ◌*◌, ◌+◌, ◌-◌, ◌<◌, ◌≤◌, ◌/◌, ◌%◌, nat_le, nat_lt, Bool, true, false, ◌&&◌, if◌then◌else◌, length, List, [], ◌∷◌, ◌++◌, Option, Some, None, drop, take, map, slice_get, get_or, refl, sym, ap, subst, inl, inr, ◌∙◌, arith, length-append}
 use Rattle.std.proofs.Math.Seq.{get_or-append_seam}
 use Rattle.std.proofs.lemmas.Bool.{and_from, and_parts, cases_lt, le-leb, le-ltb, leb-true, lt-ltb}

@@ -50,8 +50,8 @@ impl Model for Delays {
 }
 
 /// Which rules are for each pair of nodes: `places` holds the numbers of the rules, pair by pair,
-/// and `starts` where those of each pair begin and the last end. Where there are too many rules to
-/// be numbered, both are empty.
+/// and `starts` where those of each pair begin and the last end. If there are too many rules to be
+/// numbered, both are empty.
 #[derive(Drop)]
 struct Index {
     starts: Vec<usize>,
@@ -117,7 +117,7 @@ fn add_if(places: &mut Vec<u16>, passes: bool, number: u16) -> Result<(), OutOfM
     if passes { add(places, number) } else { Ok(()) }
 }
 
-// The numbers of the rules of a pair, where it has a number and the rules have.
+// The numbers of the rules of a pair, if it has a number and the rules have.
 fn places_of<'a>(starts: &[usize], places: &'a [u16], pair: u16) -> Option<&'a [u16]>
     ensures starts { IfSome result (λ _. pair + 1 < length starts.now) }
     ensures places { IfSome result (λ found. found.now ≡ places_of starts.now places.now pair) }
@@ -148,8 +148,8 @@ fn rule_at(rules: &[Rule], number: u16) -> Option<Rule>
 }
 
 impl Delays {
-    /// The delays with these rules, in reference units. Where several are for one message the last
-    /// of them counts, and where none is, `base`.
+    /// The delays with these rules, in reference units. If several are for one message the last of
+    /// them counts, and if none is, `base`.
     pub fn new(alloc: Global, base: u32, rules: &[Rule]) -> Result<Delays, OutOfMemory>
         ensures { IfOk result (λ d. d ≡ record { base = base; rules = rules.now }) }
     {
@@ -265,8 +265,8 @@ fn latest_rules(alloc: Global, base: u32, rules: &[Rule]) -> Result<Vec<Rule>, O
     Ok(latest)
 }
 
-// The last of the rules that is for messages from the one node to the other. Where there is none it
-// is one for all places, with the base as its delay.
+// The last of the rules that is for messages from the one node to the other. If there is none it is
+// one for all places, with the base as its delay.
 fn latest_rule(base: u32, rules: &[Rule], from: NodeName, to: NodeName) -> Rule
     ensures { IsLatest base rules.now from to result }
 {

@@ -108,7 +108,7 @@ pub(crate) fn sender_number(from: NodeName) -> Option<u16>
     }
 }
 
-// The delays of the sender's messages of this place. Empty where its latest rules don't all have
+// The delays of the sender's messages of this place. Empty where its latest rules do not all have
 // it.
 #[inline]
 #[tactic(auto, using(crate::proofs::NodeRows::row_found))]

@@ -1,4 +1,4 @@
--- The stamps of a lesson don't run ahead.
+-- The stamps of a lesson do not run ahead.
 use Rattle.std.proofs.Common.{ℕ, zero, suc, ◌≤◌, ◌^◌, Bool, true, false, ◌==◌, if◌then◌else◌, [], ◌∷◌, Option, Some, None, IfSome, List, All, get_or, slice_set, replicate}
 use Rattle.rb_base.specs.Nodes.{has}
 use Rattle.rb_base.specs.Sizes.{Sizes, sync_slot_of}

@@ -156,7 +156,7 @@ quiet-gives n s c is core quiet below =
       act = record { epoch = refl; message = refl; closed = refl };
     }))
 
--- What doesn't run ahead.
+-- What does not run ahead.
 
 -- a close below the sync slot leaves the middles
 exact-middle : (sizes : Sizes) (i : ℕ) (st : NodeState) (slot stage : ℕ) (sense : ℕ → Sense) → (close_exact sizes Biu i st slot stage sense).state.k2 ≡ st.k2

@@ -1,4 +1,4 @@
--- Which tick of a follower is the next one that isn't quiet, and what quiet ticks do.
+-- Which tick of a follower is the next one that is not quiet, and what quiet ticks do.
 use Rattle.std.proofs.Common.{◌≡◌, ℕ, zero, suc, ◌+◌, ◌-◌, ◌<◌, ◌≤◌, ◌^◌, ◌⊎◌, ◌==◌, ◌||◌, Bool, true, false, refl, ap, sym, ◌∙◌, subst, arith, inl, inr, Option, Some, None, [], unwrap_or}
 use Rattle.std.proofs.lemmas.Bool.{cases_lt, or_from, or_left, or_parts, or_right}
 use Rattle.rb_base.specs.Nodes.Side.{Biu}

@@ -15,7 +15,7 @@ use rb_slot::Engine;
 /// What is ahead of a follower.
 #[derive(Clone, Copy)]
 pub struct Ahead {
-    // Its next tick that isn't quiet, or 2^31 where there is none.
+    // Its next tick that is not quiet, or 2^31 if there is none.
     pub(crate) tick: u64,
     // The window of all ticks up to that one.
     pub(crate) window: Window,
@@ -84,7 +84,7 @@ fn sooner(before: u64, had: u64, candidate: Option<u64>) -> u64
     }
 }
 
-// The next tick that isn't quiet, `window` being that of tick `had`; 2^31 where there is none.
+// The next tick that is not quiet, `window` being that of tick `had`; 2^31 if there is none.
 fn next_wake(engine: &Engine<Biu>, window: &Window, had: u64) -> u64
     requires epoch { engine.now.state.epoch ≤ had }
     requires had { had ≤ 2 ^ 31 }

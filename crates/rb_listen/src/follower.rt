@@ -96,9 +96,9 @@ impl Follower {
         &self.shown
     }
 
-    /// The number of the first tick from the next on that isn't quiet: a frame begins with it, or
-    /// the listener closes a window. None exactly where that number would not be below 2^31. It is
-    /// kept at hand.
+    /// The number of the first tick from the next on that is not quiet: a frame begins with it, or
+    /// the listener closes a window. `None` if and only if that number would not be below 2^31. It
+    /// is kept at hand.
     pub fn next_tick(&self) -> Option<u64>
         ensures core { (c : Core) → IsCore self.now c → result ≡ next_wake_at self.now c }
         ensures passing { passing_end self.now ≡ unwrap_or result (2 ^ 31) }

@@ -39,7 +39,7 @@ pub struct First {
     pub rmus: NodeSet<Rmu>,
 }
 
-// The stage whose messages are recorded in a slot; 0 where none is.
+// The stage whose messages are recorded in a slot; 0 if none is.
 fn stage_recorded(role: Role) -> u8
     ensures { result ≡ stage_recorded role }
 {

@@ -134,9 +134,9 @@ impl Listener {
         }
     }
 
-    /// The number of the first tick from the next on that isn't quiet: the listener decides at it,
-    /// or a frame begins with it, or it closes a window. None exactly where that number would not
-    /// be below 2^31. It is kept at hand.
+    /// The number of the first tick from the next on that is not quiet: the listener decides at it,
+    /// or a frame begins with it, or it closes a window. `None` if and only if that number would
+    /// not be below 2^31. It is kept at hand.
     pub fn next_tick(&self) -> Option<u64>
         ensures next { (l : Listening) → IsListening self.now l
             → result ≡ next_heed self.now.sizes self.now.plan l }

@@ -14,7 +14,7 @@ use rb_plan::Feasible;
 use rb_rules::Message;
 
 /// What a listener heard while it seeks and learns: how many ticks it has had, the newest call of
-/// each RMU, and what is recorded of the frame that it learns. Where it seeks, and learns none, the
+/// each RMU, and what is recorded of the frame that it learns. If it seeks, and learns none, the
 /// lesson says nothing.
 #[derive(Drop)]
 pub struct Search {
@@ -194,7 +194,7 @@ fn is_deciding(search: &Search) -> bool
     }
 }
 
-/// A tick of a listener that isn't spent.
+/// A tick of a listener that is not spent.
 #[tactic(auto, unfolding(crate::specs::Listening::search_on))]
 pub(crate) fn search_on(search: &mut Search, plan: &Feasible) -> Stage
     requires soon { AreSoon search.old.lesson.records }
@@ -211,7 +211,7 @@ pub(crate) fn search_on(search: &mut Search, plan: &Feasible) -> Stage
     }
 }
 
-/// The tick of the decision, where it is fixed.
+/// The tick of the decision, if it is fixed.
 pub(crate) fn decision(search: &Search) -> Option<u64>
     ensures { result ≡ decision_of search.now }
 {

@@ -8,7 +8,7 @@ use crate::entry::{Entry, entry_at, is_end, size_of, ticks_of, zeros_of};
 /// What a node was given.
 #[derive(Clone, Copy, Debug)]
 pub enum LogEvent<'a> {
-    /// A tick and its word, which is 0 where the node asked for none.
+    /// A tick and its word, which is 0 if the node asked for none.
     Tick(u32),
     /// The arrival of a message of 1 to 32 bytes from node `from` of the other kind.
     Arrive { from: u8, bytes: &'a [u8] },
@@ -18,7 +18,7 @@ pub enum LogEvent<'a> {
 #[derive(Drop)]
 pub(crate) struct Cursor<'a> {
     pub bytes: &'a [u8],
-    /// Where the next record begins, and how many ticks the log has before it.
+    /// If the next record begins, and how many ticks the log has before it.
     pub place: usize,
     pub ticks: u32,
     /// How many ticks with word 0 are left of the record before it.
@@ -51,7 +51,7 @@ impl<'a> Cursor<'a> {
         entry
     }
 
-    /// The next event. None exactly where none is left.
+    /// The next event. `None` if and only if none is left.
     pub fn next(&mut self) -> Option<LogEvent<'a>>
         requires { IsSound self.old }
         ensures sound { IsSound self.new }

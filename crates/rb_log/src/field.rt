@@ -5,8 +5,8 @@ ghost use Rattle.rb_log.specs.Fields.{field};
 use crate::refusal::LogRefusal;
 use byteorder::{BigEndian, ByteOrder};
 
-/// The number of the field of one to four bytes at a place. It is refused where the bytes end
-/// before it is whole, and where the number is out of bounds.
+/// The number of the field of one to four bytes at a place. It is refused if the bytes end before
+/// it is whole, and if the number is out of bounds.
 #[tactic(auto, unfolding(crate::specs::Fields::field, crate::specs::Fields::number_at))]
 pub(crate) fn field(
     bytes: &[u8],

@@ -35,7 +35,7 @@ impl LongReceiver {
         }
     }
 
-    /// Hears the next value of that sender, below 16. None exactly where it gives no letter.
+    /// Hears the next value of that sender, below 16. `None` if and only if it gives no letter.
     pub fn hear(&mut self, sender: u8, value: Heard) -> Option<ArrayVec<u8, 255>>
         requires { sender < 16 }
         ensures given { letter_in result ≡ (with_value value (get_or self.old sender None)).given }

@@ -69,8 +69,8 @@ impl LongSender {
         }
     }
 
-    /// Takes a letter to be sent after those that wait. It is refused exactly where it has not 1 to
-    /// 255 bytes, or else where eight letters are not wholly sent; then nothing changes.
+    /// Takes a letter to be sent after those that wait. It is refused if and only if it has not 1
+    /// to 255 bytes, or else where eight letters are not wholly sent; then nothing changes.
     pub fn push(&mut self, letter: &[u8]) -> Result<(), LongRefusal>
         ensures answer { error_in result ≡ refusal_of self.old letter.now }
         ensures waits { OnOk result (self.new ≡ with_letter self.old letter.now) }
@@ -86,8 +86,8 @@ impl LongSender {
         Ok(())
     }
 
-    /// The next word of the letters that wait, 0 exactly where none waits. A letter waits until its
-    /// last word is given.
+    /// The next word of the letters that wait, 0 if and only if none waits. A letter waits until
+    /// its last word is given.
     pub fn next_word(&mut self) -> u32
         ensures word { result ≡ next_word_of self.old }
         ensures rest { self.new ≡ without_word self.old }

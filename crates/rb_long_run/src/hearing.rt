@@ -115,7 +115,8 @@ impl Receivers {
     }
 
     /// Hears what was delivered in a slot, and writes a line for each letter that is given with it.
-    /// `Failed` comes only where a write failed; a first part of these lines has then been written.
+    /// `Failed` is the answer only if a write failed; a first part of these lines has then been
+    /// written.
     pub fn write_slot<K: Sink>(
         &mut self,
         frame: u32,

@@ -43,8 +43,8 @@ fn write_turn<K: Sink>(
 
 /// Takes a run from its start to its end, and writes a line for each letter that a port receives
 /// whole, by slot and receiver, and then how the run ends: a line at a time, each write asking for
-/// the rest of one line. `Failed` comes only where a write failed; a first part of the text has
-/// then been written. The world must be as `World::open` gives it.
+/// the rest of one line. `Failed` is the answer only if a write failed; a first part of the text
+/// has then been written. The world must be as `World::open` gives it.
 pub fn write_letters<K: Sink, D: Drive>(
     world: &mut World,
     apps: &Apps,

@@ -9,8 +9,8 @@ use rb_outside::{Failed, Sink, write_line};
 use rb_report::word_line;
 
 /// Writes the words of a letter of 1 to 255 bytes, a line for each, each write asking for the rest
-/// of one line. `Failed` comes only where a write failed; a first part of the lines has then been
-/// written.
+/// of one line. `Failed` is the answer only if a write failed; a first part of the lines has then
+/// been written.
 pub fn write_spelling<K: Sink>(letter: &[u8], output: &mut K) -> Result<(), Failed>
     requires { is_length (length letter.now) ≡ true }
     ensures { Writes K.held K.faults output.old output.new result (spelling_text letter.now) }

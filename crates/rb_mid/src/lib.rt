@@ -9,12 +9,12 @@ use arrayvec::ArrayVec;
 
 /// The middle of the stamps that a node took in a stage: of n stamps in ascending order the one at
 /// place (n - 1) / 2, counted from 0 and rounded down, so the lower of two. A stamp is a number of
-/// ticks. The answer is None exactly where there is no stamp.
+/// ticks. The answer is `None` if and only if there is no stamp.
 ///
 /// This is the middle value that the unified protocol of Miner, Geser, Pike and Maddalon (FORMATS
 /// 2004) selects where good sources may differ a little, as the times of their messages do, and an
-/// exact vote would find no majority: where more than half of the stamps come from good sources,
-/// the middle lies between the least and the greatest of theirs.
+/// exact vote would find no majority: if more than half of the stamps come from good sources, the
+/// middle lies between the least and the greatest of theirs.
 pub fn middle(stamps: &ArrayVec<u64, 16>) -> Option<u64>
     ensures is { result ≡ middle_of stamps.now.items }
     ensures counted { IfSome result (λ m. IsMiddle m stamps.now.items) }
@@ -70,9 +70,9 @@ fn ranks_of(stamp: u64, stamps: &[u64]) -> Ranks
     Ranks { below, up_to }
 }
 
-// Where the stamp is not the middle, it tells on which side of it the middle is. Sources with
-// higher numbers are mostly heard later, and all stamps of one stage are near one another, so few
-// stamps are tried: counting is quicker than sorting.
+// If the stamp is not the middle, it tells on which side of it the middle is. Sources with higher
+// numbers are mostly heard later, and all stamps of one stage are near one another, so few stamps
+// are tried: counting is quicker than sorting.
 fn is_middle(stamps: &[u64], stamp: u64, range: &mut Range) -> bool
     requires { length stamps.now ≤ 16 }
     ensures middle { IsTrue result ↔ IsMiddle stamp stamps.now }

@@ -173,7 +173,7 @@ alone-gives me v v3 had word a before after inbox rest plan feasible l is closes
     } in
     gives me v v v v3 a.busy.tick word a.window None None true before after inbox rest parts alone.below (pass_to k c) state passed holds
 
--- Where a window ends and nothing else happens, it is kept so.
+-- If a window ends and nothing else happens, it is kept so.
 
 some-none : (o : Option Message) → o ≡ None → is_some o ≡ true → ⊥
 some-none o e h = cc

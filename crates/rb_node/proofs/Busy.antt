@@ -1,4 +1,4 @@
--- Which tick is the next one that isn't quiet.
+-- Which tick is the next one that is not quiet.
 use Rattle.std.proofs.Common.{◌≡◌, ℕ, ◌+◌, ◌<◌, ◌≤◌, ◌^◌, ◌⊎◌, ◌==◌, ◌||◌, Bool, true, false, refl, ap, sym, ◌∙◌, subst, arith, inl, inr, Option, Some, None, is_some}
 use Rattle.std.specs.Option.{option_or}
 use Rattle.std.proofs.lemmas.Bool.{cases_lt, eqb-true}
@@ -252,7 +252,7 @@ soonest-is me v w had b1 b2 b3 b4 b5 b6 ticks epoch is s =
       here = λ k lo hi. here k lo hi ∙ is;
     }
 
--- Where the frame has begun, and no other is to begin, it is the window's last tick, or that of a
+-- If the frame has begun, and no other is to begin, it is the window's last tick, or that of a
 -- message before.
 
 over : (epoch had k : ℕ) → epoch < had → had ≤ k → (epoch == k) ≡ false

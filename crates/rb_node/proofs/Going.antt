@@ -103,7 +103,7 @@ lasts me v now w plan epoch h other = record {
     more last le no_last = elim (cases_lt now last) [ inl lt ↦ omega arith | inr ge ↦ absurd (no_last (omega arith)) ]
 
 -- the parts of a tick from when its window is known: the node says its message, and closes the
--- window or doesn't
+-- window or does not
 pub record Ends (me : Side) (v1 v2 v3 : Seated) (now word : ℕ) (w : Window) (message : Option Message) (closed : Bool) : Type 0 where
   pub here : IsWindowOf me v1 now w
   pub kept : v2 ≡ record v1 { state = state_kept v1.sizes me v1.index v1.state word message }

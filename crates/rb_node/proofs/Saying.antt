@@ -20,7 +20,7 @@ use Rattle.rb_rules.specs.Slots.Sender.{Nobody, Node, EachTrusted}
 use Rattle.rb_rules.specs.SyncStage.{call_of, calls, send_tick_of}
 use Rattle.rb_rules.proofs.Slots.{nothing-kept, sync_role}
 
--- Whether something is said doesn't depend on the word.
+-- Whether something is said does not depend on the word.
 
 value-some : (me : Side) (i : ℕ) (st : NodeState) (slot : ℕ) (role : Role) (sender : Sender) (stage a b : ℕ)
     → is_some (value_said me i st slot role sender stage a) ≡ is_some (value_said me i st slot role sender stage b)
@@ -71,7 +71,7 @@ pub sending-is : (sizes : Sizes) (plan : Plan) (me : Side) (i : ℕ) (st : NodeS
 unfolding sending
 sending-is sizes plan me i st slot stage word = refl
 
--- it goes out at its tick, where there is one
+-- it goes out at its tick, if there is one
 pub goes-out : (k : ℕ) (m : Option Message) (t : Option ℕ) → is_tick t k ≡ true → if_at k (sent_at m t) ≡ m
 goes-out k None t h = refl
 goes-out k (Some m) None h = cc

@@ -146,7 +146,7 @@ gives me v v1 v2 v3 now word w epoch message closed before after inbox rest p be
     (subst (λ e. Gives me n (record { epoch = e; message = message; closed = closed }) (act-by v.sizes me core st kept m o closed)) (sym epoch_is)
     (subst (λ y. Gives me n (record { epoch = epoch_at v.sizes me st now; message = y; closed = closed }) (act-by v.sizes me core st kept m o closed)) (sym message_is) all))
 
--- What doesn't run ahead.
+-- What does not run ahead.
 
 -- after a turn the frame is at most one more, and the epoch not past the tick
 pub record Turned (v v1 : Seated) (k : ℕ) : Type 0 where

@@ -14,7 +14,7 @@ use rb_base::{Kind, MOST_TICKS, Shape};
 use rb_plan::{Feasible, Plan, Window};
 use rb_slot::Engine;
 
-/// A tick that isn't quiet, and the stage of the message that the node says then; 0 where it says
+/// A tick that is not quiet, and the stage of the message that the node says then; 0 if it says
 /// none.
 #[derive(Clone, Copy)]
 pub struct Busy {
@@ -25,7 +25,7 @@ pub struct Busy {
 /// What is ahead of a node.
 #[derive(Clone, Copy)]
 pub struct Ahead {
-    // Its next tick that isn't quiet, or 2^31 where there is none.
+    // Its next tick that is not quiet, or 2^31 if there is none.
     pub(crate) busy: Busy,
     // The window of all ticks up to that one.
     pub(crate) window: Window,
@@ -116,8 +116,7 @@ pub(crate) fn following(plan: &Plan, window: &Window) -> Window
     }
 }
 
-// The window of the tick before becomes that of the next tick, where it was closed; else it goes
-// on.
+// The window of the tick before becomes that of the next tick, if it was closed; else it goes on.
 #[inline(always)]
 pub(crate) fn go_on<K: Kind>(engine: &Engine<K>, window: &mut Window, closed: bool, next: u64)
     requires epoch { engine.now.state.epoch ≤ next }
@@ -238,7 +237,7 @@ fn sooner_said<K: Kind>(before: Busy, had: u64, engine: &Engine<K>, window: &Win
     }
 }
 
-// The next tick that isn't quiet, `window` being that of tick `had`; 2^31 where there is none.
+// The next tick that is not quiet, `window` being that of tick `had`; 2^31 if there is none.
 #[inline(always)]
 fn busy_tick<K: Kind>(engine: &Engine<K>, window: &Window, had: u64) -> Busy
     requires index { engine.now.index < 16 }

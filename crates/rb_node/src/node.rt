@@ -115,8 +115,8 @@ impl<K: Kind> Node<K> {
         self.engine.new_epoch()
     }
 
-    /// The number of the first tick from the next on that isn't quiet: a frame begins with it, the
-    /// node sends a message, or it closes a window. None exactly where that number would not be
+    /// The number of the first tick from the next on that is not quiet: a frame begins with it, the
+    /// node sends a message, or it closes a window. `None` if and only if that number would not be
     /// below 2^31. It is kept at hand.
     pub fn next_tick(&self) -> Option<u64>
         ensures core { (c : Core) → IsCore self.now c
@@ -132,7 +132,7 @@ impl<K: Kind> Node<K> {
         }
     }
 
-    /// Whether its next tick that isn't quiet is the last of a window of a slot before the sync
+    /// Whether its next tick that is not quiet is the last of a window of a slot before the sync
     /// slot, and no frame begins with it. Mostly that is known beforehand: without what is known a
     /// frame of the generated run with seed 7 costs 1,406,600 instructions in place of 1,383,200.
     #[inline(always)]
@@ -159,8 +159,8 @@ impl<K: Kind> Node<K> {
         }
     }
 
-    /// What it wants for its next tick that isn't quiet, once the ticks before that have passed.
-    /// Nothing where there is none.
+    /// What it wants for its next tick that is not quiet, once the ticks before that have passed.
+    /// Nothing if there is none.
     pub fn wants_then(&self) -> Want
         ensures { (c : Core) → IsCore self.now c
             → result ≡ want_then (side_of K.CODE) self.now c (next_of (side_of K.CODE) self.now c) }
@@ -168,7 +168,7 @@ impl<K: Kind> Node<K> {
         self.ahead.want
     }
 
-    /// The window that begins with the next tick. None exactly where none does. Where a frame
+    /// The window that begins with the next tick. `None` if and only if none does. If a frame
     /// begins with that tick, it is the first window of that frame, in which the node does not
     /// stand yet.
     pub fn entering(&self) -> Option<Span>
@@ -307,7 +307,7 @@ impl<K: Kind> Node<K> {
         }
     }
 
-    /// If all that happens at its next tick that isn't quiet is that a window of a slot before the
+    /// If all that happens at its next tick that is not quiet is that a window of a slot before the
     /// sync slot ends, the node has its quiet ticks and then that tick, and the result is true: it
     /// says nothing, no frame begins, and what it saw is then `shown`. Else nothing changes.
     #[inline(always)]

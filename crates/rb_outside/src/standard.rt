@@ -111,7 +111,7 @@ impl<R: Read> Source for StdSource<R> {
         ensures cause { HasCause self.old.faults self.new.faults result }
         ensures count { self.new.faults ≡ faults_after (is_err result) self.old.faults }
 
-        // Where the reader tells its bytes, these are the ones that come through, in order.
+        // If the reader tells its bytes, these are the ones that come through, in order.
         ensures through { ReadConsumes (R.remaining self.old.inner) (R.remaining self.new.inner)
             result into.new }
     {
@@ -165,7 +165,7 @@ impl<W: Write> Sink for StdSink<W> {
         ensures cause { HasCause self.old.faults self.new.faults result }
         ensures count { self.new.faults ≡ faults_after (is_err result) self.old.faults }
 
-        // Where the writer tells its bytes, it has those that were taken, and after a fault a part.
+        // If the writer tells its bytes, it has those that were taken, and after a fault a part.
         ensures through { MatchResult result
             (λ n. Appends (W.contents self.old.inner) (W.contents self.new.inner) (take n from.now))
             (λ _. AppendsPart (W.contents self.old.inner) (W.contents self.new.inner) from.now) }

@@ -20,8 +20,8 @@ pub fn write_all<K: Sink>(output: &mut K, bytes: &[u8]) -> Result<(), Failed>
     Ok(())
 }
 
-/// Writes all bytes of the line. `Failed` comes only where the sink failed; a first part has then
-/// been taken.
+/// Writes all bytes of the line. `Failed` is the answer only if the sink failed; a first part has
+/// then been taken.
 pub fn write_line<K: Sink, const N: usize>(
     output: &mut K,
     line: &ArrayString<N>,

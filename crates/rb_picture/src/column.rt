@@ -106,8 +106,8 @@ fn column_of(l: DeliveryLine, lines: &[Line]) -> Column
     }
 }
 
-/// The column of a line, which is the first of these lines: another one where it is the first
-/// delivery in its slot.
+/// The column of a line, which is the first of these lines: another one if it is the first delivery
+/// in its slot.
 pub(crate) fn column_with(column: Column, line: Line, lines: &[Line]) -> Column
     ensures { result ≡ column_with column line lines.now }
 {

@@ -87,7 +87,7 @@ pub(crate) fn push_cell(
     }
 }
 
-// Where the run broke off.
+// If the run broke off.
 fn place_words(place: Place) -> ArrayString<96>
     ensures { result.bytes ≡ place_words place }
 {
@@ -395,7 +395,7 @@ fn rank(set: u16, number: u8) -> u64
     u64::from(lower.count())
 }
 
-// Where a row of names begins, and how many names stand there before those of a set.
+// If a row of names begins, and how many names stand there before those of a set.
 #[derive(Clone, Copy)]
 struct Names {
     x: u64,
@@ -404,7 +404,7 @@ struct Names {
     set: u16,
 }
 
-// The name of this node, where it is one of these.
+// The name of this node, if it is one of these.
 #[tactic(auto, unfolding(crate::specs::Drawing::with_named))]
 fn push_named(out: &mut Vec<u8>, letter: &str, names: Names, number: u8) -> Result<(), OutOfMemory>
     requires number { number ≤ 15 }

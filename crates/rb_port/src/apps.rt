@@ -127,9 +127,9 @@ impl Apps {
     }
 }
 
-/// The three applications, in boxes that this allocator gives; where it gives none, its error
-/// leaves by `?`. They are made in the function that calls this, since a function may not hand out
-/// a boxed closure.
+/// The three applications, in boxes that this allocator gives; if it gives none, its error leaves
+/// by `?`. They are made in the function that calls this, since a function may not hand out a boxed
+/// closure.
 #[macro_export]
 macro_rules! applications {
     ($alloc:expr) => {

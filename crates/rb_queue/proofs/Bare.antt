@@ -1,4 +1,4 @@
--- Where nothing is kept beside, what is pending at a node is what its lane holds.
+-- If nothing is kept beside, what is pending at a node is what its lane holds.
 use Rattle.std.proofs.Common.{◌≡◌, ℕ, Option, Some, None, slice_get, List, [], ◌∷◌, ◌++◌, length, map, refl, sym, ap, ◌∙◌, subst}
 use Rattle.std.specs.List.{flat_map}
 use Rattle.std.specs.Prelude.{◌↔◌, true, false, is_some, IsNone, option_map, option_to_list}
@@ -91,7 +91,7 @@ without_inside i lane more q is none =
     subst (λ q. record { lane = without_ready i lane; more = more } ≡ without_takeable i q) is
     (sym (without_bare i (record { lane = lane; more = more }) (no_items more none)))
 
--- ---- there is no least time exactly where nothing is pending
+-- ---- there is no least time if and only if nothing is pending
 
 none_of : (tick : Option ℕ) (arrivals : List Coming) (more : List Pending) (o : Option ℕ)
     → o ≡ least ((option_to_list tick ++ map (λ c. c.time) arrivals) ++ map (λ p. p.time) more)

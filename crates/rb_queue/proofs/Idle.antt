@@ -1,4 +1,4 @@
--- There is no least time exactly where nothing is pending.
+-- There is no least time if and only if nothing is pending.
 use Rattle.std.specs.Prelude.{ℕ, ◌≡◌, ◌↔◌, ◌++◌, true, false, is_some, IsNone, Option, Some, None, option_to_list, List, [], ◌∷◌, map}
 use Rattle.std.proofs.Common.{◌∙◌, ap, refl, sym}
 use Rattle.rb_queue.specs.Waiting.{Held, IsIdle, head_of}

@@ -10,8 +10,8 @@ use crate::lane::Lane;
 use crate::pending::Pending;
 use crate::scan::{count, count_tick, place_among};
 
-/// Where something that is pending stands: at a place among the arrivals, in the place of the tick,
-/// or at a place of what is kept beside.
+/// If something that is pending stands: at a place among the arrivals, in the place of the tick, or
+/// at a place of what is kept beside.
 pub enum Spot {
     Arrival(usize),
     Tick,
@@ -103,8 +103,8 @@ fn spot_among(
     }
 }
 
-// The spot of the i-th arrival of a time, by sender and then in the order of pushing. Where there
-// is none, how many places are left.
+// The spot of the i-th arrival of a time, by sender and then in the order of pushing. If there is
+// none, how many places are left.
 fn spot_by_sender(lane: &Lane, more: &[Pending], time: u64, i: usize) -> Result<Spot, usize>
     ensures { MatchResult result (λ spot. IsSpot (senders_at time lane.now more.now) i lane.now more.now spot)
         (λ left. left + length (senders_at time lane.now more.now) ≡ i) }

@@ -39,7 +39,7 @@ impl Model for Lane {
     ghost invariant = { λ l. IsLane l.kept.items l.start l.room (vec_capacity l.kept) l.latest };
 }
 
-// Where those before the start are gone, and there is no room behind, the others move to the front.
+// If those before the start are gone, and there is no room behind, the others move to the front.
 // Returns the new start.
 #[inline(always)]
 fn make_room(kept: &mut Vec<Arrival>, start: usize, room: usize) -> usize
@@ -152,7 +152,7 @@ impl Lane {
         first_of(self.waiting())
     }
 
-    /// The least time, in reference units, at which an event is due. None exactly where there is
+    /// The least time, in reference units, at which an event is due. `None` if and only if there is
     /// none.
     #[inline(never)]
     #[tactic(auto, using(crate::proofs::Idle::none_pending))]
@@ -163,8 +163,8 @@ impl Lane {
         least_time(self.waiting(), self.first(), self.tick)
     }
 
-    /// How many events are ready: the arrivals of the least time or, where there are none, the tick
-    /// of that time.
+    /// How many events are ready: the arrivals of the least time or, if there are none, the tick of
+    /// that time.
     pub fn ready(&self) -> usize
         ensures value { result ≡ length (ready_of self.now) }
         ensures few { result ≤ self.now.room + 1 }
@@ -243,8 +243,8 @@ impl Lane {
         }
     }
 
-    /// The place, among the arrivals in the order of pushing, of the first that is ready, where it
-    /// is due before this time. None exactly where nothing is due before then but the tick.
+    /// The place, among the arrivals in the order of pushing, of the first that is ready, if it is
+    /// due before this time. `None` if and only if nothing is due before then but the tick.
     #[inline(always)]
     pub fn first_before(&self, until: u64) -> Option<usize>
         ensures { IsFirstBefore until self.now result }

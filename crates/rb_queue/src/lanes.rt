@@ -11,7 +11,7 @@ use std::marker::Model;
 
 /// The pending events of the nodes of a bus, a lane for each node, with room for a fixed number of
 /// events. A lane holds what comes to the node in the order of pushing, and the time of the node's
-/// tick. Beside it stands what it doesn't hold whole: a further tick, a tick with a word, what has
+/// tick. Beside it stands what it does not hold whole: a further tick, a tick with a word, what has
 /// quiet ticks before it, and all that `push` is given after such an event.
 #[derive(Drop)]
 pub struct Lanes {
@@ -93,8 +93,8 @@ impl Lanes {
         }
     }
 
-    /// The least time, in reference units, at which an event of the node is due. None exactly where
-    /// the node has no event.
+    /// The least time, in reference units, at which an event of the node is due. `None` if and only
+    /// if the node has no event.
     pub fn head(&self, node: NodeName) -> Option<u64>
         requires in_shape { HasQueue self.now node }
         ensures value { result ≡ least_time_of (queue_of self.now node) }
@@ -103,8 +103,8 @@ impl Lanes {
         self.queue(node).head()
     }
 
-    /// How many events of the node are ready: the arrivals of its least time or, where there are
-    /// none, its ticks of that time.
+    /// How many events of the node are ready: the arrivals of its least time or, if there are none,
+    /// its ticks of that time.
     pub fn ready(&self, node: NodeName) -> usize
         requires in_shape { HasQueue self.now node }
         ensures value { result ≡ length (takeable_of (queue_of self.now node)) }

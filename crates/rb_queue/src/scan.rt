@@ -115,8 +115,7 @@ pub(crate) fn count(arrivals: &[Arrival], time: u64, first: u16, end: u16) -> us
     count
 }
 
-// The lowest source, from this one on, of which something comes at a time. 256, where there is
-// none.
+// The lowest source, from this one on, of which something comes at a time. 256, if there is none.
 fn lowest_source(arrivals: &[Arrival], time: u64, first: u16) -> u16
     requires { first ≤ 256 }
     ensures low { first ≤ result }

@@ -37,7 +37,7 @@ still-over sc n (suc k) e =
     let rest = still-over sc n k e in
     subst (λ m. (first_run sc m).book.ended ≡ true) (sym same) (ap (λ (w : World). w.book.ended) (over-stays sc (n + k) rest) ∙ rest)
 
--- Where nothing is due, the run ends with the next step.
+-- If nothing is due, the run ends with the next step.
 
 pub idle-ends : (sc : Scenario) (w : World) → IsLawful sc → IsReached sc w → length (due_of sc w) ≡ 0 → (go_on sc w).book.ended ≡ true
 idle-ends sc w lawful reached none = by w.book.ended (needs_no_event sc w.book.upcoming) refl refl

@@ -45,7 +45,7 @@ impl Buffer {
         Ok(())
     }
 
-    /// Puts bytes behind those that wait. Where there is no room for them, what waits is written
+    /// Puts bytes behind those that wait. If there is no room for them, what waits is written
     /// first.
     pub(crate) fn push<K: Sink>(
         &mut self,

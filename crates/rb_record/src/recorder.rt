@@ -12,8 +12,8 @@ use rb_base::Event;
 use rb_outside::{Failed, Sink};
 use rb_world::{Observer, Turn};
 
-// Passes on what is complete of the log with this event. Where the log has no room for it, it is
-// left out: so it is with no event of a run.
+// Passes on what is complete of the log with this event. If the log has no room for it, it is left
+// out: so it is with no event of a run.
 fn pass_event<K: Sink>(
     log: &mut CountedLog,
     event: &Event,

@@ -54,7 +54,7 @@ fn number_of(node: NodeName) -> u8
     }
 }
 
-// Writes a delivery, where there is one.
+// Writes a delivery, if there is one.
 #[inline(always)]
 fn write_delivery<S: Sink>(
     node: NodeName,

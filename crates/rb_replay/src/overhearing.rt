@@ -158,8 +158,8 @@ pub fn is_biu(log: &LogReader<'_>) -> bool
 /// begins `e FRAME NODE TICK` and `c FRAME NODE BIUS RMUS`, for each delivery `d FRAME SLOT NODE
 /// SENDER WORD`, under the name of the log's node, with ticks in the listener's own count. Last is
 /// `end FRAMES`, the number of frames that began less one, or 0. What comes before that tick in the
-/// log is dropped. `Failed` comes only where the sink failed, and then a first part of the text was
-/// taken. Quiet ticks in a row are passed at once, however many.
+/// log is dropped. `Failed` is the answer only if the sink failed, and then a first part of the
+/// text was taken. Quiet ticks in a row are passed at once, however many.
 pub fn listen<S: Sink>(log: LogReader<'_>, skip: u32, output: &mut S) -> Result<(), Failed>
     ensures { Writes S.held S.faults output.old output.new result
         (overheard_text log.entry.timetable.sizes log.entry.timetable.plan log.entry.node skip

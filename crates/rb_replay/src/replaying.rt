@@ -132,8 +132,8 @@ fn replay_at<K: Kind, S: Sink>(
 /// Gives what a log tells to the node whose log it is, from its first tick on, and writes what the
 /// node tells, line by line, as it comes: for each frame that starts `e FRAME NODE TICK` and `c
 /// FRAME NODE BIUS RMUS`, for each delivery `d FRAME SLOT NODE SENDER WORD`, and last `end FRAMES`,
-/// the number of frames above 0 that began. `Failed` comes only where the sink failed, and then a
-/// first part of the text was taken. Quiet ticks in a row are passed at once, however many.
+/// the number of frames above 0 that began. `Failed` is the answer only if the sink failed, and
+/// then a first part of the text was taken. Quiet ticks in a row are passed at once, however many.
 pub fn replay<S: Sink>(log: LogReader<'_>, output: &mut S) -> Result<(), Failed>
     ensures { Writes S.held S.faults output.old output.new result
         (replay_text log.entry.timetable.sizes log.entry.timetable.plan log.entry.node

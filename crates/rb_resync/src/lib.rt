@@ -46,8 +46,8 @@ fn add(stamps: &mut ArrayVec<u64, 16>, taken: Option<u64>)
 /// Closes a stage of the sync slot, or the tail. Of each source that is expected and eligible the
 /// stamp is taken with which its call came, if exactly one message came and it is meant for the
 /// window. Then each trusted source is accused that was expected and of which not exactly that
-/// came, or that wasn't expected and of which something came. The middle is that of the stamps, the
-/// lower of two, and `first`, the window's first tick, where none was taken. So it is not above
+/// came, or that was not expected and of which something came. The middle is that of the stamps,
+/// the lower of two, and `first`, the window's first tick, if none was taken. So it is not above
 /// `first` and all stamps. Stamps, the middle and `first` are ticks of the node's own clock.
 ///
 /// This is the receiving end of a stage of clock synchronization by the unified protocol of Miner,

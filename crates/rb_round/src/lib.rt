@@ -19,7 +19,7 @@ use rb_vote::majority_taken;
 
 pub mod close;
 
-// The vote over what was taken. Where more than half of it is known to be alike, it is that value.
+// The vote over what was taken. If more than half of it is known to be alike, it is that value.
 // Were that counted again, a frame of the generated run with seed 7 would cost 1,475,800
 // instructions in place of 1,383,200.
 fn vote(taken: &[Option<Heard>; 16], alike: bool, value: Heard) -> Heard
@@ -32,8 +32,9 @@ fn vote(taken: &[Option<Heard>; 16], alike: bool, value: Heard) -> Heard
 /// Closes a stage below the sync slot. Of each source that is expected and eligible the value is
 /// taken that came of it, if exactly one message came and it is meant for the window; a relayed
 /// Fault is a value too. Then each trusted source is accused that was expected and of which not
-/// exactly that came, or that wasn't expected and of which something came. The vote is the majority
-/// of what was taken, and Fault over nothing. A mismatch accusation takes no part in any of this.
+/// exactly that came, or that was not expected and of which something came. The vote is the
+/// majority of what was taken, and Fault over nothing. A mismatch accusation takes no part in any
+/// of this.
 ///
 /// This is the receiving end of a communication stage of the unified protocol of Miner, Geser, Pike
 /// and Maddalon (FORMATS 2004): local error detection, then the hybrid majority. The rules of
@@ -98,7 +99,7 @@ pub fn accuse_unlike<K: Copy>(closing: &Closing, value: Heard, standing: &mut St
     standing.accuse_differing(differing);
 }
 
-/// What a node says as a relay that took this of the slot's sender in stage 1: Fault where it took
+/// What a node says as a relay that took this of the slot's sender in stage 1: Fault if it took
 /// nothing.
 pub fn relay_of(taken: Option<Heard>) -> Heard
     ensures { result ≡ unwrap_or taken Heard.Fault }
@@ -107,7 +108,7 @@ pub fn relay_of(taken: Option<Heard>) -> Heard
 }
 
 /// What a node says as a relay of the slot's sender, a node below 16: what it took of it in stage
-/// 1, and Fault where it took nothing.
+/// 1, and Fault if it took nothing.
 pub fn relay(closing: &Closing, sender: u8) -> Heard
     requires { sender < 16 }
     ensures { result ≡ unwrap_or (at_source closing.now.taken sender) Heard.Fault }

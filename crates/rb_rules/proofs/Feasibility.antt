@@ -13,7 +13,7 @@ use Rattle.rb_rules.specs.Plan.{Sides, inequalities_of, sides_of, first_failing,
 
 -- ---- the first item that passes
 
--- there is none where none passes
+-- there is none if none passes
 none_passes : {X : Type 0} (p : X → Bool) (xs : List X) (d : X) → ((k : ℕ) → k < length xs → p (get_or xs k d) ≡ false) → position p xs ≡ None
 none_passes p xs d all =
     let at : position_or_len p xs ≡ length xs = position_or_len_is p xs (length xs) d (omega arith) all (λ h. absurd (omega arith)) in
@@ -71,7 +71,7 @@ a_number : (found : Option ℕ) (n : ℕ) → option_map suc found ≡ Some n �
 a_number None n h = absurd (cc)
 a_number (Some i) n h = (i, refl, cc)
 
--- none is the first that fails exactly where all hold
+-- none is the first that fails if and only if all hold
 pub feasible_exactly : (sizes : Sizes) (plan : Plan) → (first_failing sizes plan ≡ None) ↔ IsFeasible sizes plan
 feasible_exactly sizes plan =
     let rows : List Sides = inequalities_of sizes plan in

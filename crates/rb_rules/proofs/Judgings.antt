@@ -76,7 +76,7 @@ pub unlike_was_taken : (kind : Side) (j : ℕ) (s : JudgedStage) → was_unlike 
 unlike_was_taken kind j s h =
     either_way (some_unlike s.eps (has (s.good (other kind))) (λ i. s.sight (other kind) i j) (numbers 16) (numbers 16) h)
 
--- in a frame: an asymmetric node isn't benign
+-- in a frame: an asymmetric node is not benign
 pub asymmetric_was_taken : (kind : Side) (stages : List JudgedStage) (j : ℕ) → is_asymmetric kind stages j ≡ true → is_benign kind stages j ≡ false
 asymmetric_was_taken kind [] j h = absurd (cc)
 asymmetric_was_taken kind (s ∷ earlier) j h =

@@ -1,4 +1,4 @@
--- Quiet ticks are only counted, and arrivals don't change which ticks are quiet.
+-- Quiet ticks are only counted, and arrivals do not change which ticks are quiet.
 use Rattle.std.proofs.Common.{◌≡◌, ℕ, zero, suc, ◌+◌, ◌-◌, ◌^◌, ◌<◌, ◌≤◌, ◌==◌, ◌||◌, ◌&&◌, not, nat_lt, Bool, true, false, List, [], ◌∷◌, ◌++◌, refl, sym, ◌∙◌, ap, subst, arith, Option, Some, None, is_some}
 use Rattle.std.proofs.lemmas.Bool.{or_parts}
 use Rattle.std.proofs.lemmas.Bool.Decides.{nat_tests}
@@ -103,7 +103,7 @@ quiet-ticks sizes plan me index (suc n) c q h =
     quiet-ticks sizes plan me index n (nothing c).core (λ k lo hi. q k (omega arith) (omega arith)) (omega arith) in
     ap (λ x. ticks sizes plan me index n x.core) one ∙ rest ∙ ap (λ m. record c { had = m }) e
 
--- tick k is the first from tick `had` on that isn't quiet
+-- tick k is the first from tick `had` on that is not quiet
 pub record IsNext (sizes : Sizes) (plan : Plan) (me : Side) (index : ℕ) (st : NodeState) (had k : ℕ) : Type 0 where
   pub later : had ≤ k
   pub below : k < 2 ^ 31
@@ -139,12 +139,12 @@ busy-is sizes plan me index st (suc others) had k room h =
     found sizes plan me index st had k (is_busy sizes plan me index st had) (busy_among sizes plan me index st others (suc had)) (omega arith) refl
     (busy-is sizes plan me index st others (suc had) k (omega arith)) h
 
--- the next tick is the first that isn't quiet
+-- the next tick is the first that is not quiet
 pub next-is : (sizes : Sizes) (plan : Plan) (me : Side) (index : ℕ) (c : Core) (k : ℕ) → c.had ≤ 2 ^ 31
     → next_tick sizes plan me index c ≡ Some k → IsNext sizes plan me index c.state c.had k
 next-is sizes plan me index c k room h = busy-is sizes plan me index c.state (2 ^ 31 - c.had) c.had k (omega arith) h
 
--- the ticks before the next one that isn't quiet are counted when they come, as `pass_to` does at
+-- the ticks before the next one that is not quiet are counted when they come, as `pass_to` does at
 -- once
 pub pass-is : (sizes : Sizes) (plan : Plan) (me : Side) (index n : ℕ) (c : Core) (k : ℕ) → c.had ≤ 2 ^ 31
     → next_tick sizes plan me index c ≡ Some k → c.had + n ≤ k → ticks sizes plan me index n c ≡ record c { had = c.had + n }

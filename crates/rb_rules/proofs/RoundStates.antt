@@ -118,7 +118,7 @@ early sizes me stage n h =
 late : (sizes : Sizes) (me : Side) (stage n : ℕ) → 3 * sync_slot_of sizes + stage - 1 < n → knows sizes me stage n ≡ knows sizes me stage (n + 1)
 late sizes me stage n h = ap (λ b. listens me Sync stage && b) (lt-both (3 * sync_slot_of sizes + stage - 1) n (n + 1) h (omega arith))
 
--- a stage in which the node doesn't listen gives nothing
+-- a stage in which the node does not listen gives nothing
 deaf : (sizes : Sizes) (me : Side) (stage n : ℕ) → listens me Sync stage ≡ false → knows sizes me stage n ≡ knows sizes me stage (n + 1)
 deaf sizes me stage n h = ap (λ b. b && nat_lt (3 * sync_slot_of sizes + stage - 1) n) h ∙ sym (ap (λ b. b && nat_lt (3 * sync_slot_of sizes + stage - 1) (n + 1)) h)
 

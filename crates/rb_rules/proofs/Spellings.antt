@@ -136,7 +136,7 @@ fields_so b0 b1 b2 b3 b4 b5 b6 b7 b8 b9 rest small m is =
     let value = be_bytes_4 (b6 ∷ b7 ∷ b8 ∷ b9 ∷ []) m.value refl value_small has.value_is in
     (has.is_message, λ i. sym tag i ∷ (sym frame i ++ sym slot i ++ sym has.stage_is i ∷ sym value i))
 
--- a message was read only where the test passed
+-- a message was read only if the test passed
 passed : (pass : Bool) (read : Option Message) (m : Message) → (if pass then read else None) ≡ Some m → (pass ≡ true) × (read ≡ Some m)
 passed true read m is = (refl, is)
 passed false read m is = absurd (cc)

@@ -59,8 +59,8 @@ IsOfGood sc bus offered (DiagBiu i) value = SparesGood sc bus Rmu value
 IsOfGood sc bus offered (DiagRmu i) value = SparesGood sc bus Biu value
 IsOfGood sc bus offered Sync value = ⊤
 
--- the value that a slot may have: Fault where it is idle, what a good sender says, and any value
--- where the sender is not good; `offered` is the word that each BIU is offered
+-- the value that a slot may have: Fault if it is idle, what a good sender says, and any value where
+-- the sender is not good; `offered` is the word that each BIU is offered
 abbrev pub MayHave : Scenario → AbstractBus → (ℕ → ℕ) → Role → Sender → Heard → Type 0
 MayHave sc bus offered role Nobody value = value ≡ Fault
 MayHave sc bus offered role (Node i) value =

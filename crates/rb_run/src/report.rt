@@ -107,9 +107,9 @@ fn newest_block(newest: u32, turn: &Turn) -> u32
 }
 
 /// Takes a run from its start to its end, and writes its report as the drive gives the turns: a
-/// line at a time, each write asking for the rest of one line. `Failed` comes only where a write
-/// failed; a first part of the report has then been written. The world must be as `World::open`
-/// gives it.
+/// line at a time, each write asking for the rest of one line. `Failed` is the answer only if a
+/// write failed; a first part of the report has then been written. The world must be as
+/// `World::open` gives it.
 pub fn write_run<K: Sink, D: Drive>(
     world: &mut World,
     apps: &Apps,

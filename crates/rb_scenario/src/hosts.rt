@@ -49,7 +49,7 @@ impl Test for IsApp {
     }
 }
 
-/// Whether there is one of each for each BIU, where there are any.
+/// Whether there is one of each for each BIU, if there are any.
 pub(crate) fn has_lists(bius: u8, table: &Table) -> bool
     ensures { result ≡ has_lists bius (table_view table.now) }
 {

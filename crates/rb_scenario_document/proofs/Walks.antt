@@ -47,7 +47,7 @@ list-within high count i (boolean s) h = omega arith
 list-within high count i (datetime s) h = omega arith
 list-within high count i (table s) h = omega arith
 
--- and what stands at a place of an array that is there, or isn't
+-- and what stands at a place of an array that is there, or is not
 pub listed-within : (high count i : ℕ) (o : Option Data) → absent_or (is_list count (is_within 0 high)) o ≡ true → number_or 0 (option_and_then (at i) o) ≤ high
 listed-within high count i None h = omega arith
 listed-within high count i (Some d) h = list-within high count i d h

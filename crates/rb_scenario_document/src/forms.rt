@@ -127,7 +127,7 @@ fn is_wrong(form: Form, value: Option<&Value>) -> bool
     }
 }
 
-/// Whether a field that must be there isn't.
+/// Whether a field that must be there is not.
 fn lacks(fields: &[Field], table: &Table) -> bool
     ensures { result ≡ lacks (fields_shown fields.now) (table_view table.now) }
 {
@@ -300,7 +300,7 @@ impl EntryTest for SaysNothing {
     }
 }
 
-/// Whether a key that must be there isn't: at the root, or in a table that stands where one is
+/// Whether a key that must be there is not: at the root, or in a table that stands where one is
 /// asked for. A say entry must have one of the keys that say something.
 #[tactic(auto, unfolding(crate::specs::Forms::lacks_key))]
 pub fn lacks_key(table: &Table) -> bool
@@ -309,7 +309,7 @@ pub fn lacks_key(table: &Table) -> bool
     somewhere(Missing, table) || any_entry(&SaysNothing, member(table, "say"))
 }
 
-/// Whether such a table has a key that isn't known for it.
+/// Whether such a table has a key that is not known for it.
 #[tactic(auto, unfolding(crate::specs::Forms::has_unknown_key))]
 pub fn has_unknown_key(table: &Table) -> bool
     ensures { result ≡ has_unknown_key (table_view table.now) }

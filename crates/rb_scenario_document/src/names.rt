@@ -45,7 +45,7 @@ fn named(letter: u8, count: u8, text: &str) -> Option<u8>
     }
 }
 
-/// The node of the bus that the text names. None where it names none.
+/// The node of the bus that the text names. None if it names none.
 pub fn node_named(shape: &Shape, text: &str) -> Option<NodeName>
     ensures value { result ≡ node_named shape.now text.now }
     ensures numbered { IfSome result IsNumbered }
@@ -56,7 +56,7 @@ pub fn node_named(shape: &Shape, text: &str) -> Option<NodeName>
     }
 }
 
-/// The nodes that the text names: one, all BIUs or all RMUs. None where it names none.
+/// The nodes that the text names: one, all BIUs or all RMUs. None if it names none.
 pub fn pattern_named(shape: &Shape, text: &str) -> Option<Pattern>
     ensures { result ≡ pattern_named shape.now text.now }
 {

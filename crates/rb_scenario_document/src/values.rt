@@ -111,7 +111,7 @@ impl Test for Range {
     }
 }
 
-/// The two numbers of a pair; 0 where there is none.
+/// The two numbers of a pair; 0 if there is none.
 pub fn pair(value: &Value) -> (u64, u64)
     ensures { result ≡ pair_of (view value.now) }
 {
@@ -186,7 +186,7 @@ pub fn item_at<'a>(table: &'a Table, key: &str, index: usize) -> Option<&'a Valu
     }
 }
 
-/// The number at place `index` of the array at a key, none above `high`; 0 where there is none.
+/// The number at place `index` of the array at a key, none above `high`; 0 if there is none.
 pub fn listed_number(table: &Table, key: &str, count: u8, index: usize, high: u64) -> u64
     requires { may_have_list key.now count (is_within 0 high) (table_view table.now) ≡ true }
     ensures value { result ≡ number_or 0 (item_at key.now index (table_view table.now)) }

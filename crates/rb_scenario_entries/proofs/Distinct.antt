@@ -47,7 +47,7 @@ de_morgan : (a b : Bool) → not (a || b) ≡ (not a && not b)
 de_morgan true b = refl
 de_morgan false b = refl
 
--- none was seen and none is the new one, exactly where none was seen with the new one
+-- none was seen and none is the new one, if and only if none was seen with the new one
 unseen_with : (seen seen' : Seen) (name : NodeName) → ((n : NodeName) → IsNumbered n → was_seen seen' n ≡ (was_seen seen n || same_node name n))
     → (names : List NodeName) → All IsNumbered names
     → list_all (λ n. not (was_seen seen' n)) names ≡ (list_all (λ n. not (was_seen seen n)) names && not (list_any (same_node name) names))

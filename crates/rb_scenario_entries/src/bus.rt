@@ -175,7 +175,7 @@ fn has_bus(table: &Table) -> bool
     has_sizes(table) && has_number(table, "frames", 1, 4096) && has_plan(table)
 }
 
-/// The bus that a document is for. None exactly where a number is out of range.
+/// The bus that a document is for. `None` if and only if a number is out of range.
 pub fn bus_in(table: &Table) -> Option<Bus>
     ensures value { result ≡ bus_in (table_view table.now) }
     ensures bus { IfSome result IsBus }

@@ -116,7 +116,7 @@ fn is_node(name: NodeName, other: Option<NodeName>) -> bool
     }
 }
 
-/// The entry that the value is, where it is one and is for the node.
+/// The entry that the value is, if it is one and is for the node.
 fn entry_if<'a>(shape: &Shape, value: &'a Value, name: NodeName) -> Option<&'a Table>
     ensures { option_map (λ x. table_view x.now) result
         ≡ entry_for shape.now (option_to_list (as_table (view value.now))) name }

@@ -8,10 +8,10 @@ pub enum Refusal {
     /// The bytes are not the text of a TOML document.
     #[error("the text is not TOML")]
     NotToml,
-    /// A key that must be there isn't, or a say entry says nothing.
+    /// A key that must be there is not, or a say entry says nothing.
     #[error("a key is missing")]
     MissingKey,
-    /// A table has a key that isn't known for it.
+    /// A table has a key that is not known for it.
     #[error("a key is not known")]
     UnknownKey,
     /// A value is of another form than is asked for.

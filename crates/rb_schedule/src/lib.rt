@@ -32,8 +32,8 @@ impl Owners {
         }
     }
 
-    /// The number of the BIU that owns the data slot with this number, counted from 0. None exactly
-    /// where it has no owner.
+    /// The number of the BIU that owns the data slot with this number, counted from 0. `None` if
+    /// and only if it has no owner.
     pub fn owner(&self, number: u16) -> Option<u8>
         ensures { result ≡ slice_get self.now number }
     {
@@ -97,7 +97,7 @@ fn add_pass(
 
 /// The owners of the data slots by the voted requests, that of BIU i at index i. A word is the
 /// number of slots that its BIU asks for, and Fault asks for none. The slots are given in passes:
-/// in each pass every trusted BIU that hasn't as many as it asks for gets one, in order of the
+/// in each pass every trusted BIU that has not as many as it asks for gets one, in order of the
 /// BIUs, until all slots are given or nobody asks. More passes than slots change nothing.
 pub fn owners_of(requests: &[Heard; 16], trusted: NodeSet<Biu>, shape: &Shape) -> Owners
     ensures owners { result ≡ owners_of shape.now trusted requests.now }

@@ -111,7 +111,7 @@ impl<K: Kind> Engine<K> {
         }
     }
 
-    // What a slot is for that isn't kept.
+    // What a slot is for that is not kept.
     #[inline(never)]
     fn role_aside(&self, slot: u16) -> Role
         ensures { result ≡ role_of self.now.sizes slot }
@@ -131,7 +131,7 @@ impl<K: Kind> Engine<K> {
         }
     }
 
-    // Who sends in stage 1 of a slot that isn't kept.
+    // Who sends in stage 1 of a slot that is not kept.
     #[inline(never)]
     fn sender_aside(&self, role: Role) -> Sender
         ensures { sender_of result ≡ sender_in (trusted_of (side_of K.CODE) Side.Biu self.now.state)

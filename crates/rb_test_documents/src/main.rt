@@ -1,12 +1,12 @@
 //! Does what each line of `runs.txt` asks, and writes the line, what comes of it, and the status of
 //! each call. The inputs and the outputs that are wanted come from an independent model.
 //!
-//! A line has the words of robus and the file of its input, or `-` for an input that can't be read.
-//! Words of robus_bridge stand behind `bridge`, and those of robus_picture behind `picture`. There
-//! may be several steps with `then` between them, of which each is given what the one before it
-//! wrote. Some change bytes: `cut N` leaves the first N, `put PLACE BYTE` sets the byte at a place,
-//! or adds it at the end, `hex` spells them in digits, and `spaces N` takes N spaces in their
-//! place. A line that begins with `#` says what the lines below it try.
+//! A line has the words of robus and the file of its input, or `-` for an input that cannot be
+//! read. Words of robus_bridge stand behind `bridge`, and those of robus_picture behind `picture`.
+//! There may be several steps with `then` between them, of which each is given what the one before
+//! it wrote. Some change bytes: `cut N` leaves the first N, `put PLACE BYTE` sets the byte at a
+//! place, or adds it at the end, `hex` spells them in digits, and `spaces N` takes N spaces in
+//! their place. A line that begins with `#` says what the lines below it try.
 //!
 //! Three prefixes say how robus is called, and what is counted then stands in brackets behind the
 //! status. With `failing R W` the read and the write with these numbers fail, from 1 on, and the

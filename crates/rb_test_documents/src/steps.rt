@@ -105,7 +105,7 @@ fn shown<T: Debug>(alloc: Global, value: &T) -> Result<Vec<u8>, AllocError> {
     Ok(format!(in alloc; "{value:?}\n")?.into_bytes())
 }
 
-// What the step makes of the bytes, where it does not change them.
+// What the step makes of the bytes, if it does not change them.
 fn made_of(
     alloc: Global,
     apps: &Apps,

@@ -14,8 +14,8 @@ pub fn single_cores()
     ensures next_close { busy_next (after_tick 14 (after_tick 6 (after_tick 0 biu_0))) ≡ Some 29 }
     // An RMU that is given what it had in a run begins the same frames at the same ticks.
     ensures replayed_frame { epochs_of frame_of_rmu ≡ (begun_at 0 0 ∷ begun_at 1 242 ∷ []) }
-    // Where the request comes with a wrong byte the RMU accuses the BIU and takes nothing more of
-    // it: both middles are the first ticks of their windows.
+    // If the request comes with a wrong byte the RMU accuses the BIU and takes nothing more of it:
+    // both middles are the first ticks of their windows.
     ensures replayed_frame_with_a_wrong_check { epochs_of frame_with_a_wrong_check
         ≡ (begun_at 0 0 ∷ begun_at 1 233 ∷ []) }
 {}

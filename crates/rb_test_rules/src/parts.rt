@@ -166,15 +166,15 @@ pub fn sync_slot()
     ensures at_the_last_tick { middle_of (878 ∷ 887 ∷ 878 ∷ []) ≡ Some 878 }
     ensures of_four_stamps { middle_of (4 ∷ 1 ∷ 3 ∷ 2 ∷ []) ≡ Some 2 }
     ensures of_no_stamp { middle_of [] ≡ None }
-    // Middles: of four stamps the second least; where nothing is taken the window's first tick; who
+    // Middles: of four stamps the second least; if nothing is taken the window's first tick; who
     // does not listen takes none.
     ensures of_four { (rmu_after (864 ∷ 861 ∷ 870 ∷ 862 ∷ [])).k1 ≡ Some 862 }
     ensures silence_is_accused { (rmu_after (864 ∷ 861 ∷ 870 ∷ [])).far.direct ≡ 8 }
     ensures of_none { (close_sync sizes Biu biu 2 870 (called 2 [])).state.k2 ≡ Some 870 }
     ensures not_listening { (biu_after (864 ∷ [])).k1 ≡ None }
     ensures speaking_is_accused { (biu_after (864 ∷ [])).far.direct ≡ 1 }
-    // Where each call is stamped one tick after it is sent, the middles are 862, 878 and 897, and
-    // the next epochs are one.
+    // If each call is stamped one tick after it is sent, the middles are 862, 878 and 897, and the
+    // next epochs are one.
     ensures at_a_biu { new_epoch_of plan Biu (record biu { k2 = Some 878 }) ≡ Some 917 }
     ensures at_an_rmu { new_epoch_of plan Rmu (record rmu { k3 = Some 897 }) ≡ Some 917 }
 {}

@@ -19,13 +19,13 @@ ghost use Rattle.rb_test_rules.specs.Steps.{all_but_one_run, at_frame, at_slot, 
 
 /// Steps of a core.
 pub fn steps_of_a_core()
-    // A core remembers what it sent in its own slot until stage 2 is closed, also where it sends in
+    // A core remembers what it sent in its own slot until stage 2 is closed, also if it sends in
     // the window's last tick: the one RMU that relays another value is accused by mismatch.
     ensures accused { own_slot.state.far.mismatch ≡ 4 }
     ensures nobody_directly { own_slot.state.far.direct ≡ 0 }
     ensures by_last_ticks { own_slot_by_last_ticks.state.far.mismatch ≡ 4 }
     // A node says its message before it closes the window that ends with the same tick: its vector
-    // doesn't name the RMU that it then accuses.
+    // does not name the RMU that it then accuses.
     ensures said { vector_at_the_last_tick.message
         ≡ Some (record { tag = tag.Word; frame = 0; slot = 12; stage = 1; value = 0 }) }
     ensures accused_at_the_close { vector_at_the_last_tick.core.state.far.direct ≡ 1 }

@@ -79,7 +79,7 @@ arrival-of sc kept scene time name event w place d me i x may shown named =
           ∙ ap (λ p. let x : Due = record { side = me; node = i; pending = p } in x) k.1;
     }
 
--- The next tick that isn't quiet.
+-- The next tick that is not quiet.
 
 -- what is kept of a node has the same
 next-kept : (sc : Scenario) (me : Side) (i : ℕ) (k : KeptSite) (s : Site) → IsNode sc me i k s → next_of me k.node (bare_core k.node) ≡ next_tick sc.sizes sc.plan me i s.core

@@ -21,8 +21,8 @@ use Rattle.rb_world.proofs.GoingOn.{ended-stays}
 not-both : {P : Type 0} (b : Bool) → b ≡ true → b ≡ false → P
 not-both b t f = absurd (cc)
 
--- a book with one record more than these has ended exactly where that is the last of a run, and one
--- with no more has not
+-- a book with one record more than these has ended if and only if that is the last of a run, and
+-- one with no more has not
 abbrev Ends : List Record → Book → Type 0
 Ends given x = x.ended ≡ is_last (slice_get x.given (length given))
 
@@ -82,7 +82,7 @@ next-ends sc way w going = by (comes_so sc way w.book.upcoming && is_complete sc
     by true = book-ends sc w.sites w.book w.book.upcoming going
     by false = going ∙ sym (ap is_last (none-past w.book.given w.book.given refl))
 
--- the run has ended exactly where the last turn is the last record of a run
+-- the run has ended if and only if the last turn is the last record of a run
 abbrev pub EndsWell : World → Type 0
 EndsWell w = w.book.ended ≡ is_last w.turn
 

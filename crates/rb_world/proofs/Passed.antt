@@ -1,4 +1,4 @@
--- The next tick that isn't quiet, when ticks pass up to it.
+-- The next tick that is not quiet, when ticks pass up to it.
 use Rattle.std.proofs.Common.{◌≡◌, ℕ, zero, suc, ◌+◌, ◌-◌, ◌<◌, ◌≤◌, ◌^◌, Bool, true, false, Some, None, Option, refl, sym, ap, ◌∙◌, arith, inl, inr}
 use Rattle.std.proofs.lemmas.Bool.{cases_lt, true≢false}
 use Rattle.rb_base.specs.Nodes.{Side}
@@ -9,7 +9,7 @@ use Rattle.rb_rules.specs.NodeState.{NodeState}
 use Rattle.rb_rules.specs.declared.plan.Plan.{Plan}
 use Rattle.rb_rules.proofs.QuietTicks.{IsNext, next-is, passed-next}
 
--- the search finds the first that isn't quiet
+-- the search finds the first that is not quiet
 finds : (sizes : Sizes) (plan : Plan) (me : Side) (i : ℕ) (st : NodeState) (others had k : ℕ) → k < had + others → IsNext sizes plan me i st had k
     → busy_among sizes plan me i st others had ≡ Some k
 finds sizes plan me i st zero had k room next = absurd (let later = next.later in omega (arith, later, room))

@@ -28,7 +28,7 @@ something-due = due-holds
 run-ends : (sc : Scenario) → IsLawful sc → EveryRunEnds sc
 run-ends = ends-hold
 
--- Where no record comes, an event was due.
+-- If no record comes, an event was due.
 
 pub none-last : {P : Type 0} (o : Option Record) → o ≡ None → is_last o ≡ true → P
 none-last o none last = absurd (cc)

@@ -120,9 +120,9 @@ fn show<K: Kind>(
 }
 
 impl World {
-    /// How many events may be taken: those of the least time at which any is pending. None where
-    /// the next record needs no event, and none after the last. Where it needs one, at least one
-    /// may be taken.
+    /// How many events may be taken: those of the least time at which any is pending. None if the
+    /// next record needs no event, and none after the last. If it needs one, at least one may be
+    /// taken.
     pub fn due(&self) -> usize
         ensures value { result ≡ due_in self.now }
         ensures world { (w : RunWorld) → Stands self.now w

@@ -52,7 +52,7 @@ impl World {
         self.last = last_of(turn);
     }
 
-    // Takes one of the events that are due, and where none is, goes on without one.
+    // Takes one of the events that are due, and if none is, goes on without one.
     #[inline(never)]
     fn step_counted(&mut self, apps: &Apps, ties: Ties, draws: &mut Draws, turn: &mut Turn)
         requires { turn.old ≡ Turn.Quiet }

@@ -25,7 +25,7 @@ fn without<K: Copy>(set: NodeSet<K>, i: u8) -> NodeSet<K>
     changed
 }
 
-// The node's next tick that isn't quiet is pending.
+// The node's next tick that is not quiet is pending.
 #[inline(always)]
 fn await_tick<K: Kind>(bus: &Bus, node: NodeName, site: &Site<K>, scene: &mut Scene)
     requires node { IsNodeOf bus.now.sizes node }

@@ -22,7 +22,7 @@ use rb_rules::{Message, NodeLine};
 use std::marker::Model;
 
 /// One node of a world, for both kinds by one code: its core, whether it runs, and for each source
-/// the reference time of what came of it last. Where one message came of a source since the last
+/// the reference time of what came of it last. If one message came of a source since the last
 /// close, that is the time of it.
 #[derive(Drop)]
 pub struct Site<K: Kind> {
@@ -114,7 +114,7 @@ impl<K: Kind> Site<K> {
         name_of(K::CODE, self.node.engine().index())
     }
 
-    /// The window that begins with the node's next tick. None exactly where none does.
+    /// The window that begins with the node's next tick. `None` if and only if none does.
     pub fn entering(&self) -> Option<Span>
         ensures { (sc : Scenario) (s : WorldSite) → Stands sc (side_of K.CODE) self.now s
             → option_map span_in result

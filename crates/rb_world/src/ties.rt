@@ -32,7 +32,7 @@ impl Seeding {
         }
     }
 
-    /// The draws with which a call begins: where it has another seed than the last one, they start
+    /// The draws with which a call begins: if it has another seed than the last one, they start
     /// anew.
     pub fn begin(self, ties: Ties) -> Seeding
         ensures { result ≡ begun_with ties self }

@@ -113,7 +113,7 @@ impl Agenda {
         self.ticks.put(place, mark_of(place, time));
     }
 
-    /// The least time of all events, in reference units; 2^64 - 1 where there is none.
+    /// The least time of all events, in reference units; 2^64 - 1 if there is none.
     pub fn first_time(&self) -> u64
         ensures value { result ≡ first_time self.now }
     {
@@ -167,7 +167,7 @@ impl Agenda {
     }
 
     /// The node whose tick is the first of all, in time and then in the order of nodes, and the
-    /// tick's time in reference units. Where no tick is pending the time is 2^64 - 1.
+    /// tick's time in reference units. If no tick is pending the time is 2^64 - 1.
     #[inline(always)]
     pub fn first_tick(&mut self) -> (NodeName, u64)
         ensures world { (sizes : Sizes) (sites : Each Site) → HoldsSites sizes self.old sites
@@ -181,7 +181,7 @@ impl Agenda {
     }
 
     /// The place, among the arrivals of the node in the order of pushing, of the first that is
-    /// ready, where it is due before this time. None exactly where nothing is due at the node
+    /// ready, if it is due before this time. `None` if and only if nothing is due at the node
     /// before then but its tick.
     #[inline(always)]
     pub fn first_before(&self, node: NodeName, until: u64) -> Option<usize>

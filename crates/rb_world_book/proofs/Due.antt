@@ -63,7 +63,7 @@ each-is k f (x ∷ xs) (suc i) all h =
     rest true b e = e
     rest false b e = absurd (cc)
 
--- nobody is awaited exactly where all good ones have told
+-- nobody is awaited if and only if all good ones have told
 all-told : (n good : ℕ) (m : Milestone) (told : List Told) → n ≤ 16 → length told ≡ 16
     → list_all (λ b. b) (map_from 0 (λ i t. not (has good i) || has_told m t) (take n told)) ≡ (waiting_for n good m told == 0)
 unfolding waiting_for

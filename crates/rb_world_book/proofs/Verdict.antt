@@ -1,4 +1,4 @@
--- The verdict doesn't depend on what was seen of nodes that are good to the end of the frame.
+-- The verdict does not depend on what was seen of nodes that are good to the end of the frame.
 use Rattle.std.proofs.Common.{◌≡◌, ℕ, ◌≤◌, ◌&&◌, ◌||◌, not, nat_lt, Bool, true, false, List, [], ◌∷◌, map, get_or, Option, Some, None, refl, ◌∙◌, ap, arith}
 use Rattle.std.specs.List.{list_any}
 use Rattle.std.proofs.lemmas.Bool.Decides.{nat_tests}
@@ -22,7 +22,7 @@ any-same : (p q : ℕ → Bool) (xs : List ℕ) → ((i : ℕ) → p i ≡ q i) 
 any-same p q [] same = refl
 any-same p q (x ∷ xs) same = ap (λ b. b || list_any p xs) (same x) ∙ ap (λ b. q x || b) (any-same p q xs same)
 
--- what was seen of a node that doesn't last is left as it was
+-- what was seen of a node that does not last is left as it was
 seen-same : (sc : Scenario) (frame : ℕ) (kind : Side) (j : ℕ) (s : JudgedStage) → is_good sc kind j frame (sync_slot_of sc.sizes) ≡ false
     → (i : ℕ) → (without_lasting sc frame s).sight (other kind) i j ≡ s.sight (other kind) i j
 seen-same sc frame kind j s e i =

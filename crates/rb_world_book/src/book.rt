@@ -305,8 +305,8 @@ impl Book {
 
     /// Settles what is due in this way, up to the first record, and at most two milestones: a last
     /// stage of a frame, which gives no record, and the start of the next frame. The turn is
-    /// `Quiet` before, and is written over by that record, if there is one. Where nothing is due
-    /// this costs next to nothing.
+    /// `Quiet` before, and is written over by that record, if there is one. If nothing is due this
+    /// costs next to nothing.
     #[inline(always)]
     pub fn settle_into(&mut self, way: Way, turn: &mut Turn)
         requires quiet { turn.old ≡ Turn.Quiet }

@@ -20,7 +20,7 @@ fn those_below<K: Copy>(count: u8, set: NodeSet<K>) -> NodeSet<K>
     NodeSet::first(count).intersection(set)
 }
 
-/// The set with node i exactly where `member`.
+/// The set with node i if and only if `member`.
 pub(crate) fn with_or_without<K: Copy>(set: NodeSet<K>, i: u8, member: bool) -> NodeSet<K>
     requires { i < 16 }
     ensures { result ≡ set_of (λ k. if k == i then member else has set k) }

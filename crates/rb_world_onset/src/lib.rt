@@ -80,7 +80,7 @@ fn good_among<K: Copy>(
     good
 }
 
-// The earlier of two onsets, of which the second counts only where it comes after this slot of this
+// The earlier of two onsets, of which the second counts only if it comes after this slot of this
 // frame.
 fn earlier_after(
     frame: u32,

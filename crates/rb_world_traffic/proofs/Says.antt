@@ -42,7 +42,7 @@ map-cond : (f : Say → Coming) (b : Bool) (x : Say) (xs : List Say) → map f (
 map-cond f true x xs = refl
 map-cond f false x xs = refl
 
--- the entries between the two, where it is known whether the sender is good
+-- the entries between the two, if it is known whether the sender is good
 one-said : (sc : Scenario) (me : Side) (i j : ℕ) (span : Span) (says : List Say) → is_good sc (other me) j span.place.frame span.place.slot ≡ false
     → map (coming_said sc.plan.version (clock_of sc me i) j span) (filter (is_said me i j span) says)
     ≡ all_brought sc (clock_of sc me i) span (filter (is_between (name_of (other me) j) (name_of me i)) says)
@@ -123,7 +123,7 @@ unfolding says_in entries_to
 says-are sc (node.Biu i) span = by-senders sc Biu i 0 sc.sizes.rmus span
 says-are sc (node.Rmu i) span = by-senders sc Rmu i 0 sc.sizes.bius span
 
--- Where none of the entries is for the window's place, none is said in it.
+-- If none of the entries is for the window's place, none is said in it.
 pub none-for : (sc : Scenario) (clock : Timeline) (span : Span) (says : List Say) → list_any (is_for span.place) says ≡ false → all_brought sc clock span says ≡ []
 none-for sc clock span [] none = refl
 none-for sc clock span (s ∷ says) none =

@@ -241,8 +241,8 @@ impl Sayings {
         self.places(to).len()
     }
 
-    /// The first and the last of the frames of which the entries for the node speak. Where there
-    /// are no entries these are 2^32 and 0.
+    /// The first and the last of the frames of which the entries for the node speak. If there are
+    /// no entries these are 2^32 and 0.
     pub fn frames(&self, to: NodeName) -> (u64, u64)
         requires node { IsNodeOf self.now.faults.sizes to }
         ensures first { result.0 ≡ first_frame (entries_for self.now to) }

@@ -28,9 +28,9 @@ mod spelled;
 
 /// What `robus` does with these words, a NUL byte between one and the next, and this input. Its
 /// output stands in `output`, and the answer has the number of its status, 0 to 4 or 7, and the
-/// number of bytes of the output. Where there are more than `output` has room for, the status is 9
-/// and the first of them stand there. Where the words are not UTF-8, the status is 8. Beyond its
-/// output `output` is as it was.
+/// number of bytes of the output. If there are more than `output` has room for, the status is 9 and
+/// the first of them stand there. If the words are not UTF-8, the status is 8. Beyond its output
+/// `output` is as it was.
 #[unsafe(no_mangle)]
 pub extern "C" fn robus_call(alloc: Global, words: &[u8], input: &[u8], output: &mut [u8]) -> Answer
     ensures { IsBusAnswer words.now input.now output.old output.new result }

@@ -36,7 +36,7 @@ pub extern "C" fn robus_node_arrive(
     calls::arrive(alloc, node, from, bytes)
 }
 
-/// What the node wants to be handed for its next tick. Nothing where there is no node.
+/// What the node wants to be handed for its next tick. Nothing if there is no node.
 #[unsafe(no_mangle)]
 pub extern "C" fn robus_node_wants(alloc: Global, node: &mut Handle) -> HostWant
     ensures wants { IfSome (node_in node.old) (λ n. IsHostWant n result) }
@@ -47,7 +47,7 @@ pub extern "C" fn robus_node_wants(alloc: Global, node: &mut Handle) -> HostWant
 }
 
 /// A tick of the node's clock, with the request or the word for the case that one is wanted, and
-/// what the node gives. Whether there is a node; where there is none, `act` is as it was.
+/// what the node gives. Whether there is a node; if there is none, `act` is as it was.
 #[unsafe(no_mangle)]
 pub extern "C" fn robus_node_tick(
     alloc: Global,
@@ -62,8 +62,8 @@ pub extern "C" fn robus_node_tick(
     calls::tick(alloc, node, word, act)
 }
 
-/// The number of the first tick from the next on that isn't quiet; 2^31 where that would not be
-/// below 2^31, and where there is no node.
+/// The number of the first tick from the next on that is not quiet; 2^31 if that would not be below
+/// 2^31, and if there is no node.
 #[unsafe(no_mangle)]
 pub extern "C" fn robus_node_next_tick(alloc: Global, node: &mut Handle) -> u64
     ensures next { IfSome (node_in node.old) (λ n. IsNextTick n result) }

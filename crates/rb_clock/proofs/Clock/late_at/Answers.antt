@@ -1,4 +1,4 @@
--- Where one length stands, the time is a product.
+-- If one length stands, the time is a product.
 use Rattle.std.proofs.Common.{drop, sym, ◌∙◌, arith}
 use Rattle.rb_rules.specs.Clock.{Timeline}
 use Rattle.rb_clock.proofs.Times.{IsAt, begins, none_left, one_length, one_product, one_sum}

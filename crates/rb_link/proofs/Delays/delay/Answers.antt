@@ -1,5 +1,4 @@
--- Without rules it is the base, and where the latest rule of the pair has the place it is this
--- rule's.
+-- Without rules it is the base, and if the latest rule of the pair has the place it is this rule's.
 use Rattle.std.proofs.Common.{◌≡◌, ◌∙◌, [], ap, subst, sym}
 use Rattle.rb_rules.specs.Links.{delay_after, delay_of}
 use Rattle.rb_link.specs.Pairs.{AreLatest, receiver_of}

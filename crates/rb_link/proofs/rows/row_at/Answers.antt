@@ -1,4 +1,4 @@
--- Where the sender's ranges have the place, its sixteen delays are those of its messages.
+-- If the sender's ranges have the place, its sixteen delays are those of its messages.
 use Rattle.std.proofs.Common.{sym, ◌∙◌}
 use Rattle.rb_link.proofs.NodeRows.{row_of_sixteen, sixteen_there}
 use Rattle.rb_link.proofs.rows.row_at.Goals as goal
