@@ -11,8 +11,8 @@ use rb_base::{Heard, Place};
 use rb_rules::Cause;
 
 /// The word that BIU `receiver` of the left or the right bus finds in a frame for those that
-/// crossed, as `x FRAME left RECEIVER WORD` or `x FRAME right RECEIVER WORD`. The word is `none`
-/// where `value` is Fault.
+/// crossed, as `x FRAME left RECEIVER WORD` or `x FRAME right RECEIVER WORD`. The word is `none` if
+/// `value` is Fault.
 pub fn cross_line(frame: u32, right: bool, receiver: u8, value: Heard) -> ArrayString<96>
     ensures bytes { result.bytes ≡ cross_text frame (bank_of right) receiver value }
 {

@@ -17,7 +17,7 @@ use std::alloc::Global;
 /// The most bytes of an input.
 const INPUT_LIMIT: usize = 4_194_304;
 
-// The bytes that the source has left, or the answer where they are too many or cannot be had.
+// The bytes that the source has left, or the answer if they are too many or cannot be had.
 fn read_input<S: Source>(alloc: Global, input: &mut S) -> Result<Vec<u8>, Status>
     ensures whole { IfOk result (λ v. ReadsToEnd (S.left input.old) (S.left input.new) v.items) }
     ensures short_enough { IfOk result (λ _. Gave (S.left input.old) (S.left input.new) (λ n. n ≤ input_limit)) }
@@ -59,7 +59,7 @@ fn refuse<K: Sink>(rule: BridgeRefusal, output: &mut K) -> Status
     }
 }
 
-/// The bridge that the source has left, or the answer where there is none.
+/// The bridge that the source has left, or the answer if there is none.
 pub(crate) fn read_document<S: Source, K: Sink>(
     alloc: Global,
     input: &mut S,

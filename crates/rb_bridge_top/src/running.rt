@@ -18,7 +18,7 @@ use rb_run::Ending;
 use rb_world::Drive;
 use std::alloc::Global;
 
-// The answer where a bridge ends so and all is written.
+// The answer if a bridge ends so and all is written.
 fn status_of(ending: Ending) -> Status
     ensures { result ≡ status_of ending }
 {

@@ -151,9 +151,7 @@ impl Clock {
     }
 
     /// The time at which the tick begins, in reference units, of ticks up to 2^33, which is more
-    /// than a node can have.
-    /// Without a way for clocks of one length a frame of the generated run with seed 7 costs
-    /// 1,411,700 instructions in place of 1,383,200.
+    /// than a node can have. This is the short cut "clock of one length" of docs/PERFORMANCE.md.
     #[inline(always)]
     pub fn late_at(&self, tick: u64) -> u64
         requires { tick ≤ 2 ^ 33 }

@@ -53,9 +53,9 @@ impl<K: Kind> Ballot<K> {
         self.vectors = [Heard::Fault; 16];
     }
 
-    /// The nodes to convict: of the `trusted` ones of the other kind those that more of the valid
-    /// vectors name than spare. Only the vectors of `senders`, the trusted nodes of kind K, count.
-    /// A vector is valid where it names none but the nodes that there are.
+    /// The nodes to convict: the `trusted` ones of the other kind that more of the valid vectors
+    /// name than spare. Only the vectors of `senders`, the trusted nodes of kind K, count. A vector
+    /// is valid if it names only nodes that there are.
     pub fn convicted(&self, senders: NodeSet<K>, trusted: NodeSet<K::Other>) -> NodeSet<K::Other>
         ensures { result
             ≡ convicted_by self.now.others senders trusted (vector_in self.now.vectors) }

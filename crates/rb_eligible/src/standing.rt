@@ -29,7 +29,7 @@ fn one_more(calm: u16) -> u16
     if calm < 4096 { calm + 1 } else { 4096 }
 }
 
-/// The set, with this node added where the test holds.
+/// The set, with this node added if the test holds.
 #[inline(always)]
 pub fn with_node_if<K: Copy>(set: NodeSet<K>, node: u8, holds: bool) -> NodeSet<K>
     requires { node < 16 }

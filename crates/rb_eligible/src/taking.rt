@@ -110,8 +110,8 @@ fn are_same(value: Option<Heard>, other: Option<Heard>) -> bool
     }
 }
 
-// The group with a run of which the same value was taken, or the larger of the two where a value
-// was taken of the run.
+// The group with a run whose sources have one value, or the larger of the two if the run has a
+// value.
 fn with_run<K: Copy>(lead: Group<K>, run: NodeSet<K>, value: Option<Heard>) -> Group<K>
     ensures { (j : ℕ) → j < 16 → has result.sources j ≡ true
         → ((has lead.sources j ≡ true) × (result.value ≡ lead.value))
@@ -196,8 +196,8 @@ fn take_runs<K: Copy>(
 }
 
 // Takes what came of the sources of the set, of each of which there is one arrival. If all say the
-// same word, which is nearly always so, nothing is counted: else a frame of the generated run with
-// seed 7 would cost 1,438,800 instructions in place of 1,383,200.
+// same word, which is nearly always so, nothing is counted: this is the short cut "arrivals alike"
+// of docs/PERFORMANCE.md.
 #[inline(always)]
 fn take_due<K: Copy>(
     inbox: &Inbox<K>,

@@ -33,7 +33,7 @@ fn has_end(bus: u8, low: u64, high: u32) -> bool
 }
 
 /// Whether there are as many bytes as the version has, with the check at the end and the bus's
-/// number where it has one. The check is right where the exclusive or of all bytes is 0.
+/// number if it has one. The check is right if the exclusive or of all bytes is 0.
 pub(crate) fn has_form(version: Version, low: u64, high: u32, len: u64) -> bool
     requires { len ≤ 12 }
     ensures { result ≡ has_form version (spelled low high len) }

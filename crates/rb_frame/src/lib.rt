@@ -85,7 +85,7 @@ pub fn encode(version: Version, message: &Message) -> ArrayVec<u8, 12>
 }
 
 // Whether there are as many bytes as the version has, with the check at the end and the bus's
-// number where it has one.
+// number if it has one.
 fn has_form(version: Version, bytes: &[u8]) -> bool
     ensures value { result ≡ has_form version bytes.now }
     ensures enough { IsTrue result → 11 ≤ length bytes.now }

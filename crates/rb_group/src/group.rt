@@ -43,7 +43,7 @@ impl Group {
         }
     }
 
-    /// Keeps the value of a delivery, where its sender is a member of which none is kept. Else
+    /// Keeps the value of a delivery if its sender is a member of which none is kept. Otherwise
     /// nothing changes.
     pub fn hear(&mut self, delivery: Delivery)
         ensures heard { (deliveries : List Delivery) → HasHeard self.old deliveries

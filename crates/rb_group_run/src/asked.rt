@@ -13,8 +13,8 @@ pub struct Asked {
     pub members: NodeSet<Biu>,
 }
 
-/// What of a scenario tells who is asked: the bus's size, the number of frames, and from where on
-/// nodes are not good.
+/// The part of a scenario that decides which receivers are asked: the bus's size, the number of
+/// frames, and from which slot on nodes are not good.
 #[derive(Clone, Copy, Debug, PartialEq, Eq)]
 pub struct Scope {
     pub shape: Shape,

@@ -6,7 +6,7 @@ use crate::held::{Held, close, empty, open};
 use std::alloc::Global;
 
 /// A node in a host's hands, or none. A host keeps the struct where it likes and touches no field
-/// of it. One in C begins with zeros.
+/// of it. A handle in C begins as zeros.
 #[repr(C)]
 #[derive(Drop)]
 pub struct Handle {

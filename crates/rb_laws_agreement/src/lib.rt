@@ -18,11 +18,11 @@ pub fn votes_agree()
     ensures { VotesAgree }
 {}
 
-/// In one slot below the sync slot, whatever comes of the nodes that are not good: all good nodes
-/// that vote on it vote alike, for what the sender says where that is good; in a data slot each
-/// good BIU delivers that vote; and no good node accuses a good one. The premise is that in stages
-/// 2 and 3 more of what each good node takes comes of good sources than of others, and that of one
-/// kind no node is asymmetric.
+/// In one slot below the sync slot, whatever nodes that are not good do: all good nodes that vote
+/// on it vote alike, for what the sender says if the sender is good; in a data slot each good BIU
+/// delivers that vote; and no good node accuses a good one. The premise is that in stages 2 and 3
+/// each good node accepts more from good sources than from others, and that no node of one of the
+/// kinds is asymmetric.
 pub fn one_slot_agrees()
     ensures { OneSlotAgrees }
 {}
@@ -101,7 +101,8 @@ pub fn time_is_all_that_is_left()
     ensures { TimeIsAllThatIsLeft }
 {}
 
-/// Then all that the bus promises holds.
+/// If good nodes begin frames at most `p` reference units apart, and each frame takes as long as it
+/// must, all that the bus promises holds.
 pub fn time_keeps_the_promise()
     ensures { TimeKeepsThePromise }
 {}

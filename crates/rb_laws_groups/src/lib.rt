@@ -26,13 +26,13 @@ pub fn frames_have_a_schedule()
     ensures { FramesHaveASchedule }
 {}
 
-/// In such a frame, where the members that own a slot and offer a word as good owners outnumber the
+/// In such a frame, if the members that own a slot and offer a word as good owners outnumber the
 /// other members that own one, the voter `most` finds this word at each such BIU.
 pub fn most_finds_the_word()
     ensures { MostFindsTheWord }
 {}
 
-/// In such a frame, where the good owners among the members outnumber the other members that own a
+/// In such a frame, if the good owners among the members outnumber the other members that own a
 /// slot, the voter `mid` finds a word at each such BIU, one between the least and the greatest of
 /// those that the good owners offer.
 pub fn mid_stays_between()

@@ -8,8 +8,8 @@ pub fn letters_are_read()
     ensures { LettersAreRead }
 {}
 
-/// Words that are the first of some letters' words, but for zeros anywhere between them, give the
-/// first of these letters, each whole and once, and all of them where all their words are there.
+/// Words that are the first of some letters' words, with zeros anywhere between them, give the
+/// first of these letters, each whole and once, and all of them if all their words are there.
 pub fn words_give_their_letters()
     ensures { WordsGiveTheirLetters }
 {}

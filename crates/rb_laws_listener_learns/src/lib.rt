@@ -21,7 +21,7 @@ pub fn a_listener_beside_a_run()
     ensures calm { IsCalm two_frames [] ear 1 decided.lesson.records 1 4 }
 {}
 
-/// An RMU is good in the whole run just where it is good in each slot to which the run comes.
+/// An RMU is good in the whole run if and only if it is good in each slot to which the run comes.
 pub fn always_good_is_good_in_each_slot()
     ensures { AlwaysGoodIsGoodInEachSlot }
 {}
@@ -32,7 +32,7 @@ pub fn faulty_rmus_may_speak_by_any_clock()
     ensures { FaultyRmusMaySpeakByAnyClock }
 {}
 
-/// What a listener tells beside a run is what it tells where it is given the ticks and messages one
+/// What a listener tells beside a run is what it tells if it is given the ticks and messages one
 /// after another.
 pub fn ears_are_fed_events()
     ensures { EarsAreFedEvents }

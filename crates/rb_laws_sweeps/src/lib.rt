@@ -138,8 +138,8 @@ pub fn ticks_behind_are_in_time()
 
 /// A tick, one of those that a node may have, that ends a window of a slot before the sync slot
 /// gives the same whatever stamps what came has, and however many of the ticks before it were
-/// counted. So where a run takes what came to a node together, right before such a tick, it needs
-/// no stamps.
+/// counted. A run that takes what came to a node together, right before such a tick, therefore
+/// needs no stamps.
 pub fn stamps_make_no_difference()
     ensures { StampsMakeNoDifference }
 {}

@@ -50,8 +50,8 @@ impl Model for Delays {
 }
 
 /// Which rules are for each pair of nodes: `places` holds the numbers of the rules, pair by pair,
-/// and `starts` where those of each pair begin and the last end. If there are too many rules to be
-/// numbered, both are empty.
+/// and `starts` the places at which those of each pair begin and the last end. If there are too
+/// many rules to be numbered, both are empty.
 #[derive(Drop)]
 struct Index {
     starts: Vec<usize>,
@@ -96,7 +96,7 @@ fn add_places(
     Ok(())
 }
 
-// The next pair begins where the places end that are there.
+// The next pair begins at the end of the places that are there.
 fn add_start(starts: &mut Vec<usize>, places: &[u16]) -> Result<(), OutOfMemory>
     ensures { IfOk result (λ _. starts.new.items ≡ starts.old.items ++ length places.now ∷ []) }
 {
@@ -188,9 +188,9 @@ impl Delays {
     }
 
     /// The delays, in reference units, of a message of this place from the node to the nodes of the
-    /// other kind, at their numbers. There are 16, where the node's number is below 16 and the
-    /// place is one that, for each of these 16 nodes, the latest of the rules for messages from the
-    /// one to the other has, if there are any for them. Else the row is empty.
+    /// other kind, at their numbers. There are 16 if the node's number is below 16 and the place is
+    /// one that, for each of these 16 nodes, the latest of the rules for messages from the one to
+    /// the other has, if there are any for them. Otherwise the row is empty.
     #[inline]
     pub fn row(&self, from: NodeName, place: Place) -> &[u32]
         ensures delays { IsRow self.now from place result.now }

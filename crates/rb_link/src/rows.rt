@@ -108,8 +108,8 @@ pub(crate) fn sender_number(from: NodeName) -> Option<u16>
     }
 }
 
-// The delays of the sender's messages of this place. Empty where its latest rules do not all have
-// it.
+// The delays of the sender's messages of this place. The row is empty if the latest of its rules do
+// not all have the place.
 #[inline]
 #[tactic(auto, using(crate::proofs::NodeRows::row_found))]
 pub(crate) fn row_at<'a>(shared: &[Ranges], flat: &'a [u32], sender: u16, place: Place) -> &'a [u32]

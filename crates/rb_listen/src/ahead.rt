@@ -15,7 +15,7 @@ use rb_slot::Engine;
 /// What is ahead of a follower.
 #[derive(Clone, Copy)]
 pub struct Ahead {
-    // Its next tick that is not quiet, or 2^31 if there is none.
+    // The follower's next tick that is not quiet, or 2^31 if there is none.
     pub(crate) tick: u64,
     // The window of all ticks up to that one.
     pub(crate) window: Window,

@@ -214,9 +214,9 @@ impl Listener {
     }
 
     /// A tick of the listener's clock. While it learns it decides at the tick that a pass fixed: it
-    /// waits for the first frame after the one that it learned, or learns the next where none can
-    /// be known. With its first epoch it begins to follow. It tells of each frame that starts, and
-    /// of what it delivers in the window that it closes. A listener that has had 2^31 ticks tells
+    /// waits for the first frame after the one that it learned, or learns the next if none can be
+    /// known. With its first epoch it begins to follow. It tells of each frame that starts, and of
+    /// what it delivers in the window that it closes. A listener that has had 2^31 ticks tells
     /// nothing and does not change.
     pub fn tick(&mut self) -> Heed
         ensures stands { (l : Listening) → IsListening self.old l

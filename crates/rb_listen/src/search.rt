@@ -101,7 +101,7 @@ fn call(search: &mut Search, j: u8, frame: u16)
     });
 }
 
-// A message of RMU `j` is recorded, where a frame is learned.
+// A message of RMU `j` is recorded if a frame is learned.
 fn record(search: &mut Search, shape: &Shape, j: u8, message: &Message)
     requires { j < 16 }
     ensures { search.new ≡ recorded shape.now j message.now search.old }
@@ -151,8 +151,8 @@ fn learn_next(search: &mut Search)
     learn(search, next);
 }
 
-// The listener decides by its lesson: it waits for the first frame, where that starts after the
-// decision. Else it learns the next.
+// The listener decides by its lesson: it waits for the first frame, if that starts after the
+// decision. Otherwise it learns the next one.
 fn decide(search: &mut Search, plan: &Feasible) -> Stage
     requires soon { AreSoon search.old.lesson.records }
     requires had { search.old.had < 2 ^ 31 }
@@ -167,7 +167,7 @@ fn decide(search: &mut Search, plan: &Feasible) -> Stage
     }
 }
 
-// The listener waits for the first frame that it follows, where that starts after the decision.
+// The listener waits for the first frame that it follows, if that starts after the decision.
 fn wait(search: &mut Search, first: First) -> Stage
     requires soon { AreSoon search.old.lesson.records }
     requires had { search.old.had < 2 ^ 31 }

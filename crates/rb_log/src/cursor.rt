@@ -95,7 +95,7 @@ impl<'a> Cursor<'a> {
         passed
     }
 
-    // Begins the next record where it is of ticks with word 0, and says whether it is.
+    // Begins the next record if it is of ticks with word 0, and says whether it is.
     fn begin_zeros(&mut self) -> bool
         requires sound { IsSound self.old }
         requires none { self.old.zeros ≡ 0 }

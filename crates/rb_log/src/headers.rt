@@ -54,7 +54,7 @@ fn has_first_form(plan: &Plan) -> bool
     }
 }
 
-/// The header of a log: 50 bytes where the version of messages is One and accusations do not lapse,
+/// The header of a log: 50 bytes if the version of messages is One and accusations do not lapse,
 /// else 54. The node is one of the bus.
 #[tactic(auto, unfolding(crate::specs::Header::header_of))]
 pub fn header(plan: &Feasible, node: NodeName) -> ArrayVec<u8, 54>

@@ -80,9 +80,9 @@ fn open_behind<'a>(header: &Header, bytes: &'a [u8]) -> Result<LogReader<'a>, Lo
 
 impl<'a> LogReader<'a> {
     /// Looks at a whole log, from the front to its end, and gives its reader, or else the first
-    /// fault and its place: BadMagic where the first four bytes are those of no log, BadField where
-    /// a field that is there whole has a number that it may not have, Truncated where the bytes end
-    /// too early, AfterEnd where a byte follows the end.
+    /// fault and its place: BadMagic if the first four bytes are those of no log, BadField if a
+    /// field that is there whole has a number that it may not have, Truncated if the bytes end too
+    /// early, AfterEnd if a byte follows the end.
     pub fn open(bytes: &'a [u8]) -> Result<LogReader<'a>, LogRefusal>
         ensures log { IfOk result (λ log. log_in bytes.now ≡ Ok log) }
         ensures refused { IfErr result (λ fault. log_in bytes.now ≡ Err fault) }

@@ -10,7 +10,7 @@ use arrayvec::ArrayVec;
 use rb_base::Heard;
 use std::mem;
 
-// A reader of one sender's values. A letter is open where fewer bytes have come than it is to have.
+// A reader of one sender's values. A letter is open if fewer bytes have come than it will have.
 #[derive(Drop)]
 pub(crate) struct Reader {
     pub wanted: u8,

@@ -4,7 +4,7 @@ use thiserror::Error;
 /// Why a letter is not taken to be sent.
 #[derive(Clone, Copy, Debug, PartialEq, Eq, Error)]
 pub enum LongRefusal {
-    /// It has no byte, or more than 255.
+    /// The letter has no byte, or more than 255.
     #[error("a letter has 1 to 255 bytes")]
     Length,
     /// Eight letters are not wholly sent.

@@ -25,7 +25,7 @@ pub struct Busy {
 /// What is ahead of a node.
 #[derive(Clone, Copy)]
 pub struct Ahead {
-    // Its next tick that is not quiet, or 2^31 if there is none.
+    // The node's next tick that is not quiet, or 2^31 if there is none.
     pub(crate) busy: Busy,
     // The window of all ticks up to that one.
     pub(crate) window: Window,
@@ -350,8 +350,8 @@ fn look_anew<K: Kind>(engine: &Engine<K>, ahead: &mut Ahead, had: u64)
     look_ahead(engine, ahead, had);
 }
 
-// The tick of what is said next in a window below the sync slot, else its last tick, where no frame
-// begins in it.
+// The tick of what is said next in a window below the sync slot, or its last tick if nothing is
+// said, if no frame begins in it.
 #[inline(always)]
 fn word_or_end<K: Kind>(engine: &Engine<K>, window: &Window, had: u64, last: u64) -> Busy
     requires index { engine.now.index < 16 }

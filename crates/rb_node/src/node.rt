@@ -133,8 +133,8 @@ impl<K: Kind> Node<K> {
     }
 
     /// Whether its next tick that is not quiet is the last of a window of a slot before the sync
-    /// slot, and no frame begins with it. Mostly that is known beforehand: without what is known a
-    /// frame of the generated run with seed 7 costs 1,406,600 instructions in place of 1,383,200.
+    /// slot, and no frame begins with it. That is usually known beforehand: this is the short cut
+    /// "end known beforehand" of docs/PERFORMANCE.md.
     #[inline(always)]
     pub fn ends_exact_window(&self) -> bool
         ensures { TellsExactEnd (side_of K.CODE) self.now result }

@@ -10,7 +10,7 @@ pub struct Failed;
 
 /// Bytes that come in, in order.
 pub trait Source {
-    /// The bytes still to come, where the source tells them.
+    /// The bytes still to come, if the source tells them.
     ghost left: { Self → Option (List ℕ) };
 
     /// How many calls have failed, up to 2^64-1.
@@ -28,7 +28,7 @@ pub trait Source {
 
 /// Bytes that go out, in order.
 pub trait Sink {
-    /// The bytes taken, where the sink tells them.
+    /// The bytes accepted so far, if the sink tells them.
     ghost held: { Self → Option (List ℕ) };
 
     /// How many calls have failed, up to 2^64-1.

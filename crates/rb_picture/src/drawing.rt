@@ -335,7 +335,7 @@ fn push_spread(out: &mut Vec<u8>, extent: Extent, y: u64, begins: Begins) -> Res
     )
 }
 
-// The axis of the starts, where they spread.
+// The axis of the starts, if they spread.
 #[tactic(auto, unfolding(crate::specs::Drawing::with_axis))]
 fn push_axis(out: &mut Vec<u8>, extent: Extent, frame: u32) -> Result<(), OutOfMemory>
     ensures { OnOk result (out.new.items ≡ with_axis extent frame out.old.items) }

@@ -229,7 +229,7 @@ fn line_of_text(bytes: &[u8]) -> Option<Line>
     }
 }
 
-// The line, where its text is this.
+// The line, if its text is this.
 fn checked(line: Option<Line>, bytes: &[u8]) -> Option<Line>
     ensures some { IfSome result (λ l. bytes.now ≡ line_text l) }
     ensures each { (l : Line) → line ≡ Some l → bytes.now ≡ line_text l → result ≡ Some l }
@@ -268,7 +268,7 @@ fn line_length(bytes: &[u8]) -> Option<usize>
     None
 }
 
-// What stands first in the bytes, behind the place where the lines before end: a line, and how many
+// What the bytes begin with, behind the place at which the lines before end: a line, and how many
 // bytes it has.
 #[tactic(auto, using(crate::proofs::Orders::reading_steps))]
 fn next_line(bytes: &[u8], newest: u64) -> Result<(Line, usize), Fault>

@@ -80,7 +80,7 @@ fn fails(left: i128, right: i128) -> bool
 }
 
 /// The left and the right side of an inequality of the plan, from 1 to 7, in reference units. The
-/// inequality fails where the left side is below the right one.
+/// inequality fails if the left side is below the right one.
 pub fn sides(shape: &Shape, plan: &Plan, n: u8) -> (i128, i128)
     requires plan { IsPlan plan.now }
     requires first { 1 ≤ n }
@@ -188,7 +188,7 @@ impl Model for Feasible {
 }
 
 impl Feasible {
-    /// The shape with the plan, where all seven inequalities hold, else the number of the first
+    /// The shape with the plan, if all seven inequalities hold, or else the number of the first
     /// that fails.
     pub fn new(shape: &Shape, plan: &Plan) -> Result<Feasible, u8>
         requires { IsPlan plan.now }

@@ -114,7 +114,7 @@ impl Apps {
         }
     }
 
-    /// Its state after the slot's delivery from that sender. None stands for Fault.
+    /// The application's state after the slot's delivery from that sender. None stands for Fault.
     pub fn learn(&self, app: u8, state: u64, slot: u16, sender: u8, value: Option<u32>) -> u64
         requires { app < 3 }
         ensures { result ≡ learned_by app state value }

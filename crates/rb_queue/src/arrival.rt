@@ -75,7 +75,7 @@ impl Arrival {
         self.from
     }
 
-    /// Its bytes, kept as numbers.
+    /// The arrival's bytes, kept as numbers.
     #[inline(always)]
     pub fn spelling(&self) -> &Spelling
         ensures { result.now ≡ self.now.bytes }
@@ -83,14 +83,14 @@ impl Arrival {
         &self.spelling
     }
 
-    /// Its bytes, in the form in which an event holds them.
+    /// The arrival's bytes, in the form in which an event holds them.
     pub fn held(&self) -> ArrayVec<u8, 32>
         ensures { result.items ≡ self.now.bytes }
     {
         self.spelling.held()
     }
 
-    // It, as an event of the node.
+    // The arrival, as an event of the node.
     pub(crate) fn event(&self, node: NodeName) -> Event
         ensures { result ≡ event_with node (Comes 0 self.now) }
     {

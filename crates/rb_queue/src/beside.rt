@@ -1,5 +1,4 @@
-//! What is looked up among all that is pending at one node, where something is kept beside the
-//! lane.
+//! What is looked up among all that is pending at one node, if something is kept beside the lane.
 ghost use Rattle.std.specs.Prelude.{◌≡◌, ◌+◌, ◌<◌, ◌≤◌, ◌++◌, length, map, MatchResult, Option, option_to_list, Some};
 ghost use Rattle.rb_base.specs.Counting.{count_if};
 ghost use Rattle.rb_rules.specs.WorldStep.{least};

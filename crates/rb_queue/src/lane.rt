@@ -310,8 +310,8 @@ impl Lane {
     }
 
     /// Drops the arrivals that are due before this time, and nothing else. The others stay in the
-    /// order of pushing. Mostly there are none, or all come before: without a look for that a frame
-    /// of the generated run with seed 7 costs 1,469,700 instructions in place of 1,383,200.
+    /// order of pushing. Usually none or all of them are due before: this is the short cut
+    /// "arrivals dropped at once" of docs/PERFORMANCE.md.
     #[inline(always)]
     pub fn drop_before(&mut self, until: u64)
         ensures { self.new ≡ without_before until self.old }

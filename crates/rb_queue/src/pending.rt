@@ -38,7 +38,7 @@ impl Pending {
         first <= source && source < end && self.time == time
     }
 
-    // It, as it was pushed.
+    // The event as it was pushed.
     pub(crate) fn event(&self) -> Event
         ensures { result ≡ self.now.event }
     {

@@ -56,7 +56,7 @@ pub(crate) fn is_sooner(tick: Option<u64>, time: u64) -> bool
     }
 }
 
-// The least time, where the first arrival stands at this place.
+// The least time, if the first arrival is at this place.
 pub(crate) fn least_time(arrivals: &[Arrival], first: usize, tick: Option<u64>) -> Option<u64>
     requires { HasFirst arrivals.now first }
     ensures { result ≡ least (option_to_list tick ++ map (λ c. c.time) arrivals.now) }

@@ -64,8 +64,8 @@ impl<'a, K: Sink> Recorder<'a, K> {
         }
     }
 
-    /// Writes what waits, where a frame begins with this turn, and tells whether each write
-    /// succeeded so far.
+    /// Writes what waits if a frame begins with this turn, and tells whether each write succeeded
+    /// so far.
     pub(crate) fn settle(&mut self, turn: &Turn) -> Result<(), Failed>
         ensures settles { Settles K.held K.faults self.old self.new }
         ensures told { result ≡ self.new.written }

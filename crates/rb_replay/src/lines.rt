@@ -29,7 +29,7 @@ fn write_two<S: Sink>(
     write_line(output, second)
 }
 
-// Writes the start of a frame, where one begins: its first tick, and whom the node or the listener
+// Writes the start of a frame, if one begins: its first tick, and whom the node or the listener
 // holds convicted.
 #[inline(always)]
 fn write_epoch<S: Sink>(node: NodeName, epoch: Option<Epoch>, output: &mut S) -> Result<(), Failed>

@@ -17,7 +17,7 @@ mod fields;
 mod names;
 
 /// The start of a frame at a node, as `e FRAME NODE TICK TIME`: the tick of its clock with which
-/// the frame begins, and the reference time of that tick where it is known.
+/// the frame begins, and the reference time of that tick if it is known.
 pub fn epoch_line(frame: u32, node: NodeName, tick: u64, time: Option<u64>) -> ArrayString<96>
     ensures bytes { result.bytes ≡ epoch_text frame node tick time }
 {
@@ -62,7 +62,7 @@ pub fn port_line(frame: u32, biu: u8, state: u64, losses: u8) -> ArrayString<96>
 }
 
 /// A delivery, as `d FRAME SLOT RECEIVER SENDER WORD`: BIU `receiver` delivers the word of BIU
-/// `sender` in that slot of the frame. The word is `none` where `value` is Fault.
+/// `sender` in that slot of the frame. The word is `none` if `value` is Fault.
 pub fn delivery_line(
     frame: u32,
     slot: u16,
@@ -109,9 +109,9 @@ pub fn breach_line(place: Place, cause: Cause) -> ArrayString<96>
     line
 }
 
-/// Why an input is refused, as `refused CODE NAME`: the rule that it breaks, a log's where `of_log`
-/// and else a scenario's. A last field is the number of the inequality that a plan fails, or the
-/// place in a log, where the rule has one.
+/// Why an input is refused, as `refused CODE NAME`: the rule that it breaks, one of logs if
+/// `of_log`, and otherwise one of scenarios. A last field is the number of the inequality that a
+/// plan fails, or the place in a log, if the rule has one.
 pub fn refused_line(code: u8, detail: Option<u64>, of_log: bool) -> ArrayString<96>
     requires { IsRefusal code detail of_log }
     ensures bytes { result.bytes ≡ refused_text code detail of_log }
@@ -189,7 +189,7 @@ pub fn word_line(word: u64) -> ArrayString<96>
 }
 
 /// The value that BIU `receiver` finds for a group of replicas in a frame, as `g FRAME RECEIVER
-/// WORD`. The word is `none` where `value` is Fault.
+/// WORD`. The word is `none` if `value` is Fault.
 pub fn group_line(frame: u32, receiver: u8, value: Heard) -> ArrayString<96>
     ensures bytes { result.bytes ≡ group_text frame receiver value }
 {

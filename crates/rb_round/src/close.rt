@@ -9,8 +9,7 @@ use rb_eligible::{Inbox, Standing, is_quiet};
 use rb_rules::{Closing, Expect};
 
 /// Closes a stage as `close_stage` does, in place: its closing is written over that of an earlier
-/// stage. Without a look for a quiet window a frame of the generated run with seed 7 costs
-/// 1,698,500 instructions in place of 1,383,200.
+/// stage. This is the short cut "quiet window" of docs/PERFORMANCE.md.
 #[inline(always)]
 pub fn close_in_place<K: Copy>(
     inbox: &Inbox<K>,

@@ -19,9 +19,8 @@ use rb_vote::majority_taken;
 
 pub mod close;
 
-// The vote over what was taken. If more than half of it is known to be alike, it is that value.
-// Were that counted again, a frame of the generated run with seed 7 would cost 1,475,800
-// instructions in place of 1,383,200.
+// The vote over what was taken. If more than half of it is known to be alike, the vote is that
+// value: this is the short cut "known majority" of docs/PERFORMANCE.md.
 fn vote(taken: &[Option<Heard>; 16], alike: bool, value: Heard) -> Heard
     requires { IsTrue alike → majority_of (present taken.now) ≡ value }
     ensures { result ≡ majority_of (present taken.now) }

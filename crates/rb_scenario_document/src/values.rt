@@ -78,7 +78,7 @@ pub fn number_at(table: &Table, key: &str, low: u64, high: u64) -> u64
     number_or(member(table, key), 0)
 }
 
-/// The number at a key, or the default where none stands there.
+/// The number at a key, or the default if the key is not there.
 pub fn number_else(table: &Table, key: &str, default: u64, low: u64, high: u64) -> u64
     requires stands { may_have_number key.now low high (table_view table.now) ≡ true }
     requires low { low ≤ default }
@@ -132,7 +132,7 @@ pub fn may_have_range(table: &Table, key: &str, low: u64, high: u64) -> bool
     absent_or(&Range { low, high }, member(table, key))
 }
 
-/// The pair at a key, within the bounds; the bounds where none stands there.
+/// The pair at a key, within the bounds; the bounds if the key is not there.
 pub fn range_at(table: &Table, key: &str, low: u64, high: u64) -> (u64, u64)
     requires stands { may_have_range key.now low high (table_view table.now) ≡ true }
     requires order { low ≤ high }
@@ -146,7 +146,7 @@ pub fn range_at(table: &Table, key: &str, low: u64, high: u64) -> (u64, u64)
     }
 }
 
-/// The pair at a key; zeros where none stands there.
+/// The pair at a key; zeros if the key is not there.
 pub fn pair_at(table: &Table, key: &str) -> (u64, u64)
     ensures { result ≡ range_at key.now (0, 0) (table_view table.now) }
 {

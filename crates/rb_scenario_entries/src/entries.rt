@@ -51,8 +51,8 @@ fn note_node(seen: &mut Seen, name: NodeName) -> bool
     }
 }
 
-/// Notes the node that an entry is for, where the value is one. Whether no node that was seen is
-/// named again.
+/// Notes the node that an entry is for, if the value is one. Whether no node that was seen is named
+/// again.
 fn note_entry(shape: &Shape, value: &Value, seen: &mut Seen) -> bool
     ensures { (names : List NodeName) → All IsNumbered names
         → are_new seen.old (nodes_in shape.now (option_to_list (as_table (view value.now)))

@@ -1,4 +1,4 @@
-//! Fault entries: from where on some nodes are not good.
+//! Fault entries: the frame and the slot from which on nodes are not good.
 ghost use Rattle.std.specs.Prelude.{◌≡◌, true, codes, IfSome};
 ghost use Rattle.std.specs.List.{list_all};
 ghost use Rattle.toml.specs.View.{table_view};
@@ -59,7 +59,7 @@ fn onset_of(bus: &Bus, entry: &Table) -> (u32, u16)
     (frame as u32, slot as u16)
 }
 
-/// From where on the node is not good, if it ever is not.
+/// The frame and the slot from which on the node is not good, if it ever is not.
 fn onset_for(bus: &Bus, table: &Table, name: NodeName) -> Option<(u32, u16)>
     requires { list_all (is_fault bus.now) (entries_at (codes "fault") (table_view table.now))
         ≡ true }

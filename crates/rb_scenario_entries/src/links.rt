@@ -83,7 +83,7 @@ fn rule_of(bus: &Bus, entry: &Table) -> Rule
     }
 }
 
-/// Takes the rule of an entry, where the value is one.
+/// Takes the rule of an entry, if the value is one.
 fn take_rule(bus: &Bus, value: &Value, rules: &mut Vec<Rule>) -> Result<(), AllocError>
     requires { list_all (is_link bus.now) (option_to_list (as_table (view value.now))) ≡ true }
     ensures { OnOk result (rules.new.items

@@ -53,8 +53,7 @@ fn ticks_in_sync(plan: &Plan, stage: u64) -> u64
     }
 }
 
-/// Whether the offset lies in the window of this stage of the sync slot, where the range has the
-/// stage.
+/// Whether the offset is in the window of this stage of the sync slot, if the range has the stage.
 fn lies_in_stage(plan: &Plan, stages: (u64, u64), offset: u64, stage: u64) -> bool
     ensures { result ≡ lies_in_stage plan.now stages offset stage }
 {
@@ -268,7 +267,7 @@ fn say_of(bus: &Bus, entry: &Table) -> Say
     }
 }
 
-/// Takes what an entry says, where the value is one.
+/// Takes what an entry says, if the value is one.
 fn take_say(bus: &Bus, value: &Value, says: &mut Vec<Say>) -> Result<(), AllocError>
     requires bus { bus.now.plan.h < 2 ^ 32 }
     requires says { list_all (is_say bus.now) (option_to_list (as_table (view value.now))) ≡ true }

@@ -14,8 +14,8 @@ use rb_base::{Kind, Shape};
 use rb_rules::Role;
 
 // What is kept of one slot, so that it is not worked out again in each stage: what it is for, who
-// sends in stage 1, and by stage whether this node speaks. Without it a frame of the generated run
-// with seed 7 costs 1,474,400 instructions in place of 1,383,200.
+// sends in stage 1, and by stage whether this node speaks. This is the short cut "kept slot" of
+// docs/PERFORMANCE.md.
 #[derive(Clone, Copy)]
 pub(crate) struct KeptSlot {
     pub(crate) slot: u16,
@@ -24,7 +24,7 @@ pub(crate) struct KeptSlot {
     pub(crate) spoken: [bool; 4],
 }
 
-// What is kept where no slot is: that of a slot past all others, in which nobody speaks.
+// What is kept if there is no slot: that of a slot past all others, in which nobody speaks.
 pub(crate) fn no_slot(shape: &Shape) -> KeptSlot
     ensures { (me : Side) (index near far : ℕ) (owners : List ℕ)
         → IsKeptSlot shape.now me index near far owners result }

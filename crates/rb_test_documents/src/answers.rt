@@ -110,7 +110,7 @@ impl Answerer {
         }
     }
 
-    // How the program answers where these calls fail, by their numbers.
+    // How the program answers if these calls fail, by their numbers.
     fn in_memory(
         &self,
         alloc: Global,
@@ -149,8 +149,7 @@ impl Answerer {
         answer_of(alloc, (status, Some(output.calls())), output.bytes())
     }
 
-    /// How the program answers these words and this input, of which the first read fails where
-    /// there is none.
+    /// How the program answers these words and this input; if there is none, the first read fails.
     pub(crate) fn answer(
         &self,
         alloc: Global,

@@ -66,7 +66,7 @@ fn write_unlike(
     Ok(())
 }
 
-// Hands B0 the state where frame 1 begins, and writes what is unlike the plain run then.
+// Hands B0 the state as frame 1 begins, and writes what is unlike the plain run then.
 fn write_changes(
     alloc: Global,
     apps: &Apps,
@@ -87,8 +87,8 @@ fn write_changes(
     Ok(())
 }
 
-/// The records of the document's run that are others where B0 is handed the state as frame 1
-/// begins, each behind its number.
+/// The records of the document's run that change if B0 is handed the state as frame 1 begins, each
+/// behind its number.
 pub(crate) fn changed_records(
     alloc: Global,
     apps: &Apps,

@@ -39,7 +39,7 @@ pub(crate) enum Step<'a> {
     Numbers,
     /// This number of events of the document's run.
     Events(u64),
-    /// What is changed where B0 is handed this state as frame 1 begins.
+    /// What changes if B0 is handed this state as frame 1 begins.
     Hand(u64),
 }
 

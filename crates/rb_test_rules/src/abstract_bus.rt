@@ -62,8 +62,8 @@ pub fn steps_of_the_bus()
         (bus_after_frame sizes 9079092 at_a_quiet_end) }
     ensures run { IsRun ordinary_use offered 2 first_slots }
     ensures counted { map (steps_to sizes 1) (0 ∷ 19 ∷ []) ≡ (20 ∷ 39 ∷ []) }
-    // Values that a slot cannot have: Fault, or another word than it is offered, where its sender
-    // is good, and a word where it is idle.
+    // Values that a slot cannot have: Fault, or another word than it is offered, if its sender is
+    // good, and a word if it is idle.
     ensures fault_of_a_good_sender { ¬ MayHave ordinary_use scheduled (offered 0 4) (Data 0)
         (Node 0) Fault }
     ensures another_word { ¬ MayHave ordinary_use scheduled (offered 0 4) (Data 0) (Node 0)

@@ -15,7 +15,7 @@ pub fn one_faulty_node()
     // A BIU says another word to one RMU in its data slot: all good BIUs deliver what the other
     // RMUs relay, and all convict it.
     ensures asymmetric_sender { records_of asymmetric_sender [] ≡ asymmetric_sender_records }
-    // It says three different words: all good BIUs deliver none.
+    // A BIU says three different words: all good BIUs deliver none.
     ensures no_majority { records_of no_majority [] ≡ no_majority_records }
     // An RMU of which all else is right relays a request in the last tick of the window: nobody
     // accuses it.

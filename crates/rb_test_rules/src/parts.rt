@@ -83,7 +83,7 @@ pub fn slots_and_senders()
         ≡ (Node 0 ∷ Nobody ∷ Node 3 ∷ Nobody ∷ EachTrusted ∷ []) }
     ensures diagnosis { map (sender_in 13 3 []) (DiagBiu 1 ∷ DiagBiu 2 ∷ DiagRmu 1 ∷ DiagRmu 2 ∷ [])
         ≡ (Nobody ∷ Node 2 ∷ Node 1 ∷ Nobody ∷ []) }
-    // Whom the nodes of a kind expect in the stages of a slot, where BIU 1 is convicted.
+    // Which nodes the nodes of a kind expect in the stages of a slot, if BIU 1 is convicted.
     ensures schedule_slot_at_rmus { map
         (λ stage. set_of (expects Rmu (Schedule 2) (Node 2) 13 stage)) (1 ∷ 2 ∷ 3 ∷ [])
         ≡ (4 ∷ 0 ∷ 13 ∷ []) }

@@ -20,12 +20,11 @@ use rb_world::Drive;
 use std::alloc::Global;
 
 /// `run`: reads a scenario, runs it and writes the report of the drive's turns, a line at a time.
-///
-/// Times in the report are in units, ticks are of a node's own clock. `Done`, and `Breach` where
-/// the run ends with a breach of the fault premise: all is written. `Refused`: the input breaks a
-/// rule of scenarios, and one line says which. `TooLong`: the source gave more than 4,194,304
-/// bytes. `ReadFault`, `WriteFault`: the source or the sink failed. `OutOfMemory`: an allocation
-/// failed before anything was written. `Usage` never comes.
+/// Times in the report are in units, ticks are of a node's own clock. `Done`, and `Breach` if the
+/// run ends with a breach of the fault premise: all is written. `Refused`: the input breaks a rule
+/// of scenarios, and one line says which. `TooLong`: the source gave more than 4,194,304 bytes.
+/// `ReadFault`, `WriteFault`: the source or the sink failed. `OutOfMemory`: an allocation failed
+/// before anything was written. `Usage` is never the answer.
 pub fn run<S: Source, K: Sink, D: Drive>(
     alloc: Global,
     input: &mut S,

@@ -49,7 +49,7 @@ pub(crate) fn refuse_member<K: Sink>(output: &mut K) -> Status
     refuse_with(&line, output)
 }
 
-// The bytes that the source has left, or the answer where they are more than the limit or cannot be
+// The bytes that the source has left, or the answer if they are more than the limit or cannot be
 // had.
 fn read_within<S: Source>(alloc: Global, input: &mut S, limit: usize) -> Result<Vec<u8>, Status>
     requires { limit < 2 ^ 32 }
@@ -68,7 +68,7 @@ fn read_within<S: Source>(alloc: Global, input: &mut S, limit: usize) -> Result<
     }
 }
 
-/// The scenario that the source has left, or the answer where there is none.
+/// The scenario that the source has left, or the answer if there is none.
 pub(crate) fn read_scenario<S: Source, K: Sink>(
     alloc: Global,
     input: &mut S,
@@ -89,7 +89,7 @@ pub(crate) fn read_scenario<S: Source, K: Sink>(
     }
 }
 
-/// The bytes of a log that the source has left, or the answer where they are too many or cannot be
+/// The bytes of a log that the source has left, or the answer if they are too many or cannot be
 /// had.
 pub(crate) fn read_log<S: Source>(alloc: Global, input: &mut S) -> Result<Vec<u8>, Status>
     ensures whole { IfOk result (λ v. ReadsToEnd (S.left input.old) (S.left input.new) v.items) }

@@ -23,7 +23,7 @@ fn code_of(fault: LogRefusal) -> u8
     }
 }
 
-// Its place.
+// The place of a log's fault, if it has one.
 fn place_of(fault: LogRefusal) -> Option<u64>
     ensures { result ≡ log_place fault }
 {

@@ -24,7 +24,7 @@ use rb_scenario::Scenario;
 use rb_world::{Drive, World};
 use std::alloc::Global;
 
-/// The answer where a run ends so and all is written.
+/// The answer if a run ends so and all is written.
 pub(crate) fn status_of(ending: Ending) -> Status
     ensures { result ≡ status_of ending }
 {

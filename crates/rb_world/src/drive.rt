@@ -25,7 +25,7 @@ pub trait Drive {
     /// Whether it gives the world's records as they are. No call changes that.
     ghost is_plain: { Self → Bool };
 
-    /// The turns that it gave so far, where it tells them.
+    /// The turns that the drive gave so far, if it tells them.
     ghost told: { Self → Option (List Turn) };
 
     /// Which turns it may give for a record of the world.

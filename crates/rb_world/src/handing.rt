@@ -40,10 +40,10 @@ fn set_state(ports: &mut Vec<Port>, biu: u8, state: u64)
 }
 
 impl World {
-    /// Hands a state to the application at BIU `biu`, where the last turn was the record of a
-    /// frame, no event was taken since, and the BIU is good at that frame's start. It is the state
-    /// that the record's port line would have shown. Nothing else changes, and nothing at all
-    /// elsewhere.
+    /// Hands a state to the application at BIU `biu`, if the last turn was the record of a frame,
+    /// no event was taken since, and the BIU is good at that frame's start. It is the state that
+    /// the record's port line would have shown. Nothing else changes, and nothing at all if one of
+    /// these conditions does not hold.
     pub fn hand(&mut self, biu: u8, state: u64)
         ensures world { (w : RunWorld) → Stands self.old w
             → Stands self.new (hand self.old.bus w biu state) }

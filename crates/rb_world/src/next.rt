@@ -37,7 +37,7 @@ fn last_turn(last: Last) -> Turn
 
 impl World {
     // Gives what needs no event, and after the last record that record again. The turn is `Quiet`
-    // before, here and in what follows, and is written over where a record is given.
+    // before, here and in what follows, and is written over if a record is given.
     fn go_on(&mut self, turn: &mut Turn)
         requires { turn.old ≡ Turn.Quiet }
         ensures world { (w : RunWorld) → Stands self.old w
@@ -88,8 +88,8 @@ impl World {
         unreachable!()
     }
 
-    // The run goes on to its next record, from tick to tick, where the first event that is due is
-    // taken each time. The observer is told what the observed node is given on the way.
+    // The run goes on to its next record, from tick to tick. The first event that is due is taken
+    // each time. The observer is told what the observed node is given on the way.
     #[inline(always)]
     fn run_first<T: Observer>(
         &mut self,
@@ -119,8 +119,8 @@ impl World {
         self.last = last_of(turn);
     }
 
-    // The run goes on to its next record where no node is observed. It is a call of its own, so
-    // that the turn which `next` gives is made where it is wanted, and not copied.
+    // The run goes on to its next record if no node is observed. It is a call of its own, so that
+    // the turn which `next` gives is made where it is wanted, and not copied.
     #[inline(never)]
     fn run_unobserved(&mut self, apps: &Apps, turn: &mut Turn)
         requires stands { (w : RunWorld) × Stands self.old w }

@@ -56,8 +56,7 @@ fn stop_at(bus: &Bus, node: NodeName, scene: &mut Scene)
     }
 }
 
-// The node goes on to its next tick where it may stop, or be told something, in a window that
-// begins.
+// The node goes on to its next tick if it may stop, or be told something, in a window that begins.
 #[inline(always)]
 fn proceed_in_full<K: Kind>(bus: &Bus, node: NodeName, site: &mut Site<K>, scene: &mut Scene)
     requires name { node ≡ name_of (side_of K.CODE) (number_of site.old) }
@@ -76,8 +75,8 @@ fn proceed_in_full<K: Kind>(bus: &Bus, node: NodeName, site: &mut Site<K>, scene
 }
 
 /// The node goes on to its next tick. At a window's start a node that is not good there stops, and
-/// to the others comes what they are told in it. Without a look for calm nodes a frame of the
-/// generated run with seed 7 costs 1,474,800 instructions in place of 1,383,200.
+/// to the others comes what they are told in it. This is the short cut "calm nodes" of
+/// docs/PERFORMANCE.md.
 #[inline(always)]
 pub(crate) fn proceed<K: Kind>(bus: &Bus, node: NodeName, site: &mut Site<K>, scene: &mut Scene)
     requires name { node ≡ name_of (side_of K.CODE) (number_of site.old) }

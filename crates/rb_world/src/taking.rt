@@ -102,8 +102,8 @@ pub(crate) fn hear_at<K: Kind>(
 }
 
 impl World {
-    // Takes an event, as `take` does. The turn is `Quiet` before, and is written over where a
-    // record comes with the event.
+    // Takes an event, as `take` does. The turn is `Quiet` before, and is written over if a record
+    // comes with the event.
     pub(crate) fn take_into(&mut self, apps: &Apps, i: usize, turn: &mut Turn)
         requires below { i < due_in self.old }
         requires quiet { turn.old ≡ Turn.Quiet }
@@ -122,8 +122,8 @@ impl World {
     }
 
     /// Takes the i-th of the events that are due, counted from 0: the node has its quiet ticks, and
-    /// then its tick or the arrival. The turn is the record that comes with it, and `Quiet` where
-    /// none does.
+    /// then its tick or the arrival. The turn is the record that comes with it, and `Quiet` if none
+    /// does.
     pub fn take(&mut self, apps: &Apps, i: usize) -> Turn
         requires below { i < due_in self.old }
         ensures world { (w : RunWorld) → Stands self.old w

@@ -204,8 +204,8 @@ fn tick_in_full<K: Kind>(
     tick_with_word(bus, apps, k, word, site, scene);
 }
 
-/// Node `i` of the kind takes its next tick, which has this number. Without `end_window` a frame of
-/// the generated run with seed 7 costs 1,546,100 instructions in place of 1,383,200.
+/// Node `i` of the kind takes its next tick, which has this number. This is the short cut "end of a
+/// window alone" of docs/PERFORMANCE.md.
 #[inline(always)]
 pub(crate) fn tick<K: Kind>(
     bus: &Bus,

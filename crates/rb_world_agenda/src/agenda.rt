@@ -26,8 +26,8 @@ use std::marker::Model;
 #[derive(Drop)]
 pub struct Agenda {
     lanes: RunLanes,
-    // For each node, by its position, the mark of its tick: the time times 32 and the position
-    // where the time is below 2^59, else 2^64 - 1. All 32 are there, also of positions without a
+    // For each node, by its position, the mark of its tick: the time times 32 and the position if
+    // the time is below 2^59, and otherwise 2^64 - 1. All 32 are there, also of positions without a
     // node.
     ticks: Marks,
     bius: usize,

@@ -28,8 +28,8 @@ fn four_at(all: &[u64], i: usize) -> u64
     first.min(second)
 }
 
-// The least of those that are kept. Mostly the first four suffice: if all are looked at a frame of
-// the generated run with seed 7 costs 1,408,100 instructions in place of 1,383,200.
+// The least of those that are kept. The first four are usually enough: this is the short cut "first
+// marks" of docs/PERFORMANCE.md.
 #[inline(always)]
 fn least_kept(leasts: &[u64; 8], count: usize) -> u64
     ensures { result ≡ (if nat_le count 16 then four_at leasts.now 0

@@ -199,7 +199,7 @@ fn give_lines(lines: &ArrayVec<SlotLine, 16>, turn: &mut Turn)
     }
 }
 
-// Lines are written where there were none.
+// Lines are written into an empty list.
 fn add_lines(lines: &ArrayVec<SlotLine, 16>, room: &mut ArrayVec<SlotLine, 16>)
     ensures { room.old.items ≡ [] → room.new.items ≡ lines.now.items }
 {
@@ -474,7 +474,7 @@ impl Book {
         *turn = given;
     }
 
-    // The record of a frame. It is left out where no node began it.
+    // The record of a frame. There is none if no node began it.
     fn frame_turn(&self, frame: u32) -> Turn
         ensures { record_of result ≡ frame_record frame
             (found_of (λ i t. node_line_of frame (has self.now.bius.good i) t) self.now.shape.bius self.now.bius.told
@@ -539,7 +539,7 @@ impl Book {
     }
 
     // The record of a slot, which comes with its stage 3. The turn is `Quiet` before, here and in
-    // what follows, and is written over where a record comes.
+    // what follows, and is written over if a record comes.
     fn slot_turn(&self, place: Place, turn: &mut Turn)
         requires { turn.old ≡ Turn.Quiet }
         ensures { record_of turn.new ≡ slot_record self.now.shape place self.now.lines.items }
@@ -549,8 +549,8 @@ impl Book {
         }
     }
 
-    // The next stage, where the same nodes are known to be good as at this one: it is one of the
-    // same slot, or all of them are good to the end of the frame.
+    // The next stage, if the same nodes are known to be good as at this one: it is one of the same
+    // slot, or all of them are good to the end of the frame.
     fn steady_next(&self, place: Place) -> Option<Place>
         ensures { IfSome result (IsSteady self.now place) }
     {

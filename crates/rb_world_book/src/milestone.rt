@@ -9,8 +9,7 @@ pub enum Milestone {
     End,
 }
 
-/// How a milestone comes to be settled: by an event, or by itself where no node is good and at the
-/// end.
+/// How a milestone is settled: by an event, or by itself if no node is good, and at the end.
 #[derive(Clone, Copy, Debug, PartialEq, Eq)]
 pub enum Way {
     ByAnEvent,

@@ -119,8 +119,8 @@ impl Told {
         }
     }
 
-    /// It, node `i`, closes a stage, having seen this of each source, some at these reference
-    /// times. What was seen is kept of the sources of which it counts.
+    /// Node `i` closes a stage, having seen this of each source, some at these reference times.
+    /// What was seen is kept of the sources that count.
     pub(crate) fn close<S: Copy>(
         &mut self,
         i: u8,
@@ -140,7 +140,7 @@ impl Told {
         keep_line(i, closed.delivered(), &mut self.line);
     }
 
-    /// It begins a frame.
+    /// The node begins a frame.
     pub(crate) fn begin(&mut self, begun: Begin)
         ensures { self.new ≡ told_begun_frame begun self.old }
     {

@@ -1,4 +1,4 @@
-//! Which nodes of a bus are good where.
+//! Which nodes of a bus are good in which slot.
 #![tactic(auto)]
 
 ghost use Rattle.std.specs.Prelude.{◌≡◌, ◌<◌, ◌≤◌, None, get_or};
@@ -12,7 +12,7 @@ ghost use Rattle.rb_world_onset.specs.Search.{IsNextAmong};
 use rb_base::{Biu, NodeId, NodeName, NodeSet, Rmu, Shape};
 use std::marker::Model;
 
-/// The numbers of nodes of a bus, and from where on each of them is not good.
+/// The numbers of nodes of a bus, and from which slot on each of them is not good.
 #[derive(Clone, Copy, Debug, PartialEq, Eq)]
 pub struct Onsets {
     shape: Shape,

@@ -33,7 +33,7 @@ pub struct Span {
     pub last: u64,
 }
 
-// Who is good where, how messages are spelled, and what is said.
+// Which nodes are good in which slot, how messages are spelled, and what is said.
 #[derive(Drop)]
 struct Said {
     faults: Onsets,

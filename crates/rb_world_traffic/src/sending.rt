@@ -41,9 +41,8 @@ fn delay_at(row: &[u32], i: u8) -> Option<u32>
     row.get(usize::from(i)).copied()
 }
 
-// The delay to the node of the other kind with this number. It is looked up where the row has none.
-// Were it always looked up, a frame of the generated run with seed 7 would cost 1,462,600
-// instructions in place of 1,383,200.
+// The delay to the node of the other kind with this number. It is looked up if the row has none. It
+// is the short cut "row of delays" of docs/PERFORMANCE.md.
 #[inline(always)]
 fn delay_in(row: &[u32], delays: &Delays, from: NodeName, i: u8, place: Place) -> u32
     requires { IsRow delays.now from place row.now }

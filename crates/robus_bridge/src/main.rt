@@ -11,10 +11,10 @@ use std::io::ErrorKind;
 use std::process::ExitCode;
 use std::{env, io};
 
-/// The status where an application or the text of an argument finds no memory.
+/// The status if there is no memory for an application or the text of an argument.
 const NO_MEMORY: u8 = 7;
 
-/// The status where the arguments cannot be had for another cause, as where one is no text.
+/// The status if the arguments could not be read, for example because one is not UTF-8.
 const NO_ARGUMENTS: u8 = 8;
 
 /// The arguments without the program's own name, or the status to end with.

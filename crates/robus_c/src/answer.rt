@@ -11,17 +11,16 @@ pub struct Answer {
     pub length: u64,
 }
 
-/// The status where an allocation fails before the program's own call.
+/// The status if an allocation fails before the program's own call.
 pub(crate) const NO_MEMORY: u8 = 7;
 
-/// The status where the words are not UTF-8.
+/// The status if the words are not UTF-8.
 pub(crate) const NOT_TEXT: u8 = 8;
 
-/// The status where there are more bytes than room.
+/// The status if there are more bytes than room.
 const TOO_SMALL: u8 = 9;
 
-/// Puts the bytes to the front of `output`, as many as fit. The answer has this number where all
-/// do.
+/// Puts the bytes to the front of `output`, as many as fit. The answer has this number if all do.
 pub(crate) fn answer_with(number: u8, bytes: &[u8], output: &mut [u8]) -> Answer
     ensures { IsPut number bytes.now output.old output.new result }
 {

@@ -10,8 +10,8 @@ use rb_outside::{Failed, Sink};
 use std::alloc::Global;
 use std::marker::Model;
 
-/// A sink that holds all the bytes it is given. A call fails where memory is wanted for more of
-/// them and there is none; the sink then knows that one has failed.
+/// A sink that holds all the bytes it is given. A call fails if there is no memory for more of
+/// them; the sink then knows that one has failed.
 #[derive(Drop)]
 pub struct HeldSink {
     bytes: Vec<u8>,

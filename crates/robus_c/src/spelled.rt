@@ -9,7 +9,7 @@ use std::alloc::{AllocError, Global};
 /// Why bytes give no words.
 #[derive(Clone, Copy, Debug, PartialEq, Eq)]
 pub enum NoWords {
-    /// They are not UTF-8.
+    /// The words are not UTF-8.
     NotText,
     /// An allocation failed.
     OutOfMemory,
