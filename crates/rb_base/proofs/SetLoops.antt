@@ -5,7 +5,7 @@ use Rattle.rb_base.specs.Nodes.{has, set_of}
 use Rattle.rb_base.proofs.Plain.{eq_self}
 use Rattle.rb_base.proofs.Sets.{eq_other, has-set_of, has_none, is_set_of, same_set_of}
 
--- those below k that pass
+-- the numbers below k that pass
 abbrev pub passing_below : ℕ → (ℕ → Bool) → ℕ
 passing_below k p = set_of (λ i. nat_lt i k && p i)
 

@@ -99,7 +99,6 @@ goes-on x frame l r m n o held after is none text ready = record {
     never : true ≡ false → ⊥
     never e = cc
 
--- or it was written in part
 pub crosses-part : (x : BridgeRun) (frame : ℕ) (l r : Side) (o : Option Breach) (held after : Option (List ℕ))
     → GoThrough x frame l r (option_map shown o) → (x.both ≡ true → AppendsPart held after (told_text x.b frame (break_at x.b frame))) → CrossesPart x frame held after
 crosses-part x frame l r o held after is text = record { some = is.some; text = text }
@@ -154,7 +153,6 @@ break-written b frame held mid after k is below some now =
       is.breaks ∙ ap (break_from b frame) more ∙ ap (λ k. option_or k (break_from b (frame + 1) n)) some,
     )
 
--- or a first part of a frame's text is written
 pub part-written : (b : Bridge) (frame : ℕ) (held mid after : Option (List ℕ)) → IsWritten b frame held mid → frame < b.left.frames
     → AppendsPart mid after (told_text b frame (break_at b frame)) → AppendsPart held after (bridge_text b)
 part-written b frame held mid after is below now =

@@ -14,7 +14,6 @@ use Rattle.rb_rules_bridge.specs.Crossings.{value_in, value_told}
 use Rattle.rb_laws_bridge.proofs.Told.{value_in-append}
 use Rattle.rb_bridge.specs.Holding.{HoldValues, value_by, value_with}
 
--- the same told in other words
 pub hold-same : (told also : ℕ → Option Heard) (kept : List (Option Heard)) → ((i : ℕ) → told i ≡ also i) → HoldValues told kept → HoldValues also kept
 hold-same told also kept same hold = record { many = hold.many; each = λ i h. hold.each i h ∙ same i }
 

@@ -100,7 +100,6 @@ one-passed sc handed is_plain told mid since k after before terms frame p q pass
   many = length-append is.more (t ∷ []) ∙ ap (λ n. n + 1) is.many;
 }
 
--- or the frame is over
 pub all-passed : (sc : Scenario) (handed : List HandIn) (is_plain : Bool) (told mid since : Option (List Turn)) (k after : KeptWorld) (before : List Turn) (terms : Terms) (frame : ℕ) (p : Passage) (passed : ℕ) (t : Turn)
     → (is : IsPassing sc handed is_plain told mid k before terms frame p passed)
     → IsUnderWay sc handed is_plain told since after ((before ++ is.more) ++ t ∷ []) (is_last (record_of t)) → is_over terms.frames frame (record_of t) ≡ true

@@ -83,7 +83,7 @@ going-on b bank frame both is_plain told since s before last =
     subst (λ sc. IsUnderWay sc before.handed is_plain told since s.world before.turns false) (sym before.side.bus_is)
     (subst (λ over. IsUnderWay (bus_on b bank) before.handed is_plain told since s.world before.turns over) last before.ready.given)
 
--- so the drive may be asked for more
+-- the drive may be asked for more
 pub on-its-way : (b : Bridge) (bank : Bank) (frame : ℕ) (both is_plain : Bool) (told since : Option (List Turn)) (s : Side) → BeforeFrame b bank frame both (drive_of is_plain told since) s
     → is_last (record_of s.turn) ≡ false → IsOnItsWay is_plain since s.world s.terms s.passage
 on-its-way b bank frame both is_plain told since s before last = record {
@@ -94,7 +94,6 @@ on-its-way b bank frame both is_plain told since s before last = record {
   holds = before.ready.holds last;
 }
 
--- or for the rest
 pub is-up : (b : Bridge) (bank : Bank) (frame : ℕ) (both is_plain : Bool) (told since : Option (List Turn)) (s : Side) → BeforeFrame b bank frame both (drive_of is_plain told since) s → IsUp is_plain since s
 is-up b bank frame both is_plain told since s before = record {
   handed = before.handed;

@@ -77,7 +77,7 @@ unbroken t b BridgeRange says coded bytes text refused =
     (ap (λ l. is_in_range l (as_scenario says.right) t) (sym alike.0) ∙ ap (λ r. is_in_range (as_scenario left) r t) (sym alike.1) ∙ none)
 unbroken t b OutOfMemory says coded bytes text refused = let never : false ≡ true = coded in cc
 
--- so an accepted input is not refused
+-- an accepted input is not refused
 pub not-both : (input : List ℕ) (b : Bridge) (why : BridgeRefusal) → IsBridgeAccepted input b → IsSome (code_of why) → ¬ IsBridgeRefused input why
 not-both input b why accepted coded refused = unbroken accepted.document b why accepted.says coded input accepted.text refused
 

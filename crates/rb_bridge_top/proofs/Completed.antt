@@ -65,7 +65,6 @@ not-refused left left' held held' input b is accepted r =
     let same : r.input ≡ input = read-is left left' input r.input is r.read in
     not-both r.input b r.refused.rule (subst (λ i. IsBridgeAccepted i b) (sym same) accepted) r.refused.coded r.refused.broken
 
--- and one that is refused was not run
 not-run : (both : Bool) (status : Status) (left left' held held' : Option (List ℕ)) (lp : Bool) (ltold lsince : Option (List Turn)) (rp : Bool) (rtold rsince : Option (List Turn))
     (input line : List ℕ) → left ≡ Some input → IsRefusedWith input line → ¬ Ends both status left left' held held' lp ltold lsince rp rtold rsince
 not-run both status left left' held held' lp ltold lsince rp rtold rsince input line is refused e =

@@ -49,7 +49,7 @@ count_same p q a (suc n) same =
     let here : one_if (p a) ≡ one_if (q a) = ap one_if (same a (omega arith) (omega arith)) in
     omega (arith, here, count_same p q (a + 1) n (λ i low high. same i (omega arith) (omega arith)))
 
--- those that pass a test pass another one too or do not
+-- the items that pass one test pass another one too or do not
 count_parts : (p q : ℕ → Bool) (xs : List ℕ) → count_if (λ i. p i && q i) xs + count_if (λ i. p i && not (q i)) xs ≡ count_if p xs
 count_parts p q [] = refl
 count_parts p q (x ∷ xs) =

@@ -24,8 +24,8 @@ passing_next p s t k so_far is =
     ] in
     go (p k) refl is
 
--- those of the trusted nodes that are in one of two sets, the expected ones that are no one and the
--- others of which something came
+-- the trusted nodes that are in one of two sets: the expected ones that sent no message, and the
+-- others that sent something
 pub wrong_is : (t e o c missed unasked wrong evidence : ℕ) → missed ≡ set_of (λ j. has e j && not (has o j)) → unasked ≡ set_of (λ j. has c j && not (has e j))
     → wrong ≡ set_of (λ j. has missed j || has unasked j) → evidence ≡ set_of (λ j. has t j && has wrong j)
     → evidence ≡ set_of (λ j. has t j && (if has e j then not (has o j) else has c j))

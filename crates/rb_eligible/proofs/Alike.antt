@@ -19,7 +19,7 @@ one_more v true (Some y) taken n is most =
     let counts : ◌≡◌ {A = ℕ} (cond (same_heard v y) 1 0) 1 = ap (λ z. cond (same_heard v z) 1 0) same ∙ ap (λ b. cond b 1 0) (same_heard_self v) in
     omega (arith, most, counts)
 
--- those of the nodes from k on of which a value was taken are no more than that value is
+-- the nodes from k on whose value was accepted are no more than the values from there on
 times_held : (p : ℕ → Bool) (v : Heard) (taken : List (Option Heard)) (k : ℕ) → ((j i : ℕ) → j ≡ k + i → i < length taken → p j ≡ true → get_or taken i None ≡ Some v)
     → count_if p (range_with_len k (length taken)) ≤ times v (present taken)
 times_held p v [] k held = omega arith
@@ -33,7 +33,7 @@ one_less true (Some y) taken n is most = omega (arith, most)
 one_less false None taken n is most = omega (arith, most)
 one_less false (Some y) taken n is most = let e : Some y ≡ None = is refl in absurd cc
 
--- and there are no more values than nodes of which one may have been taken
+-- there are no more values than nodes of which one may have been taken
 present_held : (p : ℕ → Bool) (taken : List (Option Heard)) (k : ℕ) → ((j i : ℕ) → j ≡ k + i → i < length taken → p j ≡ false → get_or taken i None ≡ None)
     → length (present taken) ≤ count_if p (range_with_len k (length taken))
 present_held p [] k held = omega arith

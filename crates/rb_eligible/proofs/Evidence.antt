@@ -46,7 +46,7 @@ evidence_is s expected ones came evidence sense is came_is one_is =
     has-is evidence j (λ j. has s.trusted j && (if has expected j then not (has ones j) else has came j)) is h
     ∙ evidence_at (has s.trusted j) (has expected j) (has ones j) (has came j) (sense j) (came_is j h) (one_is j h))
 
--- and all is written down
+-- all is written down
 pub taken_all : {X : Type 0} (f : ℕ → Option X) (taken : List (Option X)) (k : ℕ) → k ≡ 16 → length taken ≡ 16
     → ((j : ℕ) → j < k → get_or taken j None ≡ f j) → taken ≡ each_node f
 taken_all f taken k last all so_far = fill_by_all f taken 16 None all (λ j h. so_far j (omega arith))

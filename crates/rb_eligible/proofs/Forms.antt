@@ -22,7 +22,7 @@ xor_same x = grind (arith, common_steps)
 xor_none : (x y : ℕ) → bit_xor x y ≡ 0 → y ≡ x
 xor_none x y none = sym (from_zero y) ∙ ap (λ z. bit_xor z y) (sym none) ∙ xor_assoc x y y ∙ ap (bit_xor x) (xor_same y) ∙ xor_with_0 x
 
--- so the check at the end is right where the exclusive or of all is 0
+-- the check at the end is right where the exclusive or of all is 0
 check_right : (x y : ℕ) → (bit_xor x y == 0) ≡ (y == x)
 check_right x y = go (y == x) refl (bit_xor x y == 0) refl
   where
@@ -35,7 +35,6 @@ length_spelled : (low high len : ℕ) → len ≤ 12 → length (spelled low hig
 unfolding spelled
 length_spelled low high len short = omega (arith, length-take len (to_le_bytes w64 low ++ to_le_bytes w32 high))
 
--- the same, where as many bytes as wanted are looked at
 same_length : (low high len n : ℕ) → len ≤ 12 → (rest other : Bool) → (len ≡ n → rest ≡ other) → ((len == n) && rest) ≡ ((length (spelled low high len) == n) && other)
 same_length low high len n short rest other same = go (len == n) refl ∙ ap (λ k. (k == n) && other) (sym (length_spelled low high len short))
   where
@@ -66,7 +65,6 @@ form_one low high len check short is =
     same_length low high len 11 short (check == 0) (slice_index (spelled low high len) 10 == check_of (take 10 (spelled low high len)))
     (λ e. rw (e, is) (eleven low high))
 
--- and of twelve
 pub form_two : (bus low high len check : ℕ) → len ≤ 12 → check ≡ check_of (to_le_bytes w64 low ++ to_le_bytes w32 high)
     → ((len == 12) && ((high / 65536 % 256 == bus) && (check == 0))) ≡ has_form (Two bus) (spelled low high len)
 form_two bus low high len check short is =
@@ -98,7 +96,7 @@ message_from (Two bus) low high len short form =
     let is : len ≡ 12 = sym (length_spelled low high len short) ∙ eqb-true (length (spelled low high len)) 12 (and_first _ _ (and_first _ _ form)) in
     subst (λ n. has_form (Two bus) (spelled low high n) ≡ true → message_in (Two bus) (spelled low high n) ≡ fields_read low high) (sym is) (read_twelve bus low high) form
 
--- and if they have it not, nothing is
+-- if they have it not, nothing is
 pub no_message : (version : Version) (bytes : List ℕ) → has_form version bytes ≡ false → message_in version bytes ≡ None
 unfolding message_in
 no_message version bytes form = rw form refl

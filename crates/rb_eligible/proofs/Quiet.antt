@@ -35,7 +35,7 @@ or_none false b none = none
 same_but : (set : ℕ) (p : ℕ → Bool) → set < 2 ^ 16 → ((j : ℕ) → j < 16 → p j ≡ false) → set_of (λ j. has set j || p j) ≡ set
 same_but set p fits none = same_set_of _ _ (λ j h. or_none (has set j) (p j) (none j h)) ∙ set_of-has set fits
 
--- and nobody is accused
+-- nobody is accused
 pub quiet_accuses : (s : Standing) (expected : ℕ) (e : Expect) (kept : KeptArrivals) (received : List Received) → s.direct < 2 ^ 16 → s.fresh < 2 ^ 16 → kept.came ≡ 0
     → set_of (λ j. has s.trusted j && has expected j) ≡ 0 → HoldsArrivals kept received
     → with_evidence (has_evidence s (has expected) (sense_in e received)) s ≡ s

@@ -65,13 +65,13 @@ run_fewer left rest k below inside gone within =
     ∙ rw (within i h here, eq_other i k (λ at. (let e : true ≡ false = sym here ∙ ap (has rest) at ∙ gone in absurd cc))) refl) in
     omega (arith, most, size_less left k below inside)
 
--- and who spells alike says the same
+-- who spells alike says the same
 says_at : (e : Expect) (s t : Sole) (one : Bool) (value : Option Heard) → t.low ≡ s.low → t.tail ≡ s.tail → Says e (bytes_of s) one value → Says e (bytes_of t) one value
 says_at e s t one value low tail says =
     subst (λ (n : ℕ). Says e (spelled n (high_of t.tail) (len_of t.tail)) one value) (sym low)
     (subst (λ (n : ℕ). Says e (spelled s.low (high_of n) (len_of n)) one value) (sym tail) says)
 
--- so far nothing was taken
+-- nothing was accepted so far
 pub partial_first : (kept : KeptArrivals) (e : Expect) (due left ones lead : ℕ) (value : Option Heard) (taken : List (Option Heard)) → left ≡ due → ones ≡ 0 → lead ≡ 0
     → taken ≡ replicate 16 None → IsPartial kept e due left ones lead value taken
 partial_first kept e due left ones lead value taken left_is ones_is lead_is blank =
@@ -192,7 +192,6 @@ pub more_fit : (ones ones' run : ℕ) (one : Bool) → ones' ≡ (if one then se
 more_fit ones ones' run true is fits = rw is (set_of-lt (λ j. has ones j || has run j))
 more_fit ones ones' run false is fits = omega (arith, is, fits)
 
--- and whose value is that of the lead
 pub more_led : (left rest run lead lead' : ℕ) (v value value' : Option Heard) → run ≡ set_of (λ j. has left j && not (has rest j))
     → ((j : ℕ) → j < 16 → has lead' j ≡ true → ((has lead j ≡ true) × (value' ≡ value)) ⊎ ((has run j ≡ true) × ((value' ≡ v) × (is_some v ≡ true))))
     → (j : ℕ) → j < 16 → has lead' j ≡ true → ((has lead j ≡ true) × (value' ≡ value)) ⊎ (((has left j && not (has rest j)) ≡ true) × ((value' ≡ v) × (is_some v ≡ true)))

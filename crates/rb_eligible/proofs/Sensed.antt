@@ -38,7 +38,7 @@ spoilt_bad e arrivals spoilt =
       | inr many ↦ many_bad e arrivals many
     ]
 
--- so a source that is spoilt is bad
+-- a source that is spoilt is bad
 pub shown_bad : (e : Expect) (kept : KeptArrivals) (received : List Received) (j : ℕ) → HoldsArrivals kept received → j < 16 → has kept.came j ≡ true → has kept.spoilt j ≡ true → Bad ≡ sense_in e received j
 shown_bad e kept received j shown h came spoilt = sym (spoilt_bad e (arrivals_of j received) (rw (came, spoilt) at (shown j h)))
 
@@ -66,7 +66,6 @@ none_kept e true true s arrivals poor kept = rw (spoilt_bad e arrivals kept) ref
 pub none_else : (e : Expect) (kept : KeptArrivals) (received : List Received) (j : ℕ) → HoldsArrivals kept received → j < 16 → is_sole kept j ≡ false → is_one (sense_in e received j) ≡ false
 none_else e kept received j shown h poor = none_kept e (has kept.came j) (has kept.spoilt j) (sole_at kept.soles j) (arrivals_of j received) poor (shown j h)
 
--- and of those the sense is that of the arrival
 sole_kept : (e : Expect) (came spoilt : Bool) (s : Sole) (arrivals : List Arrival) → (came && not spoilt) ≡ true → IsKept came spoilt s arrivals
     → sense_of e arrivals ≡ sense_of_one e s.at (message_in e.version (bytes_of s))
 sole_kept e false spoilt s arrivals good kept = absurd cc
@@ -135,7 +134,7 @@ spelled_is bytes room low high all small low_is high_is begins =
     le_bytes_4 (drop 8 room) high (omega (arith, length-drop 8 room)) (λ i. rw (get_or-drop 8 room i 0) (small (8 + i))) high_is in
     ap (take (length bytes)) (ap (λ xs. xs ++ to_le_bytes w32 high) first ∙ ap (λ ys. take 8 room ++ ys) rest ∙ take-append-drop 8 room) ∙ begins
 
--- so among the sources of a set only those with one arrival can be one
+-- among the sources of a set only those with one arrival can be one
 pub none_but_soles : (e : Expect) (kept : KeptArrivals) (received : List Received) (b : Bool) (j : ℕ) → HoldsArrivals kept received → j < 16
     → ((b && is_sole kept j) && is_one (sense_in e received j)) ≡ (b && is_one (sense_in e received j))
 none_but_soles e kept received b j shown h =
@@ -146,7 +145,6 @@ none_but_soles e kept received b j shown h =
     ] in
     go (is_sole kept j) refl
 
--- and only of those a value can be taken
 pub value_but_soles : (e : Expect) (kept : KeptArrivals) (received : List Received) (b : Bool) (j : ℕ) → HoldsArrivals kept received → j < 16
     → (if b && is_sole kept j then value_in (sense_in e received j) else None) ≡ (if b then value_in (sense_in e received j) else None)
 value_but_soles e kept received b j shown h =
@@ -198,7 +196,6 @@ stamp_taken e kept received takes j shown h =
     no_sole true false at = refl
     no_sole false o at = refl
 
--- and it is none of those above the bound
 pub stamp_up_to : (n : ℕ) (kept : KeptArrivals) (j : ℕ) → StampsUpTo n kept → j < 16 → is_sole kept j ≡ true → (sole_at kept.soles j).at ≤ n
 stamp_up_to n kept j up_to h sole = here (has kept.came j) (has kept.spoilt j) sole (up_to j h)
   where

@@ -13,7 +13,7 @@ pub length_bytes : (low tail : ℕ) (rest : List ℕ) → len_of tail ≤ 32 →
 unfolding bytes_in
 length_bytes low tail rest few others = omega (arith, others, length-take (len_of tail) (to_le_bytes w64 low ++ to_le_bytes w32 (high_of tail) ++ rest))
 
--- those that are few enough are in the numbers alone
+-- bytes that are few enough are in the numbers alone
 pub short_bytes : (low tail : ℕ) (rest : List ℕ) → len_of tail ≤ 12 → bytes_in low tail rest ≡ spelled low (high_of tail) (len_of tail)
 unfolding bytes_in spelled
 short_bytes low tail rest short = take-append-le (len_of tail) (to_le_bytes w64 low ++ to_le_bytes w32 (high_of tail)) rest short
@@ -47,7 +47,6 @@ filled_small bytes small i =
           (zeros_small (32 - length bytes) (i - length bytes))
     ]
 
--- and 32 of them
 pub filled_length : (bytes : List ℕ) → length bytes ≤ 32 → length (filled bytes) ≡ 32
 unfolding filled
 filled_length bytes few = omega (arith, few, length-drop {A = ℕ} (length bytes) (replicate 32 0), length-append bytes (drop (length bytes) (replicate 32 0)))
@@ -71,7 +70,6 @@ all_is all low high whole small low_is high_is =
     ∙ ap (λ xs. take 8 all ++ xs) (take-append-drop 4 others)
     ∙ take-append-drop 8 all
 
--- so they keep the bytes
 pub kept : (bytes : List ℕ) (low high tail : ℕ) (rest : List ℕ) → length bytes ≤ 32 → ((i : ℕ) → get_or (filled bytes) i 0 < 256) → high < 4294967296
     → low ≡ from_le_bytes w64 (take 8 (filled bytes)) → high ≡ from_le_bytes w32 (take 4 (drop 8 (filled bytes))) → tail ≡ high + length bytes * 4294967296 → rest ≡ drop 12 (filled bytes)
     → bytes_in low tail rest ≡ bytes
@@ -82,7 +80,6 @@ kept bytes low high tail rest few small fits low_is high_is tail_is rest_is =
     (λ i. take (len_in i) (to_le_bytes w64 low ++ to_le_bytes w32 (high_in i) ++ rest_is i))
     ∙ ap (take (length bytes)) (all_is (filled bytes) low high (filled_length bytes few) small low_is high_is) ∙ filled_begins bytes
 
--- and zeros stand behind them
 pub kept_filled : (bytes : List ℕ) (low high tail : ℕ) (rest : List ℕ) → length bytes ≤ 32 → ((i : ℕ) → get_or (filled bytes) i 0 < 256) → high < 4294967296
     → low ≡ from_le_bytes w64 (take 8 (filled bytes)) → high ≡ from_le_bytes w32 (take 4 (drop 8 (filled bytes))) → tail ≡ high + length bytes * 4294967296 → rest ≡ drop 12 (filled bytes)
     → IsFilled low tail rest

@@ -22,7 +22,6 @@ check_ten low high small =
     let ten = check_of (to_le_bytes w64 low ++ (high % 256) ∷ (high / 256 % 256) ∷ []) in
     (λ i. bit_xor (bit_xor ten (c i)) (d i)) ∙ xor_with_0 (bit_xor ten 0) ∙ xor_with_0 ten
 
--- and with the number of the bus, of eleven
 pub check_bus : (low high both bus : ℕ) → high < 65536 → bus < 256 → both ≡ high + bus * 65536
     → check_of (to_le_bytes w64 low ++ to_le_bytes w32 both) ≡ check_of (spelled low high 10 ++ bus ∷ [])
 unfolding spelled
@@ -96,7 +95,6 @@ pub sent_one : (version : Version) (m : Message) (tag low high : ℕ) (spelling 
 sent_one version m tag low high spelling is_one tag_is first next is =
     is ∙ ap (λ ten. ten ++ check_of ten ∷ []) (ten_bytes m tag low high tag_is first next) ∙ ap (λ v. spelling_of v m) (sym is_one)
 
--- or by the number of the bus and the check of all
 pub sent_two : (version : Version) (bus : ℕ) (m : Message) (tag low high : ℕ) (spelling : List ℕ) → version ≡ Two bus → tag ≡ tag_byte m.tag
     → to_le_bytes w64 low ≡ tag ∷ to_be_bytes w16 m.frame ++ to_be_bytes w16 m.slot ++ m.stage ∷ take 2 (to_be_bytes w32 m.value)
     → to_le_bytes w32 high ≡ drop 2 (to_be_bytes w32 m.value) ++ 0 ∷ 0 ∷ []
@@ -104,7 +102,6 @@ pub sent_two : (version : Version) (bus : ℕ) (m : Message) (tag low high : ℕ
 sent_two version bus m tag low high spelling is_two tag_is first next is =
     is ∙ ap (λ ten. ten ++ bus ∷ [] ++ check_of (ten ++ bus ∷ []) ∷ []) (ten_bytes m tag low high tag_is first next) ∙ ap (λ v. spelling_of v m) (sym is_two)
 
--- so they spell it
 pub sent : (version : Version) (m : Message) (spelling : List ℕ) → spelling ≡ spelling_of version m → m.frame < 2 ^ 16 → m.slot < 2 ^ 16 → 1 ≤ m.stage → m.stage ≤ 3 → m.value < 2 ^ 32
     → IsZeroUnlessWord m.tag m.value → Spells version spelling m
 sent version m spelling is frame slot some_stage most_stages value suits =

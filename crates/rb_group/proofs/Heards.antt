@@ -65,7 +65,6 @@ hears_no_member g ds d is out = record { many = is.many; each = λ i h. is.each 
     by i false e = sym (unchanged g.members i ds d (not_sender g.members i d e))
     by i true e = let at : d.sender ≡ i = eqb-true d.sender i e in sym (unchanged g.members i ds d (no_member g.members i (d ∷ []) (subst (λ k. has g.members k ≡ false) at out)))
 
--- nor where one is kept
 pub hears_again : (g : KeptGroup) (ds : List Delivery) (d : Delivery) → HasHeard g ds → d.sender < 16 → is_some (get_or g.kept d.sender None) ≡ true → HasHeard g (ds ++ d ∷ [])
 hears_again g ds d is below known = record { many = is.many; each = λ i h. is.each i h ∙ by i h (d.sender == i) refl }
   where

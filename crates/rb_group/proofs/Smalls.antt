@@ -18,7 +18,6 @@ middle_below n m stamps small is =
           absurd (omega (arith, is.few_below, all))
     ]
 
--- and so is that which is found
 pub found_below : (n : ℕ) (stamps : List ℕ) (m : Option ℕ) → All (λ s. s < n) stamps → IfSome m (λ m. IsMiddle m stamps) → IfSome m (λ m. m < n)
 found_below n stamps None small is = tt
 found_below n stamps (Some m) small is = middle_below n m stamps small is

@@ -37,7 +37,7 @@ no_member_out true true h = refl
 no_member_out true false h = absurd (let e = h refl in cc)
 no_member_out false l h = refl
 
--- and the other way round
+-- the other way round
 pub all_members : (sizes : Sizes) (mask bius left : ℕ) → bius ≡ set_of (λ j. nat_lt j sizes.bius) → left ≡ set_of (beyond mask bius) → AreMembers sizes mask → left ≡ 0
 all_members sizes mask bius left is left_is members =
     left_is ∙ same_set (set_of (beyond mask bius)) 0 (set_of-lt (beyond mask bius)) (omega arith) (λ i below.

@@ -27,7 +27,6 @@ set-there xs i n y z apart is =
     let below : n < length (set xs i y) = slice_get_within (set xs i y) n z is in
     slice_get-get_or xs n z (omega (arith, below, length-set xs i y)) ∙ ap Some (sym (get_or-set_other xs i n y z apart) ∙ get_or_from_slice_get (set xs i y) n z z is)
 
--- the same told in other words
 pub told_same : (members : ℕ) (told also : ℕ → List Delivery) (groups : List KeptGroup) → ((i : ℕ) → told i ≡ also i) → HoldPortions members told groups → HoldPortions members also groups
 told_same members told also groups same hold = record {
   many = hold.many;
@@ -120,7 +119,6 @@ max_more : (newest : ℕ) (frames : ℕ) (o : Option Record) (x : ℕ) → max x
 max_more newest frames None x = omega arith
 max_more newest frames (Some r) x = omega arith
 
--- and how far
 pub reached_more : (frames : ℕ) (records : List Record) (o : Option Record) → reached frames (records ++ option_to_list o) ≡ max (reached frames records) (frame_or frames (reached frames records) o)
 reached_more frames [] None = refl
 reached_more frames [] (Some r) = omega arith

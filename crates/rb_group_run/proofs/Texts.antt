@@ -37,7 +37,6 @@ turn_is sc asked records ports None hold =
 turn_is sc asked records ports (Some r) hold =
     ap (λ f. (if nat_lt f (frame_of sc.frames r) then frame_text sc f (value_at asked.which asked.members records f) else []) ++ ending_text sc.frames r) hold.frame_is
 
--- the same by what the code has computed
 pub turn_all : (sc : Scenario) (asked : Asked) (records : List Record) (ports : Ports) (o : Option Record) (frames next : ℕ)
     → frames ≡ sc.frames → next ≡ frame_or frames ports.frame o → HoldsFrame sc.frames asked records ports
     → (if nat_lt ports.frame next then frame_text sc ports.frame (found asked ports records) else []) ++ ending_in frames o ≡ turn_text sc asked records o

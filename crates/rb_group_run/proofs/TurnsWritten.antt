@@ -28,7 +28,6 @@ widened line k (suc d) n old new is part =
     subst (λ t. AppendsPart old new t) (sym (one_line line (k + d))) (part_widens old new (flat_map line (numbers (k + d))) (line (k + d)) so_far) in
     subst (λ m. AppendsPart old new (flat_map line (numbers m))) (omega (arith, is)) next
 
--- or a first part of it
 pub lines_part : (line : ℕ → List ℕ) (n all : ℕ) (old mid new : Option (List ℕ)) → n + 1 ≤ all → Appends old mid (flat_map line (numbers n)) → AppendsPart mid new (line n)
     → AppendsPart old new (flat_map line (numbers all))
 lines_part line n all old mid new below before now =

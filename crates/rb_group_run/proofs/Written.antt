@@ -61,7 +61,7 @@ written_next : (sc : Scenario) (asked : Asked) (turns : List Turn) (t : Turn) (h
 written_next sc asked turns t held mid_held after_held before now =
     subst (λ text. Appends held after_held text) (sym (text_more sc asked turns t)) (appends_join held mid_held after_held _ _ before now)
 
--- and the run goes on
+-- the run goes on
 pub one_written : (sc : Scenario) (asked : Asked) (is_plain : Bool) (told mid since : Option (List Turn)) (k after : KeptWorld) (held mid_held after_held : Option (List ℕ)) (ports : Ports) (passed : ℕ) (t : Turn) (next : Ports)
     → (is : IsWritten sc asked is_plain told mid k held mid_held ports passed) → Next sc asked is_plain told mid since k after held mid_held ports passed t is
     → Appends mid_held after_held (turn_text sc asked (records_in is.turns) (record_of t)) → HoldsFrame sc.frames asked (records_in is.turns ++ option_to_list (record_of t)) next
@@ -74,7 +74,6 @@ one_written sc asked is_plain told mid since k after held mid_held after_held po
   frame = subst (λ rs. HoldsFrame sc.frames asked rs next) (sym (records-more is.turns t)) frame;
 }
 
--- or ends
 pub all_written : (sc : Scenario) (asked : Asked) (is_plain : Bool) (told mid since : Option (List Turn)) (k after : KeptWorld) (held mid_held after_held : Option (List ℕ)) (ports : Ports) (passed : ℕ) (t : Turn) (e : Ending)
     → (is : IsWritten sc asked is_plain told mid k held mid_held ports passed) → Next sc asked is_plain told mid since k after held mid_held ports passed t is
     → Appends mid_held after_held (turn_text sc asked (records_in is.turns) (record_of t)) → end_at (record_of t) ≡ Some e → WritesAll sc asked is_plain told since held after_held
@@ -85,7 +84,6 @@ all_written sc asked is_plain told mid since k after held mid_held after_held po
   text = written_next sc asked is.turns t held mid_held after_held is.text now;
 }
 
--- or only a first part of it is written
 pub part_written : (sc : Scenario) (asked : Asked) (is_plain : Bool) (told mid since : Option (List Turn)) (k after : KeptWorld) (held mid_held after_held : Option (List ℕ)) (ports : Ports) (passed : ℕ) (t : Turn)
     → (is : IsWritten sc asked is_plain told mid k held mid_held ports passed) → Next sc asked is_plain told mid since k after held mid_held ports passed t is
     → AppendsPart mid_held after_held (turn_text sc asked (records_in is.turns) (record_of t)) → WritesPart sc asked is_plain told since held after_held

@@ -191,7 +191,6 @@ kind_noted kind r from see (x ∷ earlier) before after good here others sets is
   taken = λ j h. ap (λ m. has m j) sets.taken ∙ is.taken j h;
 }
 
--- the same, said of the sets and the bound that are kept
 pub kind_notes : (kind : Side) (r from eps good : ℕ) (see : See) (stages : List JudgedStage) (before after : KeptKind)
     → eps ≡ eps_now stages → good ≡ good_now (other kind) stages → has good r ≡ true
     → ((sight : ℕ → See) → ShowsSource eps good sight (seen_of from before) → ShowsSource eps good (λ i. if i == r then see else sight i) (seen_of from after))

@@ -216,7 +216,7 @@ frame-agrees sc hands law low times frame is_reached = record {
       subst (IsLow sc hands frame) (sym (held_at sc hands law low frame 0 (omega arith) (reached sc hands law frame is_reached)).low_is) (times.first frame is_reached me i st g);
 }
 
--- so the times are all that is left
+-- the times are all that is left
 pub stands_in_time : (sc : Scenario) (hands : List HandIn) → IsLawful sc → (low : ℕ → ℕ) → BeginsInTime sc hands low → StandsFor sc hands
 stands_in_time sc hands law low times = record {
   bus = bus_in_rounds sc hands low;

@@ -61,7 +61,7 @@ delivery-2 st slot (DiagBiu i) sender voted = refl
 delivery-2 st slot (DiagRmu i) sender voted = refl
 delivery-2 st slot Sync sender voted = refl
 
--- and nothing in another stage
+-- nothing in another stage
 pub no-delivery : (me : Side) (st : NodeState) (slot : ℕ) (role : Role) (sender : Sender) (stage : ℕ) (voted : Heard) → (stage == 2) ≡ false
     → delivery_of me st slot role sender stage voted ≡ None
 no-delivery Biu st slot (Schedule i) sender stage voted h = refl
@@ -120,7 +120,7 @@ row-faulty sc m slot stage ws me i st faulty =
     go true c h = cc
     go false c h = refl
 
--- and a good one what it delivered
+-- a good one what it delivered
 pub line-good : (sc : Scenario) (hands : List HandIn) (n : ℕ) (m : Moment) (s : Shared) (slot q : ℕ) (c : Setting sc hands n m s slot q) (me : Side) (i : ℕ) (st : NodeState)
     → IsGoodNode sc m me i st
     → line_in (row_after sc m me i st)

@@ -91,7 +91,6 @@ takes_what_is_said s expected sense source slot stage j None ex el is = unexpect
 takes_what_is_said s expected sense source slot stage j (Some value) ex el is =
     expected_is_taken value_in s expected sense j ex el ∙ ap value_in is.is ∙ value_is_in source slot stage is.stamp value
 
--- and it does no wrong
 pub does_right : (expected : Bool) (sense : Sense) (source : NodeState) (slot stage : ℕ) (said : Option Heard)
     → expected ≡ is_some said → IsSenseOf sense source slot stage said → does_wrong expected sense ≡ false
 does_right expected sense source slot stage None ex is = rw (ex, is) refl
@@ -175,7 +174,7 @@ spares_right reference s expected sense j below right clear =
     ap (λ d. has d j) (compared-direct reference (closing_of s expected sense) (with_evidence (has_evidence s expected sense) s))
     ∙ others_stay (has_evidence s expected sense) s j below (right_is_no_evidence s expected sense j right) ∙ clear
 
--- and a source of which nothing but the value was taken is not accused by mismatch
+-- a source of which nothing but the value was taken is not accused by mismatch
 pub spares_alike : (reference : Option Heard) (s : Standing) (expected : ℕ → Bool) (sense : ℕ → Sense) (j : ℕ) → j < 16
     → ((value : Heard) → reference ≡ Some value → is_unlike value (taken_of value_in s expected sense j) ≡ false) → has s.mismatch j ≡ false
     → has (compare_with reference (closing_of s expected sense) (with_evidence (has_evidence s expected sense) s)).mismatch j ≡ false

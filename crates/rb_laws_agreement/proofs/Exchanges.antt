@@ -55,7 +55,6 @@ sender-held sc m s me st slot h =
     ∙ ap (λ r. sender_in (s.trusted Biu) r st.owners (role_of sc.sizes slot)) (trusted-either me Rmu st ∙ h.trusted Rmu)
     ∙ ap (λ o. sender_in (s.trusted Biu) (s.trusted Rmu) o (role_of sc.sizes slot)) h.owners
 
--- and trusts whom all trust
 pub far-held : (sc : Scenario) (m : Moment) (s : Shared) (me : Side) (st : NodeState) → Holds sc m s me st → st.far.trusted ≡ s.trusted (other me)
 far-held sc m s me st h = far-trusted me st ∙ h.trusted (other me)
 

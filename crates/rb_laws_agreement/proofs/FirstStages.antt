@@ -94,7 +94,6 @@ vector-inside : (s : Standing) (j : ℕ) → j < 16 → has (vector_of s) j ≡ 
 vector-inside s j small h =
     and_first (has s.trusted j) (has s.direct j || has s.mismatch j) (sym (has-set_of j (λ j. has s.trusted j && (has s.direct j || has s.mismatch j)) small) ∙ h)
 
--- and none that is not accused
 vector-spares : (s : Standing) (j : ℕ) → j < 16 → has s.direct j ≡ false → has s.mismatch j ≡ false → has (vector_of s) j ≡ false
 vector-spares s j small d m =
     has-set_of j (λ j. has s.trusted j && (has s.direct j || has s.mismatch j)) small

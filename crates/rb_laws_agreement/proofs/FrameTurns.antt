@@ -164,7 +164,6 @@ few_pass sc hands n m s e kind others test none =
     let contrary : true ≡ false = sym (and_second (has (s.trusted kind) i && is_valid others value) (test value) h) ∙ none i t good in cc) in
     valid-active sc hands n m s e kind others i t (and_second (has (s.trusted kind) i) (is_valid others value) both) faulty)
 
--- and one that each good node's valid vector passes by at least as many
 many_pass : (sc : Scenario) (hands : List HandIn) (n : ℕ) (m : Moment) (s : Shared) (e : AtEnd sc hands n m s) (kind : Side) (others : ℕ) (test : Heard → Bool)
     → ((i : ℕ) → has (s.trusted kind) i ≡ true → is_good_now sc m kind i ≡ true
     → (is_valid others (s.values (vector_slot sc.sizes kind i)) ≡ true) × (test (s.values (vector_slot sc.sizes kind i)) ≡ true))

@@ -80,7 +80,6 @@ told_by_good sc m slot stage ws me i st r told =
     go true false h = cc
     go false c h = cc
 
--- and tells whom it trusts
 trusts_told : (sc : Scenario) (me : Side) (i : ℕ) (st : NodeState) (w : Window) (heard : ℕ → List Coming) (r : Row) (kind : Side)
     → (close_on sc me i st w heard).row ≡ Some r → trusted_in kind r ≡ trusted_of kind me (close_on sc me i st w heard).state
 unfolding close_on row_of
@@ -160,7 +159,7 @@ nobody_trusted p some =
     let no_it : has 0 one.at ≡ false = has_none one.at in
     cc
 
--- so the premise holds after such a stage, if all good nodes trust the same
+-- the premise holds after such a stage, if all good nodes trust the same
 pub premise_after : (sc : Scenario) (m : Moment) (slot stage : ℕ) (ws : Windows sc m slot stage) (trusted : Side → ℕ)
     → ((me : Side) (i : ℕ) (st : NodeState) → slice_get (of_kind me m.nodes) i ≡ Some st → is_good sc me i m.frame slot ≡ true → (kind : Side) → trusted_of kind me st ≡ trusted kind)
     → verdict_of (judged_of sc (record { frame = m.frame; slot = slot; stage = stage }) (rows_of sc m) ∷ m.book.stages) ≡ None

@@ -85,7 +85,7 @@ book_exact sc m slot q below small at =
     ∙ ap (λ k. with_stage sc (record { frame = m.frame; slot = k; stage = m.window % 3 + 1 }) (rows_of sc m) m.book) e
     ∙ ap (λ k. with_stage sc (record { frame = m.frame; slot = slot; stage = k + 1 }) (rows_of sc m) m.book) f
 
--- so its stages are those with this one
+-- its stages are those with this one
 pub stages_after : (sc : Scenario) (hands : List HandIn) (n : ℕ) (m : Moment) (s : Shared) (slot q : ℕ) → Setting sc hands n m s slot q
     → (next sc m).book.stages ≡ stages_with sc m slot (q + 1)
 stages_after sc hands n m s slot q c =

@@ -81,7 +81,7 @@ sync_windows_are sc m q small at = record {
       ∙ ap (λ o. unwrap_or o (tail_at sc.sizes sc.plan me st)) (sync_window sc.sizes sc.plan q small);
 }
 
--- and the tail
+-- the tail
 pub tail_windows : (sc : Scenario) (m : Moment) → m.window ≡ 3 * sync_slot_of sc.sizes + 3 → Windows sc m (sync_slot_of sc.sizes) 4
 tail_windows sc m at = record {
   first = λ me st. tail_start_of sc.sizes sc.plan;

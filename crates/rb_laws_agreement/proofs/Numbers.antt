@@ -21,7 +21,6 @@ unfolding how_many
 how_many-le p q gives =
     size_within (set_of p) (set_of q) (λ i below is. has-set_of i q below ∙ gives i below (sym (has-set_of i p below) ∙ is))
 
--- or one of two others
 pub how_many-le_two : (p q r : ℕ → Bool) → ((i : ℕ) → i < 16 → p i ≡ true → (q i || r i) ≡ true) → how_many p ≤ how_many q + how_many r
 unfolding how_many
 how_many-le_two p q r gives =

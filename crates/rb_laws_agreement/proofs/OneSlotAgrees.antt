@@ -94,7 +94,7 @@ sender-says x trusted owners s p sender good =
     own_is_said x.sizes (kind_in x) p (x.before (kind_in x) p) x.slot (x.word p)
     (sender-held x trusted owners 0 s (omega arith) (kind_in x) p good ∙ sender) refl
 
--- and all good relays have got it
+-- all good relays have got it
 got-own : (x : Exchange) (trusted : Side → ℕ) (owners : List ℕ) (e : IsExchange x trusted owners) (s : Stands x trusted owners 0) (p : ℕ) → sender_of x trusted owners ≡ Node p
     → x.good (kind_in x) p ≡ true → (i : ℕ) → x.good (other (kind_in x)) i ≡ true → (state_after x 1 (other (kind_in x)) i).got ≡ Some (value_sent x p)
 got-own x trusted owners e s p sender good i g =

@@ -196,7 +196,6 @@ vote-held x trusted owners q s me i g votes =
     ∙ ap (λ b. get_or (if b then slice_set (state_after x q me i).votes x.slot (voted x q me i) else (state_after x q me i).votes) x.slot Fault) votes
     ∙ get_or-set_same (state_after x q me i).votes x.slot (voted x q me i) Fault (s.has_place me i g)
 
--- and one that does not keeps its vote
 pub vote-kept : (x : Exchange) (q : ℕ) (me : Side) (i : ℕ) → votes_in me (role_of x.sizes x.slot) (q + 1) ≡ false
     → vote_on (state_after x (suc q) me i) x.slot ≡ vote_on (state_after x q me i) x.slot
 unfolding state_after

@@ -188,13 +188,13 @@ sync-line sc m stage ws i st =
     go true = closed
     go false = refl
 
--- so ports stay
+-- ports stay
 pub sync_port : (sc : Scenario) (m : Moment) (stage : ℕ) (ws : Windows sc m (sync_slot_of sc.sizes) stage) (i : ℕ) (st : NodeState) → i < length m.ports
     → slice_get (of_kind Biu m.nodes) i ≡ Some st → port_at sc (next sc m).ports i ≡ port_at sc m.ports i
 sync_port sc m stage ws i st within is =
     window_port sc m i st within is ∙ ap (λ o. port_after o (port_at sc m.ports i)) (sync-line sc m stage ws i st)
 
--- and there are no lines
+-- there are no lines
 pub sync_lines : (sc : Scenario) (m : Moment) (stage : ℕ) (ws : Windows sc m (sync_slot_of sc.sizes) stage) → filter_map line_in (of_kind Biu (rows_of sc m)) ≡ []
 sync_lines sc m stage ws =
     none-delivered line_in (of_kind Biu (rows_of sc m))

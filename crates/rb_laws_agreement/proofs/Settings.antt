@@ -80,7 +80,7 @@ abbrev pub AllCarried : (sc : Scenario) (m : Moment) (slot stage : ℕ) → Type
 AllCarried sc m slot stage =
     (me : Side) (i : ℕ) (st : NodeState) → IsGoodNode sc m me i st → IfSome (says sc.sizes me i st slot stage (word_at sc m slot i)) IsCarried
 
--- so each good node hears each good source
+-- each good node hears each good source
 pub all_heard : (sc : Scenario) (hands : List HandIn) (n : ℕ) (m : Moment) (s : Shared) (slot q : ℕ) (c : Setting sc hands n m s slot q) → AllCarried sc m slot (q + 1)
     → (me : Side) (i j : ℕ) (st source : NodeState) → IsGoodNode sc m me i st → IsGoodNode sc m (other me) j source
     → IsHeard sc m slot (q + 1) (windows sc hands n m s slot q c) me i j st source

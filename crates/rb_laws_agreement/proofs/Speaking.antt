@@ -49,7 +49,7 @@ listens_second me role h = go (same_side me (sender_kind role)) refl h
     go true e h = same_side-is me (sender_kind role) e
     go false e h = cc
 
--- and who listens in the others is of the other kind
+-- who listens in the others is of the other kind
 pub listens_first : (me : Side) (role : Role) → listens me role 1 ≡ true → me ≡ other (sender_kind role)
 listens_first me role h = go (same_side me (sender_kind role)) refl h
   where
@@ -173,7 +173,6 @@ word_fits sc ports i slot Sync law = omega arith
 pub vector_fits : (st : NodeState) → vector_of st.far < 2 ^ 16
 vector_fits st = set_of-lt _
 
--- and so has what a sender says
 pub own_fits : (st : NodeState) (role : Role) (word : ℕ) → word < 2 ^ 32 → IsCarried (own_value st role word)
 own_fits st (Schedule i) word h = h
 own_fits st (Data n) word h = h

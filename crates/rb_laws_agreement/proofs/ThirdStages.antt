@@ -118,7 +118,6 @@ votes_kept sc hands n m s slot q c me i st now here is none =
     ap (λ t. t.votes) (sym is ∙ x.is) ∙ x.parts.votes
     ∙ ap (λ b. if b then slice_set st.votes slot (vote_of sc hands n m s slot q c me i st) else st.votes) none
 
--- and of other slots each node keeps its vote
 pub other_votes_kept : (sc : Scenario) (hands : List HandIn) (n : ℕ) (m : Moment) (s : Shared) (slot q : ℕ) (c : Setting sc hands n m s slot q) (me : Side) (i : ℕ) (st now : NodeState) (t : ℕ)
     → IsGoodNode sc m me i st → after sc m me i st ≡ now → t < slot → get_or now.votes t Fault ≡ get_or st.votes t Fault
 other_votes_kept sc hands n m s slot q c me i st now t here is before =

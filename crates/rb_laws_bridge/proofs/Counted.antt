@@ -78,7 +78,6 @@ one-more passes x (j ∷ js) = by (passes j) (j == x) (one-more passes x js)
     by false true h = omega arith
     by false false h = omega arith
 
--- and one is, where it passes
 one-less : (passes : ℕ → Bool) (x from n : ℕ) → from ≤ x → x < from + n → passes x ≡ true
     → count_if (without passes x) (range_with_len from n) + 1 ≤ count_if passes (range_with_len from n)
 one-less passes x from zero low high pass = absurd (omega arith)
@@ -156,7 +155,7 @@ none-passes passes none (j ∷ js) = by (passes j) refl (none-passes passes none
     by true e later = absurd (let no : false ≡ true = none j e in cc)
     by false e later = zero-more (count_if passes js) 0 later
 
--- and at most as many, where each number that passes is some item's
+-- at most as many, where each number that passes is some item's
 pub numbers-few : {X : Type 0} (key : X → ℕ) (passes : ℕ → Bool) (chosen : X → Bool) (xs : List X)
     → ((i : ℕ) → passes i ≡ true → list_any (λ x. key x == i) xs ≡ true)
     → ((x : X) → IsIn x xs → passes (key x) ≡ true → chosen x ≡ true)

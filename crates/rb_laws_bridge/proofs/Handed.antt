@@ -92,7 +92,7 @@ more-later b bank n (suc k) =
     same : (n k : ℕ) → n + suc k ≡ suc (n + k)
     same n k = omega arith
 
--- so a frame's records carry over the same, whatever is handed in later
+-- a frame's records carry over the same, whatever is handed in later
 pub carried-alike : (b : Bridge) (bank : Bank) (frame k : ℕ) → carried_to b (hands_up_to b (frame + k)) bank frame ≡ carried_to b (hands_up_to b frame) bank frame
 carried-alike b bank frame k =
     ap (λ make. map make pairs) (fun_ext (λ pair. ap (λ word. record { frame = frame + 1; biu = biu_on bank pair; state = word }) (ap (λ ds. word_of (value_in slot ds)) (same (biu_on near pair)))))

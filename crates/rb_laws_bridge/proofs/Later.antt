@@ -88,7 +88,7 @@ told-after sc hands frame i p (suc k) past =
     same : (p k : ℕ) → p + suc k ≡ suc (p + k)
     same p k = omega arith
 
--- so a frame is told alike
+-- a frame is told alike
 pub deliveries-alike : (sc : Scenario) (hands more : List HandIn) (frame : ℕ) → AreLater frame more → (i : ℕ)
     → port_deliveries frame i (records_of sc (hands ++ more)) ≡ port_deliveries frame i (records_of sc hands)
 deliveries-alike sc hands more frame late i =

@@ -43,7 +43,7 @@ filter-both {X} p q (x ∷ xs) = by (p x) (filter-both p q xs)
     by true h = ap (λ l. cond (q x) (x ∷ l) l) h
     by false h = h
 
--- those of pairs, of which the BIU is good as the frame begins, for BIU i
+-- the hand-ins of pairs whose BIU is good as the frame begins, for BIU i
 abbrev for_biu : (Pair → HandIn) → (Pair → Bool) → ℕ → List Pair → List HandIn
 for_biu make good i pairs = filter (λ h. h.biu == i) (map make (filter good pairs))
 

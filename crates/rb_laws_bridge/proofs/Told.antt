@@ -90,7 +90,6 @@ no-line-in : (sc : Scenario) (frame slot : ℕ) (owner : Option ℕ) (value : He
 no-line-in sc frame slot None value i faulty = refl
 no-line-in sc frame slot (Some owner) value i faulty = no-line sc frame slot owner value i faulty
 
--- and one for each that is, so that the bus delivers its value
 good-line : (sc : Scenario) (frame slot owner : ℕ) (value : Heard) (i : ℕ) → is_good sc Biu i frame slot ≡ true → value_in_lines (lines_of sc frame slot owner value) ≡ Some value
 good-line sc frame slot owner value i here = from 0 sc.sizes.bius (omega arith) (omega (arith, good_counts sc Biu i frame slot here))
   where

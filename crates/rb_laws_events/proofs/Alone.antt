@@ -52,7 +52,6 @@ nobody-of : (sc : Scenario) (frame slot : ℕ) → ((me : Side) (i : ℕ) → is
 nobody-of sc frame slot none =
     ap (λ n. (n == 0) && (good_at sc Rmu frame slot == 0)) (no-good sc Biu frame slot (none Biu)) ∙ ap (λ n. n == 0) (no-good sc Rmu frame slot (none Rmu))
 
--- and so nobody is later
 nobody-later : (sc : Scenario) (f s f2 s2 : ℕ) → IsShape sc.sizes → nobody_good sc f s ≡ true → (f < f2) ⊎ ((f ≡ f2) × (s ≤ s2)) → nobody_good sc f2 s2 ≡ true
 nobody-later sc f s f2 s2 shape h later = nobody-of sc f2 s2 (λ me i. by me i (is_good sc me i f2 s2) refl later)
   where

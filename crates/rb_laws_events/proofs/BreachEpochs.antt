@@ -64,7 +64,7 @@ none-up m bound lt (x ∷ xs) all =
     not-le : (a b : ℕ) → b < a → nat_le a b ≡ false
     not-le a b h = grind (arith, nat_tests)
 
--- so a middle is not below them
+-- a middle is not below them
 least-middle : (m bound : ℕ) (xs : List ℕ) → Every (λ k. bound ≤ k) xs → IsMiddle m xs → bound ≤ m
 least-middle m bound xs all is =
     elim (cases_lt m bound) [
@@ -166,7 +166,7 @@ rmu-middle sc hands lawful p running at i st h =
     (omega (arith, epoch)) in
     (_, (kept.k3, omega (arith, least, its, third-first sc m at Rmu st)))
 
--- so whatever the verdict good nodes begin the next frame after all stages of this one
+-- whatever the verdict good nodes begin the next frame after all stages of this one
 pub begins-after : (sc : Scenario) (hands : List HandIn) → IsLawful sc → (p : ℕ) → IsRunning (moment sc hands p) → (moment sc hands p).window + 1 ≡ stages_in sc.sizes
     → HaveBegunAFrame sc (moment sc hands p) (moment sc hands (suc (suc (suc p))))
 begins-after sc hands lawful p running last me i before now good then_good =

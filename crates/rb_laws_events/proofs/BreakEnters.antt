@@ -55,7 +55,7 @@ sent-then sc hands lawful p q running small at me i st there good you j yours th
           absurd (omega (arith, come, some.0, some.1, up, at_time, le))
     ]
 
--- so a node that stands in it waits for its last tick
+-- a node that stands in it waits for its last tick
 pub waits-then : (sc : Scenario) (hands : List HandIn) → IsLawful sc → HasRoom sc.plan → (sent : Side → ℕ → ℕ → Bool) (now p q : ℕ) → IsRunning (moment sc hands p) → q < 3
     → (moment sc hands p).window ≡ 3 * sync_slot_of sc.sizes + q → (me : Side) (i : ℕ) (s : Site) (st : NodeState) (a : Timed) → NodeStands sc hands sent now me i p s st a
     → (you : Side) (j : ℕ) (yours : NodeState) → slice_get (of_kind you (moment sc hands p).nodes) j ≡ Some yours → is_good_at sc (moment sc hands p) you j ≡ true

@@ -88,7 +88,6 @@ unheard-next (suc (suc q)) small me e = absurd (omega arith)
 stage-is : (sc : Scenario) (m : Moment) (q : ℕ) → q < 3 → m.window ≡ 3 * sync_slot_of sc.sizes + q → (me : Side) (st : NodeState) → (window_in sc m me st).stage ≡ q + 1
 stage-is sc m q small at me st = ap (λ (w : Window). w.stage) ((sync_windows_are sc m q small at).are me st)
 
--- and it says nothing to a node that listens in the stage
 pub ticks-quiet : (sc : Scenario) (hands : List HandIn) → IsLawful sc → HasRoom sc.plan → (sent : Side → ℕ → ℕ → Bool) (now then : ℕ) (ports : List PortState) (p q : ℕ) → IsRunning (moment sc hands p) → q < 2
     → (moment sc hands p).window ≡ 3 * sync_slot_of sc.sizes + q → (me : Side) (i : ℕ) (s : Site) (a : Timed) → TickBreaks sc hands sent ports p me i s a → SiteBreaks sc hands sent now p me i s
     → (side : Side) (n : ℕ) (z : Site) → WaitsHearing sc hands sent then side n p z → same_side side (other me) ≡ true

@@ -56,13 +56,12 @@ pub record BreakStands (sc : Scenario) (N : ℕ → List HandIn → ℕ → (Sid
   pub needs : needs_no_event sc book.upcoming ≡ false
   pub open_still : is_complete sc sites (Stage (place_at sc.sizes (moment sc hands b))) ≡ false
 
--- and no frame's record is the turn
+-- no frame's record is the turn
 pub record BreaksOff (sc : Scenario) (N : ℕ → List HandIn → ℕ → (Side → ℕ → ℕ → Bool) → Each Site → Type 0) (w : World) : Type 0 where
   pub stands : BreakStands sc N w.hands w.sites w.book
   pub silent : frame_in w.turn ≡ None
   pub ports : PortsBreak sc w
 
--- and one in which it has broken off
 pub record IsOver (sc : Scenario) (N : ℕ → List HandIn → ℕ → (Side → ℕ → ℕ → Bool) → Each Site → Type 0) (w : World) : Type 0 where
   pub b : ℕ
   pub q : ℕ

@@ -137,7 +137,6 @@ rmu-closes sc i c st message kept = by (is_last sc.sizes sc.plan Rmu st c.had)
     by true = rmu-none sc i kept w.slot w.stage (kept.epoch + w.first) _ (w.slot == sync_slot_of sc.sizes)
     by false = refl
 
--- nor at any tick
 rmu-ticks : (sc : Scenario) (ports : List PortState) (i k : ℕ) (c : Core) → option_and_then (λ (c : Closed). c.delivered) (pass_and_tick sc ports Rmu i k c).closed ≡ None
 unfolding pass_and_tick tick act_at
 rmu-ticks sc ports i k c = by (is_spent ready)
@@ -161,7 +160,7 @@ rmu-ticks sc ports i k c = by (is_spent ready)
     by true = refl
     by false = rmu-closes sc i ready st message (state_kept sc.sizes Rmu i st word message)
 
--- so a tick leaves the ports of all other nodes
+-- a tick leaves the ports of all other nodes
 others-stay : (sc : Scenario) (ports : List PortState) (me : Side) (i k : ℕ) (c : Core) (j : ℕ) → is_node me i Biu j ≡ false
     → port_at sc (with_delivery sc i (option_and_then (λ (c : Closed). c.delivered) (pass_and_tick sc ports me i k c).closed) ports) j ≡ port_at sc ports j
 others-stay sc ports Biu i k c j other = port-kept sc i j (option_and_then (λ (c : Closed). c.delivered) (pass_and_tick sc ports Biu i k c).closed) ports (λ e. itself j i e other)
@@ -218,7 +217,6 @@ last-or-later sc N hands b q sent ports sites i s a lawful keeps off h there pen
       | inl runs ↦ elim (keeps.waits hands b off sent sites h.nodes Biu i s there runs good) [ inl last ↦ of-waits waits last | inr tells ↦ of-tells waits tells ]
     ]
 
--- so it has had it then
 own-last : (sc : Scenario) (N : ℕ → List HandIn → ℕ → (Side → ℕ → ℕ → Bool) → Each Site → Type 0) (hands : List HandIn) (b q : ℕ) (sent : Side → ℕ → ℕ → Bool) (ports : List PortState) (sites : Each Site)
     → (me : Side) (i : ℕ) (s : Site) (a : Timed) → IsLawful sc → KeepsNodes sc q (N q) → BreaksAt sc hands b q → NodesOff sc N hands b q sent sites → slice_get (of_kind me sites) i ≡ Some s → s.ahead ≡ Some a
     → FirstOf sc hands b a.time → PortsOff sc hands b ports sites → me ≡ Biu → is_good_at sc (moment sc hands b) Biu i ≡ true

@@ -91,7 +91,6 @@ before-later sc me i k h = elim (cases_lt k h.k) [
       absurd (omega (arith, up, later))
 ]
 
--- so that it is counted
 pub acted-had : (sc : Scenario) (ports : List PortState) (me : Side) (i k : ℕ) (s : Site) (h : HasLater sc (time_of (clock_of sc me i) k) me i) → s.core.had ≤ k
     → (after_act sc ports me i (pass_and_tick sc ports me i k s.core) s).core.had ≡ k + 1
 unfolding pass_and_tick
@@ -105,7 +104,7 @@ acted-had sc ports me i k s h had =
     let core : z.core.had ≡ x.core.had = ap (λ (c : Core). c.had) (acted sc ports me i x s).core_is in
     omega (arith, core, ticked, passed)
 
--- and there are more after it
+-- there are more after it
 pub acted-small : (sc : Scenario) (ports : List PortState) (me : Side) (i k : ℕ) (s : Site) (h : HasLater sc (time_of (clock_of sc me i) k) me i) → s.core.had ≤ k
     → (after_act sc ports me i (pass_and_tick sc ports me i k s.core) s).core.had < 2 ^ 31
 acted-small sc ports me i k s h had =
@@ -114,7 +113,6 @@ acted-small sc ports me i k s h had =
     let small = h.small in
     omega (arith, counted, below, small)
 
--- and after an arrival it has had fewer
 pub arrived-small : (sc : Scenario) (me : Side) (i n : ℕ) (c : Coming) (s : Site) → Moves (clock_of sc me i) → HasLater sc c.time me i → s.core.had < 2 ^ 31 → (after_arrival sc me i n c s).core.had < 2 ^ 31
 unfolding after_arrival
 arrived-small sc me i n c s moves h had =

@@ -43,7 +43,6 @@ pub record WaitsHearing (sc : Scenario) (hands : List HandIn) (sent : Side → �
   pub hears : listens me Sync (window_in sc (moment sc hands p) me st).stage ≡ true
   pub last : a.tick ≡ last_tick sc (moment sc hands p) me st
 
--- and one that does not. Anything may have come to it
 pub record WaitsDeaf (sc : Scenario) (hands : List HandIn) (me : Side) (i p : ℕ) (s : Site) : Type 0 where
   pub st : NodeState
   pub a : Timed

@@ -69,7 +69,7 @@ before-next sc hands lawful room p q running small at me i s h you j yours there
           absurd (omega (arith, order, last_time, up, at_time, le))
     ]
 
--- so its tick tells nothing
+-- its tick tells nothing
 pub closed-goes-on : (sc : Scenario) (hands : List HandIn) → IsLawful sc → HasRoom sc.plan → (ports : List PortState) (p q : ℕ) → IsRunning (moment sc hands p) → q < 2
     → (moment sc hands p).window ≡ 3 * sync_slot_of sc.sizes + q
     → (me : Side) (i : ℕ) (s : Site) → HasClosed sc hands me i p s

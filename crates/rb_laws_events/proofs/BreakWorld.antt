@@ -28,7 +28,7 @@ use Rattle.rb_laws_events.proofs.ToldInOrder.{one-changes}
 abbrev pub SitesBreak : Scenario → List HandIn → (Side → ℕ → ℕ → Bool) → ℕ → ℕ → Each Site → Type 0
 SitesBreak sc hands sent now p sites = (side : Side) (j : ℕ) (z : Site) → slice_get (of_kind side sites) j ≡ Some z → SiteBreaks sc hands sent now p side j z
 
--- and each at a time of its own
+-- each at a time of its own
 abbrev pub NodesBreak : Scenario → List HandIn → ℕ → (Side → ℕ → ℕ → Bool) → Each Site → Type 0
 NodesBreak sc hands p sent sites = (side : Side) (j : ℕ) (z : Site) → slice_get (of_kind side sites) j ≡ Some z → (now : ℕ) × SiteBreaks sc hands sent now p side j z
 

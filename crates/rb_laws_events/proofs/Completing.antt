@@ -73,7 +73,7 @@ stage-completed sc hands at now_at sites now_sites place event old new =
       | inr number ↦ sym (ap (number_at sc.sizes) row.1.1) ∙ number
     ]
 
--- and a start that it completes is that at which the node stands
+-- a start that it completes is that at which the node stands
 record BeginCompleted (sc : Scenario) (at now_at : Side → ℕ → ℕ) (me : Side) (i frame : ℕ) : Type 0 where
   good : is_good sc me i frame 0 ≡ true
   stood : at me i ≡ frame * (windows_in sc.sizes + 1)

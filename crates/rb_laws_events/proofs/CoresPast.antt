@@ -213,7 +213,6 @@ early-node sc hands sent now b q me i s ticks off runs (inr (inr (inl deaf))) ru
 early-node sc hands sent now b q me i s ticks off runs (inr (inr (inr closed))) running =
     late-ended sc hands me b q s.core ticks off (closed-late sc hands me i b q s ticks off closed) running
 
--- and with the last
 last-node : (sc : Scenario) (hands : List HandIn) (sent : Side → ℕ → ℕ → Bool) (b : ℕ) (me : Side) (i : ℕ) (s : Site) (a : Timed) → HasTicks sc.plan → BreaksAt sc hands b 2 → s.runs ≡ true
     → s.ahead ≡ Some a → SiteLast sc hands sent b me i s → IsRunning (own_moment sc hands me s.core) → IsStill sc hands me i b s.core
 last-node sc hands sent b me i s a ticks off runs pends (inl stopped) running = true-false (sym runs ∙ stopped.runs)

@@ -28,7 +28,6 @@ takes-none me st stage sense deaf j = by (listens me Sync stage) (has st.far.tru
     by true b c e = cc
     by false b c e = refl
 
--- so it shows nothing of any source
 no-sees : (f : ℕ → Option ℕ) → ((j : ℕ) → f j ≡ None) → (ns : List ℕ) → map see_time (map f ns) ≡ map (λ n. Nothing) ns
 no-sees f none [] = refl
 no-sees f none (n ∷ ns) = ap (λ o. see_time o ∷ map see_time (map f ns)) (none n) ∙ ap (λ l. Nothing ∷ l) (no-sees f none ns)
@@ -78,7 +77,6 @@ deaf-row sizes me i st stage first sense heard deaf =
     row-by sizes me i st stage first sense heard (map (λ n. Nothing) (numbers 16)) none
     ∙ ap (λ sees. record (silent_row sizes me st stage) { sees = sees }) (nothing-judged heard (numbers 16) (numbers 16))
 
--- and knows the same, but for accusations
 pub deaf-state : (sizes : Sizes) (me : Side) (st : NodeState) (stage first : ℕ) (sense : ℕ → Sense) → listens me Sync stage ≡ false
     → (close_sync sizes me st stage first sense).state ≡ record st { far = with_evidence (has_evidence st.far (expects_call me st stage) sense) st.far }
 unfolding close_sync sync_outcome_of

@@ -68,7 +68,7 @@ ticks-left sc lawful w (inl run) going = in-rounds-left sc w run.stands
 ticks-left sc lawful w (inr (inl off)) going = record { counts = off.stands.nodes.counts; left = left-off sc (nodes_at sc) w lawful (keeps sc lawful) off }
 ticks-left sc lawful w (inr (inr over)) going = true-false (sym over.ended ∙ going)
 
--- and a node that runs has some left
+-- a node that runs has some left
 runs-left : (sc : Scenario) → IsLawful sc → (w : World) → AnyWorld sc (nodes_at sc) w → (me : Side) (i : ℕ) (s : Site) → slice_get (of_kind me w.sites) i ≡ Some s → s.runs ≡ true → s.core.had < 2 ^ 31
 runs-left sc lawful w (inl run) me i s there runs =
     let h : StandsInRounds sc w = run.stands in

@@ -314,6 +314,6 @@ of-any sc N w (inl run) = run.stands.stands.book
 of-any sc N w (inr (inl off)) = inr (off.stands.b, off.stands.is)
 of-any sc N w (inr (inr over)) = over.of
 
--- so events are rounds
+-- events are rounds
 pub events-are-rounds : (sc : Scenario) (N : ℕ → List HandIn → ℕ → (Side → ℕ → ℕ → Bool) → Each Site → Type 0) → ((choices : List Choice) → AnyWorld sc N (world_after sc choices)) → EventsAreRounds sc
 events-are-rounds sc N any = law-from sc (λ choices. of-rounds sc (world_after sc choices) (of-any sc N (world_after sc choices) (any choices)))

@@ -48,7 +48,7 @@ may_at sc zero hands b me i r e s = MayBreak sc hands b me i r e s
 may_at sc (suc zero) hands b me i r e s = MayBreak sc hands b me i r e s
 may_at sc (suc (suc q)) hands b me i r e s = MayLast sc hands b me i r e s
 
--- and the room at all nodes
+-- the room at all nodes
 pub record FewOff (sc : Scenario) (q : ℕ) (hands : List HandIn) (b : ℕ) (sites : Each Site) : Type 0 where
   pub sends : Side → ℕ → ℕ
   pub enters : Side → ℕ → ℕ

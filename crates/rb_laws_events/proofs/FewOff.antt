@@ -26,7 +26,6 @@ abbrev pub messages_in : Option Message → ℕ
 messages_in None = 0
 messages_in (Some m) = 1
 
--- and how many of them reach a node of this kind
 abbrev added : Side → Option Message → Side → ℕ
 added Biu m Biu = 0
 added Biu m Rmu = messages_in m

@@ -171,7 +171,6 @@ speaks-once sizes plan me i st n k word room lt le at h stage t heard e =
       ]
     ]
 
--- and it says nothing if all has been said
 pub spoken-quiet : {P : Type 0} (sizes : Sizes) (plan : Plan) (me : Side) (i : ℕ) (st : NodeState) (k word : ℕ) → IsSentThen sizes plan me i st (sync_slot_of sizes) word k → HasSpoken sizes plan me st k → P
 spoken-quiet sizes plan me i st k word h spoken =
     let its = call_sent sizes plan me i st h.stage word h.x h.sends in

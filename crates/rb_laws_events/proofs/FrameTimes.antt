@@ -63,7 +63,6 @@ begun-well sc hands lawful n running =
       within = omega arith;
     }
 
--- so they have in the moments after it of the same frame, whatever comes of the run
 pub well-on : (sc : Scenario) (hands : List HandIn) → IsLawful sc → (n : ℕ) → (moment sc hands n).window < windows_in sc.sizes → BegunWell sc (moment sc hands n)
     → BegunWell sc (moment sc hands (suc n))
 well-on sc hands lawful n inside h =

@@ -32,7 +32,6 @@ complete-alone sc sites (Begin frame) shape h = none-asked sc frame 0 (λ s. beg
 complete-alone sc sites (Stage place) shape h = none-asked sc place.frame place.slot (λ s. row_for place s.row) sites shape h
 complete-alone sc sites End shape h = refl
 
--- so it is settled
 pub next-alone : (sc : Scenario) (w : World) → IsShape sc.sizes → needs_no_event sc w.book.upcoming ≡ true → settle_next sc ByItself w ≡ next_world sc w w.book.upcoming
 next-alone sc w shape h =
     ap (λ b. elim b as (λ _. World) [ true ↦ next_world sc w w.book.upcoming | false ↦ w ])

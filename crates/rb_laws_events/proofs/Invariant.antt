@@ -38,7 +38,6 @@ is_good_at sc m me i = is_good sc me i m.frame (slot_numbered sc.sizes m.window)
 abbrev pub sending_of : Scenario → Moment → Side → ℕ → Option Sending
 sending_of sc m side j = at_source (of_kind side (sent_in sc m)) j
 
--- and how it comes to node i of kind me
 abbrev pub entry_of : Scenario → Moment → Side → ℕ → ℕ → List Coming
 entry_of sc m me i j = option_to_list (option_map (coming_of sc me i j m.frame) (sending_of sc m (other me) j))
 
@@ -60,7 +59,6 @@ abbrev pub heard_so_far : Scenario → Moment → Side → ℕ → Span → (ℕ
 heard_so_far sc m me i span sent j =
     elim (is_good_at sc m (other me) j) [ true ↦ elim (sent j) [ true ↦ entry_of sc m me i j | false ↦ [] ] | false ↦ said_by sc me i span j ]
 
--- and for that of the next stage, for which a source that is not good has said nothing
 abbrev pub ahead_so_far : Scenario → Moment → Side → ℕ → (ℕ → Bool) → ℕ → List Coming
 ahead_so_far sc m me i sent j =
     elim (is_good_at sc m (other me) j) [ true ↦ elim (sent j) [ true ↦ entry_of sc m me i j | false ↦ [] ] | false ↦ [] ]

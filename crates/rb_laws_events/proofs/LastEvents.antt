@@ -158,7 +158,6 @@ deaf-quiet sc hands lawful room sent ports p running at me i s a t h =
     gone k None h = refl
     gone k (Some x) h = ap (λ b. elim b as (λ _. Option Message) [ true ↦ Some x.message | false ↦ None ]) (differs x.tick k (h x refl))
 
--- and what the node says comes to a node that listens in the stage after that one's last tick
 pub ticks-late : (sc : Scenario) (hands : List HandIn) → IsLawful sc → HasRoom sc.plan → (sent : Side → ℕ → ℕ → Bool) (ports : List PortState) (p : ℕ) → IsRunning (moment sc hands p)
     → (moment sc hands p).window ≡ 3 * sync_slot_of sc.sizes + 2 → (me : Side) (i : ℕ) (s : Site) (a : Timed) → TickBreaks sc hands sent ports p me i s a → SiteLast sc hands sent p me i s
     → (frame : ℕ) (side : Side) (n : ℕ) (z : Site) (w : WaitsAhead sc hands sent side n p z) → same_side side (other me) ≡ true

@@ -81,8 +81,7 @@ acts-next sc ports me i x s =
     close-core None s = refl
     close-core (Some c) s = refl
 
--- so a node that stands in the tail or in the next frame's first window waits for its next tick
--- there
+-- a node that stands in the tail or in the next frame's first window waits for its next tick there
 pub waits-next : (sc : Scenario) (ports : List PortState) (me : Side) (i : ℕ) (st : NodeState) (x : ℕ) (act : Act) (s : Site)
     → (IsInTail sc.sizes sc.plan me st.frame st.epoch x act.core.state act.core.had × (act.core.had ≤ x)) ⊎ HasTurned st.frame x act.core.state act.core.had
     → (a : Timed) → (after_act sc ports me i act s).ahead ≡ Some a → AwaitsNext sc me i st x (after_act sc ports me i act s).core a

@@ -71,7 +71,7 @@ one-number sc hands p q e f =
 abbrev pub place_at : Sizes → Moment → Place
 place_at sizes m = record { frame = m.frame; slot = slot_numbered sizes m.window; stage = m.window % 3 + 1 }
 
--- and the stage of a place
+-- the stage of a place
 pub one-place : (sizes : Sizes) (m x : Moment) → m.window < stages_in sizes → x.window < stages_in sizes
     → slot_numbered sizes m.window ≡ slot_numbered sizes x.window → m.window % 3 + 1 ≡ x.window % 3 + 1 → m.window ≡ x.window
 one-place sizes m x a b e f = omega arith

@@ -55,7 +55,6 @@ good-back sc hands p q me i le good =
     let e : q - p + p ≡ q = omega arith in
     good-some-before sc hands p (q - p) me i (ap (λ k. is_good_at sc (moment sc hands k) me i) e ∙ good)
 
--- and it has a state there
 pub good-state : (sc : Scenario) (hands : List HandIn) (p : ℕ) (me : Side) (i : ℕ) → HasTicks sc.plan → is_good_at sc (moment sc hands p) me i ≡ true
     → (st : NodeState) × (slice_get (of_kind me (moment sc hands p).nodes) i ≡ Some st)
 good-state sc hands p me i ticks good =

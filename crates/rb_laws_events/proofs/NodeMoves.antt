@@ -1,4 +1,4 @@
--- For the law that events are rounds: if a node stands after it has closed a window: in the next
+-- For the law that events are rounds: where a node stands after it has closed a window: in the next
 -- one, or past an empty tail and the turn in the first one of the next frame.
 use Rattle.std.proofs.Common.{◌≡◌, ℕ, suc, ◌+◌, ◌*◌, ◌-◌, ◌<◌, ◌≤◌, ◌==◌, ◌&&◌, nat_le, nat_lt, Bool, true, false, refl, ap, sym, ◌∙◌, subst, arith, inl, inr, ◌⊎◌, List, Option, Some, None, is_some, slice_get, option_map, unwrap_or, if◌then◌else◌}
 use Rattle.std.proofs.lemmas.Bool.{cases_lt, le-ltb, lt-leb, lt-ltb}
@@ -102,7 +102,6 @@ epoch-known sizes plan Biu st n h k =
 epoch-known sizes plan Rmu st n h k =
     is_some-map (λ k3. k3 + plan.z) st.k3 ∙ k.k3 ∙ lt-ltb (3 * sync_slot_of sizes + 3 - 1) n (omega arith)
 
--- and none before the sync slot
 
 epoch-unknown : (sizes : Sizes) (plan : Plan) (me : Side) (st : NodeState) (n : ℕ) → n ≤ 3 * sync_slot_of sizes → Knows sizes me n st → new_epoch_of plan me st ≡ None
 epoch-unknown sizes plan Biu st n h k =

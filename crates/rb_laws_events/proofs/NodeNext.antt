@@ -97,7 +97,7 @@ end-of sizes plan me i st y n had like at =
     let to : had ≤ st.epoch + last_of sizes plan me st n = at.to in
     (record { from = omega arith; to = omega arith }, omega arith)
 
--- so the next busy tick is one of the window
+-- the next busy tick is one of the window
 within : (sizes : Sizes) (plan : Plan) (me : Side) (i : ℕ) (st y : NodeState) (n had k : ℕ) → HasRoom plan → n ≤ stages_in sizes
     → KeepsTime sizes plan me st → IsTickIn sizes plan me st n had → Like sizes plan me i st y → IsNext sizes plan me i y had k
     → k ≤ st.epoch + last_of sizes plan me st n
@@ -114,7 +114,7 @@ within sizes plan me i st y n had k room le keeps at like next =
       | inr ge ↦ omega arith
     ]
 
--- and up to it nothing is said
+-- up to it nothing is said
 unchanged : (sizes : Sizes) (plan : Plan) (me : Side) (i : ℕ) (st y : NodeState) (n word had k : ℕ) → HasRoom plan → n ≤ stages_in sizes
     → KeepsTime sizes plan me st → IsTickIn sizes plan me st n had → k ≤ st.epoch + last_of sizes plan me st n → Like sizes plan me i st y
     → IsNext sizes plan me i y had k → (o : Option Sending) → sending_at sizes plan me i st n word ≡ o → gone o had ≡ gone o k

@@ -160,7 +160,6 @@ said-in sizes plan me i st slot r word k ticks inside keeps le small slot_is at 
     (λ q sq differ. other-stage sizes plan me i st slot q (3 * slot + r) word k ticks inside keeps le sq (omega arith)
     (elim differ [ inl lt ↦ inl (omega arith) | inr gt ↦ inr (omega arith) ]) at)
 
--- and at a tick of the tail nothing
 said-in-tail : (sizes : Sizes) (plan : Plan) (me : Side) (i : ℕ) (st : NodeState) (word k : ℕ) → HasTicks plan → SendsInside plan
     → KeepsTime sizes plan me st → IsTickIn sizes plan me st (stages_in sizes) k → said_at sizes plan me i st word k ≡ None
 unfolding said_at
@@ -228,7 +227,7 @@ said-is sizes plan me i st n word k ticks inside keeps le at =
           (sync-said sizes plan me i st r word k ticks inside keeps (omega arith) (subst (λ m. IsTickIn sizes plan me st m k) (sym e) at))
     ]
 
--- If the message of a window goes out.
+-- Where the message of a window goes out.
 
 sync-sent : (sizes : Sizes) (plan : Plan) (me : Side) (i : ℕ) (st : NodeState) (r word : ℕ) (s : Sending) → SendsInside plan → KeepsTime sizes plan me st
     → r < 4 → sending_at sizes plan me i st (3 * sync_slot_of sizes + r) word ≡ Some s → IsTickIn sizes plan me st (3 * sync_slot_of sizes + r) s.tick

@@ -217,7 +217,7 @@ has-begun {w} {me} sc lawful frame slot node at a =
     was-there sc w.hands lawful frame slot a.within me node.index (stage - 1) stage (omega (arith, some)) (omega (arith, most)) (runs-there sc lawful frame slot node at) a.st a.there in
     record { st = was.st; is = record { good = a.good; state = was.there }; epoch = a.epoch ∙ was.epoch_is }
 
--- so two nodes begin the slot near each other
+-- two nodes begin the slot near each other
 begin-near : {w : World} (sc : Scenario) → IsLawful sc → FollowsTheRounds sc w → NodesBeginSlotsNear sc w
 begin-near {w} sc lawful follow frame slot me you mine yours at there =
     let a : IsIn sc frame slot mine = in-slot sc lawful frame slot mine follow at in

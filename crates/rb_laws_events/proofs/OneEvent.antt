@@ -116,7 +116,6 @@ pub record MayHappen (sc : Scenario) (at : Side → ℕ → ℕ) (w : World) (n 
   pub within : (p : ℕ) → p ≤ n → IsWithin sc.sizes w.book.upcoming p
   pub up_to : UpTo sc w.hands n
 
--- and it is not the close of the window of moment n
 abbrev pub ClosesEarlier : Scenario → List HandIn → (Side → ℕ → ℕ) → ℕ → Side → ℕ → Pending → Type 0
 ClosesEarlier sc hands at n me i (Tick k) =
     (st : NodeState) → slice_get (of_kind me (moment sc hands (at me i)).nodes) i ≡ Some st → k ≡ last_tick sc (moment sc hands (at me i)) me st → at me i < n

@@ -1,5 +1,5 @@
 -- For the law that events are rounds: one due event keeps the whole invariant, as long as the nodes
--- are in time where they stand and if the node of the event stands next.
+-- are in time where they stand and where the node of the event stands next.
 use Rattle.std.proofs.Common.{◌≡◌, ℕ, zero, suc, ◌<◌, ◌≤◌, ◌&&◌, not, Bool, true, false, List, length, refl, ap, sym, ◌∙◌, subst, arith, Option, Some, None, slice_get}
 use Rattle.std.proofs.lemmas.Option.{same_Some}
 use Rattle.rb_base.specs.Nodes.{Side, other}
@@ -119,7 +119,7 @@ pub world-waits : (sc : Scenario) (now : ℕ) (at : Side → ℕ → ℕ) (w : W
 world-waits sc now at w h going needs =
     waits-at sc w.hands now at w.sites w.book h.sites h.so_far (is-paced sc now at w h) going needs h.book
 
--- so the nodes are in time where they stand
+-- the nodes are in time where they stand
 pub are-in-time : (sc : Scenario) (now : ℕ) (at : Side → ℕ → ℕ) (w : World) (n : ℕ) → WorldInRounds sc now at w → MayHappen sc at w n
     → AreInTime sc w.hands at
 are-in-time sc now at w n h may =

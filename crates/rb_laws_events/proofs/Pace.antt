@@ -64,7 +64,7 @@ rises sizes place few = by (nat_lt place.stage 3) (place.slot == sync_slot_of si
         omega (arith, same, more, few)
     by false false e = omega (arith, few)
 
--- so a node up to the number of what comes after a stage is within it
+-- a node up to the number of what comes after a stage is within it
 after-within : (sizes : Sizes) (place : Place) (p : ℕ) → p ≤ number_of sizes (after_stage sizes place) → IsWithin sizes (after_stage sizes place) p
 after-within sizes place p = by (nat_lt place.stage 3) (place.slot == sync_slot_of sizes) refl
   where

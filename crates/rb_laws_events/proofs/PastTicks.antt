@@ -147,7 +147,6 @@ past-tick sizes plan me i frame e n c word ticks le h before = by (is_spent c)
         subst (λ z. TellsNone sizes plan me i frame e n c.state (act_on sizes plan me i c z (said_at sizes plan me i z word c.had) (state_kept sizes me i z word (said_at sizes plan me i z word c.had))))
         (sym now) (act (said_at sizes plan me i st word c.had))
 
--- nor does it where something comes
 pub past-arrival : (sizes : Sizes) (plan : Plan) (me : Side) (frame e n : ℕ) (c : Core) (j : ℕ) (bytes : List ℕ) → IsPast sizes plan me frame e n c.state c.had
     → IsPast sizes plan me frame e n (arrive sizes me c j bytes).state (arrive sizes me c j bytes).had
 unfolding arrive

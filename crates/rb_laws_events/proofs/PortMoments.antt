@@ -50,7 +50,6 @@ has-word sc ports m Rmu i st same =
     rmu-words sc.sizes i st (window_in sc m Rmu st).slot (window_in sc m Rmu st).stage
     (word_for sc ports i (window_in sc m Rmu st).slot (role_of sc.sizes (window_in sc m Rmu st).slot)) (word_at sc m Rmu i st)
 
--- and after a close in the world
 pub port-given : (sc : Scenario) (i : ℕ) (d : Option Delivery) (ports : List PortState) → i < length ports
     → port_at sc (with_delivery sc i d ports) i
     ≡ port_after (option_map (λ (d : Delivery). let l : SlotLine = record { receiver = i; sender = d.sender; value = d.value } in l) d) (port_at sc ports i)
@@ -90,7 +89,6 @@ port-after-window sc hands p i st inside counted there =
     ∙ port-after sc rows m.ports i (omega arith)
     ∙ ap (λ row. port_after (line_in row) (port_at sc m.ports i)) row
 
--- and so does a close in the world that gave that row
 pub port-after-close : (sc : Scenario) (i : ℕ) (ports : List PortState) (st : NodeState) (heard : ℕ → List Coming) (c : Closed) → i < length ports
     → port_at sc (with_delivery sc i (option_and_then (λ (c : Closed). c.delivered) (Some c)) ports) i ≡ port_after (line_in (Some (row_of Biu i st heard c))) (port_at sc ports i)
 unfolding row_of

@@ -93,11 +93,9 @@ next-first a slot = omega arith
 next-second : (a slot : ℕ) → a + 3 * (slot + 1) + 2 - 1 ≡ suc (a + 3 * slot + 4 - 1)
 next-second a slot = omega arith
 
--- so it is before the first stage of the next
 pub then-first : (sc : Scenario) (hands : List HandIn) (frame slot i : ℕ) → port_at sc (before_stage sc hands frame (slot + 1) 1).ports i ≡ port_at sc (after_slot sc hands frame slot).ports i
 then-first sc hands frame slot i = ap (λ n. port_at sc (moment sc hands n).ports i) (next-first (frame * (windows_in sc.sizes + 1)) slot)
 
--- and before the second
 pub then-second : (sc : Scenario) (hands : List HandIn) → IsLawful sc → (frame slot i : ℕ) → slot ≤ sync_slot_of sc.sizes → IsComplete sc hands frame slot → i < sc.sizes.bius
     → port_at sc (before_stage sc hands frame (slot + 1) 2).ports i ≡ port_at sc (after_slot sc hands frame slot).ports i
 then-second sc hands lawful frame slot i le complete counted =

@@ -80,7 +80,6 @@ none-entered sc hands sites me i p q s all there told later good first =
     let f : h.frame * (windows_in sc.sizes + 1) ≡ m.frame * (windows_in sc.sizes + 1) = ap (λ f. f * (windows_in sc.sizes + 1)) same in
     omega (arith, le, number.0, up, f, first, later)) all
 
--- and that whose first tick is pending
 none-begun : (sc : Scenario) (hands : List HandIn) (sites : Each Site) (me : Side) (i p : ℕ) (s : Site) (a : Timed) (st : NodeState) → AllHanded sc sites hands
     → slice_get (of_kind me sites) i ≡ Some s → s.ahead ≡ Some a → slice_get (of_kind me (moment sc hands p).nodes) i ≡ Some st
     → NodeTold sc hands me i p s → is_good_at sc (moment sc hands p) me i ≡ true → (moment sc hands p).window ≡ 0 → st.epoch ≡ a.tick → NoneHanded (moment sc hands p).frame hands
@@ -189,7 +188,6 @@ others-keep sc hands at sites ports Rmu i s a x j after other =
           ∙ ap (λ d. port_at sc (with_delivery sc i d ports) j) none
     ]
 
--- and that of a BIU after its tick is that of the rounds where it stands then
 own-port : (sc : Scenario) (hands : List HandIn) (at : Side → ℕ → ℕ) (sites : Each Site) (ports : List PortState) (i : ℕ) (s : Site) (a : Timed) (x : Act) → HasTicks sc.plan
     → length ports ≡ sc.sizes.bius → AllHanded sc sites hands → AllTold sc hands at sites → slice_get (of_kind Biu sites) i ≡ Some s
     → (after : AfterTick sc hands at sites ports Biu i s a x) → (after_act sc ports Biu i x s).runs ≡ true
@@ -226,7 +224,7 @@ own-if-biu sc hands at sites ports Biu i s a x ticks many all told there up stan
     own-port sc hands at sites ports i s a x ticks many all told there after on (stand i s there up)
 own-if-biu sc hands at sites ports Rmu i s a x ticks many all told there up stand after is on = cc
 
--- so all ports of nodes that run are
+-- all ports of nodes that run are
 pub ports-after : (sc : Scenario) (hands : List HandIn) (at : Side → ℕ → ℕ) (sites : Each Site) (ports : List PortState) (me : Side) (i frame k : ℕ) (m : Option Message) (s : Site) (a : Timed) (x : Act)
     → HasTicks sc.plan → length ports ≡ sc.sizes.bius → AllHanded sc sites hands → AllTold sc hands at sites → slice_get (of_kind me sites) i ≡ Some s → s.runs ≡ true
     → (after : AfterTick sc hands at sites ports me i s a x) → PortsStand sc hands at sites ports

@@ -102,7 +102,6 @@ still-late sc hands p i ticks counted inside late =
     let slot : slot_numbered sc.sizes (moment sc hands p).window ≡ sync_slot_of sc.sizes = omega arith in
     still-by sc hands p i ticks counted inside (subst (HasNoData sc.sizes) (sym slot) (no-data-late sc.sizes))
 
--- nor in schedule slots
 pub still-early : (sc : Scenario) (hands : List HandIn) (p i : ℕ) → HasTicks sc.plan → i < sc.sizes.bius → (moment sc hands p).window < 3 * sc.sizes.bius
     → port_at sc (moment sc hands (suc p)).ports i ≡ port_at sc (moment sc hands p).ports i
 still-early sc hands p i ticks counted early =

@@ -59,7 +59,6 @@ pub record Stands (sc : Scenario) (m : Moment) (me : Side) (st : NodeState) : Ty
   pub frame : st.frame ≡ m.frame
   pub knows : Knows sc.sizes me m.window st
 
--- and of all nodes
 pub record AllStand (sc : Scenario) (m : Moment) : Type 0 where
   pub window : m.window ≤ windows_in sc.sizes
   pub counts : (me : Side) → length (of_kind me m.nodes) ≡ count_of me sc.sizes

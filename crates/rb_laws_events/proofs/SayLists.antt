@@ -130,7 +130,6 @@ others-now : (j k u : ℕ) (xs : List Coming) → (k < j) ⊎ (j < k) → Every 
 others-now j k u xs h e =
     filter-no (is_now j u) xs (every-to (λ c. c.from ≡ k) (λ c. is_now j u c ≡ false) (λ c f. ap (λ b. b && nat_le c.time u) (not-same c.from j k f h)) xs e)
 
--- and of the source all that comes by the time
 own-now : (j u : ℕ) (xs : List Coming) → Every (λ c. c.from ≡ j) xs → Every (λ c. c.time ≤ u) xs → filter (is_now j u) xs ≡ xs
 own-now j u xs e times =
     filter-all (is_now j u) xs

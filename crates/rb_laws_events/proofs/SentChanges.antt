@@ -81,7 +81,6 @@ pub record SaysNothing (so : ℕ → Option Sending) (q k r : ℕ) (a : Timed) (
   pub silent : if_at k (so q) ≡ None
   pub same : (p : ℕ) → has_sent (so p) r b p ≡ has_sent (so p) q (Some a) p
 
--- or it has sent what it sends in moment q
 pub record SaysNow (so : ℕ → Option Sending) (q k r : ℕ) (a : Timed) (b : Option Timed) : Type 0 where
   pub message : Sending
   pub is : so q ≡ Some message
@@ -117,7 +116,6 @@ sent-before : (o : Option Sending) (q r p : ℕ) (a b : Option Timed) → p < q 
 sent-before None q r p a b h k = refl
 sent-before (Some s) q r p a b h k = sent-earlier (Some s) s r p b refl k ∙ sym (sent-earlier (Some s) s q p a refl h)
 
--- the same in each other moment
 sent-elsewhere : (so : ℕ → Option Sending) (q k r : ℕ) (a : Timed) (b : Option Timed) → Steps so q k r b → (p : ℕ) → (p == q) ≡ false
     → has_sent (so p) r b p ≡ has_sent (so p) q (Some a) p
 sent-elsewhere so q k r a b steps p differ =

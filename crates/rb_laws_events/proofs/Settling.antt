@@ -122,7 +122,7 @@ pub or-told : (good told : Bool) → (not good || told) ≡ true → good ≡ tr
 or-told true told h e = h
 or-told false told h e = cc
 
--- so all that they have told is what the rounds have
+-- all that they have told is what the rounds have
 rows-are : (sc : Scenario) (hands : List HandIn) (g : ℕ) (sites : Each Site) → HasTicks sc.plan → (moment sc hands g).window < stages_in sc.sizes
     → ((me : Side) → length (of_kind me sites) ≡ count_of me sc.sizes) → RowsOfRounds sc hands sites
     → is_complete sc sites (Stage (place_at sc.sizes (moment sc hands g))) ≡ true
@@ -202,7 +202,6 @@ stage-settled sc hands g sites ticks stage not_last counts rounds complete =
     ∙ sym (ap (λ b. (stepped sc hands m false b).book) inside)
     ∙ sym (ap (λ b. (stepped sc hands m b (nat_lt m.window (windows_in sc.sizes))).book) not_last)
 
--- and so is the end
 pub end-settled : (sc : Scenario) (hands : List HandIn) (g : ℕ) (sites : Each Site) → ((moment sc hands g).frame == sc.frames) ≡ true
     → book_with sc sites (moment sc hands g).book End ≡ (moment sc hands (suc g)).book
 unfolding step

@@ -141,14 +141,13 @@ frame-settled sc hands e sites ticks over not_last counts rounds complete =
     ∙ sym (ap (λ b. (stepped sc hands m false b).book) outside)
     ∙ sym (ap (λ b. (stepped sc hands m b (nat_lt m.window (windows_in sc.sizes))).book) not_last)
 
--- and so is the first
 first-settled : (sc : Scenario) (hands : List HandIn) (sites : Each Site) → HasTicks sc.plan → ((me : Side) → length (of_kind me sites) ≡ count_of me sc.sizes)
     → BegunOfRounds sc hands sites → is_complete sc sites (Begin 0) ≡ true → book_with sc sites fresh_book (Begin 0) ≡ (moment sc hands 0).book
 unfolding begin_frame ports_before
 first-settled sc hands sites ticks counts rounds complete =
     ap (λ b. with_frame sc 0 (present (in_order b)) fresh_book) (begun-are sc hands 0 sites ticks refl counts rounds complete)
 
--- If the run is.
+-- Where the run is.
 
 -- a run that has not ended is in one of its frames, or at the start of the one after the last
 pub record RunsIn (sc : Scenario) (m : Moment) : Type 0 where

@@ -21,7 +21,6 @@ pub record SharedAt (sc : Scenario) (hands : List HandIn) (frame slot : ℕ) (s 
   pub steps : ℕ
   pub agree : Agree sc hands steps (before_stage sc hands frame slot stage) s
 
--- the same before each stage of the slot; the tail is stage 4 of the sync slot
 pub record SharedIn (sc : Scenario) (hands : List HandIn) (frame slot : ℕ) : Type 0 where
   pub shared : Shared
   pub at : (stage : ℕ) → 1 ≤ stage → stage ≤ 3 → SharedAt sc hands frame slot shared stage

@@ -138,8 +138,6 @@ pub record HasTurned (frame x : ℕ) (c : NodeState) (had : ℕ) : Type 0 where
 abbrev pub IsAfter : Sizes → Plan → Side → ℕ → ℕ → ℕ → NodeState → ℕ → ℕ → Type 0
 IsAfter sizes plan me frame e x c had k = (IsInTail sizes plan me frame e x c had × (k ≤ x)) ⊎ HasTurned frame x c had
 
--- and what a tick gives. What it says, if it is one that calls in the last stage, goes out in the
--- first window of the next frame
 pub record GoesOn (sizes : Sizes) (plan : Plan) (me : Side) (frame e x k : ℕ) (a : Act) : Type 0 where
   pub closed : (s : Shown) → a.closed ≡ Some s → (s.place.stage == 4) ≡ true
   pub after : (IsInTail sizes plan me frame e x a.core.state a.core.had × (a.core.had ≤ x)) ⊎ HasTurned frame x a.core.state a.core.had

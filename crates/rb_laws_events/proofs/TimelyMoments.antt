@@ -84,7 +84,6 @@ pub order-inner : (sc : Scenario) (hands : List HandIn) → IsLawful sc → (p :
     → time_of (clock_of sc me i) (last_tick sc (moment sc hands p) me mine) < time_of (clock_of sc you j) (last_tick sc (moment sc hands (suc p)) you yours)
 order-inner sc hands lawful p together below = order-from sc (moment sc hands p) (moment sc hands (suc p)) (next-in-order sc hands lawful p together below)
 
--- and over the turn
 pub order-outer : (sc : Scenario) (hands : List HandIn) → IsLawful sc → (p : ℕ) → HaveBegunTogether sc (moment sc hands p)
     → (moment sc hands p).window + 1 ≡ stages_in sc.sizes → HaveBegunAFrame sc (moment sc hands p) (moment sc hands (suc (suc (suc p))))
     → (me you : Side) (i j : ℕ) (mine yours : NodeState)
@@ -182,7 +181,6 @@ comes-in-time u d a h l p dmax s t last sent e room some apart early late way =
     let q : (a + l) * u ≡ a * u + l * u = add-mul a l u in
     omega (arith, x, y, z, v, w, q, room, apart, early, late, way)
 
--- and after the tick before tick a of the other
 comes-not-before : (u d a h p dmin s t before first sent e : ℕ) → 1 ≤ u → p + d * a ≤ h * u + dmin → s ≤ t + p → before + u ≤ first → first ≤ s + a * (u + d)
     → t + (a + h) * u ≤ sent → sent + dmin ≤ e → before < e
 comes-not-before u d a h p dmin s t before first sent e some room apart step early late way =

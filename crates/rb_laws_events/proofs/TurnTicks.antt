@@ -123,7 +123,7 @@ begin-busy sizes plan me i st x known =
     ∙ ap (λ n. (n == x) || is_last sizes plan me y x || is_some (said_at sizes plan me i y 0 x)) epoch
     ∙ ap (λ b. b || is_last sizes plan me y x || is_some (said_at sizes plan me i y 0 x)) (eq_self x)
 
--- so in the tail it is no later than the start of the next frame
+-- in the tail it is no later than the start of the next frame
 pub awaits-next : (sizes : Sizes) (plan : Plan) (me : Side) (i frame e x : ℕ) (c : Core) (k : ℕ) → (IsInTail sizes plan me frame e x c.state c.had × (c.had ≤ x)) ⊎ HasTurned frame x c.state c.had
     → next_tick sizes plan me i c ≡ Some k → IsAfter sizes plan me frame e x c.state c.had k
 awaits-next sizes plan me i frame e x c k (inl t) is = inl (t.0, first-busy sizes plan me i c.state (2 ^ 31 - c.had) c.had k x t.1 (begin-busy sizes plan me i c.state x t.0.known) is)

@@ -59,7 +59,7 @@ somebody sc frame slot h =
     both-true : (a b : Bool) → a ≡ true → b ≡ true → (a && b) ≡ true
     both-true a b h k = rw (h, k) refl
 
--- and if nobody is, there is none
+-- if nobody is, there is none
 pub nobody : (sc : Scenario) → IsShape sc.sizes → (frame slot : ℕ) → nobody_good sc frame slot ≡ true → (me : Side) (i : ℕ) → is_good sc me i frame slot ≡ true → ⊥
 nobody sc shape frame slot h me i good =
     let parts = and_parts (good_at sc Biu frame slot == 0) (good_at sc Rmu frame slot == 0) h in

@@ -45,7 +45,6 @@ runs-on sc hands lawful t at running =
     reached sc hands lawful (suc frame) (ap (λ n. (moment sc hands n).book.ended) (sym is) ∙ running) in
     ap (λ n. (moment sc hands n).book.ended) then_is ∙ then_runs
 
--- so it goes on from the last stage of a frame that holds
 last-on : (sc : Scenario) (hands : List HandIn) → IsLawful sc → (g : ℕ) → (moment sc hands g).window + 1 ≡ stages_in sc.sizes → IsRunning (moment sc hands (suc g))
     → IsRunning (moment sc hands (suc (suc (suc g))))
 last-on sc hands lawful g last running =
@@ -59,7 +58,6 @@ turned-open sc hands m true in_frame e f h = cc
 turned-open sc hands m false true e f h = cc
 turned-open sc hands m false false e f h = begun-open sc (m.frame + 1) _ m.book h
 
--- and from the end of a frame
 end-on : (sc : Scenario) (hands : List HandIn) (g : ℕ) → IsRunning (moment sc hands g) → windows_in sc.sizes ≤ (moment sc hands g).window → IsRunning (moment sc hands (suc g))
 unfolding step
 end-on sc hands g running at_end =
@@ -137,7 +135,6 @@ reaches-running sc hands lawful n stage running =
 pub reaches-first : (sc : Scenario) (hands : List HandIn) → IsLawful sc → (n : ℕ) → (moment sc hands n).window < stages_in sc.sizes → n ≡ 0 → Reaches sc hands n
 reaches-first sc hands lawful n stage first = reaches-running sc hands lawful n stage (subst (λ n. IsRunning (moment sc hands n)) (sym first) (first-running sc hands))
 
--- or the run breaks off with the stage before
 pub reach : (sc : Scenario) (hands : List HandIn) → IsLawful sc → (n : ℕ) → (moment sc hands n).window < stages_in sc.sizes → (g : ℕ) → IsRunning (moment sc hands g)
     → n ≡ next_stage sc.sizes (moment sc hands g) g → Reaches sc hands n ⊎ ((q : ℕ) × BreaksAt sc hands g q)
 reach sc hands lawful n stage g running next =
@@ -212,7 +209,6 @@ reach sc hands lawful n stage g running next =
               inl (reaches-running sc hands lawful n stage (subst (λ n. IsRunning (moment sc hands n)) (sym is) (last-on sc hands lawful g (omega arith) e)))
         ]
 
--- and so in the moments that follow one before it
 pub next-up-to : (sc : Scenario) (hands : List HandIn) (n p : ℕ) → UpTo sc hands n → (moment sc hands n).window < stages_in sc.sizes → p < n → (moment sc hands p).window ≤ stages_in sc.sizes
     → NextInTime sc hands p
 next-up-to sc hands n p up stage lt within =

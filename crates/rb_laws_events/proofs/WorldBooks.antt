@@ -158,7 +158,6 @@ take-turn sc w d =
     let same : (happens sc w d).book ≡ w.book = happens-book sc w d in
     subst (λ b. IsTurn b.given (take_if_due sc w (Some d))) same (settle-turn sc ByAnEvent 2 (happens sc w d))
 
--- so does a record that needs no event
 pub go-on-turn : (sc : Scenario) (w : World) → w.book.ended ≡ false → IsTurn w.book.given (go_on sc w)
 unfolding go_on
 go-on-turn sc w h =

@@ -244,7 +244,7 @@ from-known sc (c ∷ cs) w known = from-known sc cs (choose sc w c) (choose-know
 pub worlds-known : (sc : Scenario) (choices : List Choice) → NodesKnown sc (world_after sc choices).sites
 worlds-known sc choices = from-known sc choices (first_world sc) (first-known sc)
 
--- so each event that may be taken there is due
+-- each event that may be taken there is due
 pub events-due : (sc : Scenario) (choices : List Choice) (i : ℕ) (d : Due) → slice_get (due_of sc (world_after sc choices)) i ≡ Some d
     → IsDue (world_after sc choices) d
 events-due sc choices i d e = due-is sc (world_after sc choices) i d (record { known = (worlds-known sc choices).known }) e

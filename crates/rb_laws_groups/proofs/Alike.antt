@@ -26,7 +26,6 @@ lines-alike : (sc : Scenario) (frame slot : ℕ) (owner : Option ℕ) (value : H
 lines-alike sc frame slot None value i j good_i good_j = refl
 lines-alike sc frame slot (Some owner) value i j good_i good_j = one-delivery sc frame slot owner value i good_i ∙ sym (one-delivery sc frame slot owner value j good_j)
 
--- and those of a slot without an owner nothing
 pub no-lines : (sc : Scenario) (frame f slot : ℕ) (owner : Option ℕ) (value : Heard) (i : ℕ) → owner ≡ None → told_of frame i (Slot f slot (lines_in sc f slot owner value)) ≡ []
 no-lines sc frame f slot None value i e = by (f == frame)
   where
@@ -65,7 +64,7 @@ slot-alike sc hands p frame i j s good_i good_j =
         → told f slot i owner value (f == frame) ≡ told f slot j owner value (f == frame)
     by f slot owner value good_here good_there = with_test f slot owner value good_here good_there (f == frame) refl
 
--- so two good ports have delivered the same at each moment
+-- two good ports have delivered the same at each moment
 moments-alike : (sc : Scenario) (hands : List HandIn) → IsLawful sc → (frame i j : ℕ) → IsGoodPort sc frame i → IsGoodPort sc frame j → (p : ℕ)
     → told_in frame i (moment sc hands p).book ≡ told_in frame j (moment sc hands p).book
 moments-alike sc hands law frame i j good_i good_j zero = first-told sc hands frame i ∙ sym (first-told sc hands frame j)

@@ -60,7 +60,6 @@ quiet-step sc hands law frame i p quiet =
     by f slot (Some owner) value true e idle = let none : Some owner ≡ None = idle (eqb-true f frame e) in cc
     by f slot owner value false e idle = refl
 
--- and so does a stretch of them
 pub quiet-steps : (sc : Scenario) (hands : List HandIn) → IsLawful sc → (frame i p k : ℕ) → ((q : ℕ) → p ≤ q → q < p + k → IsQuiet sc hands frame q)
     → told_in frame i (moment sc hands (p + k)).book ≡ told_in frame i (moment sc hands p).book
 quiet-steps sc hands law frame i p zero quiet = ap (λ n. told_in frame i (moment sc hands n).book) (same p)

@@ -67,7 +67,6 @@ gave-slot sc hands frame owner ds members i are gave = by (has members i) gave
     by true e = slot-there sc hands frame i (first_slot sc.sizes owner i) (first_of i ds) (are i) e
     by false e = cc
 
--- so those who gave something and are not chosen are fewer than the chosen
 fewer : (sc : Scenario) (hands : List HandIn) (frame : ℕ) (owner : ℕ → Option ℕ) (ds : List Delivery) (members : ℕ) (chosen : ℕ → Bool) → AreOf sc hands frame owner ds
     → Outnumber chosen (has_slot sc owner members)
     → count_if (λ i. not (chosen i) && is_some (value_of members ds i)) (numbers 16) < count_if chosen (numbers 16)

@@ -60,7 +60,6 @@ pub record StandsFrom (sc : Scenario) (hands : List HandIn) (ear : Ear) (f from 
   pub few : from ≤ 1
   pub stands : epoch + from * sc.plan.l ≤ ear.ticks → StandsAt sc hands ear (suc f) from epoch low
 
--- and before each later one, up to the sync slot
 stands_later : (sc : Scenario) (hands : List HandIn) (ear : Ear) (learned : ℕ) (records : List Sense) (f last from epoch low : ℕ) → IsHeldTo sc hands ear learned records f last
     → StandsFrom sc hands ear f from epoch low → (w : ℕ) → from ≤ w → w ≤ 3 * sync_slot_of sc.sizes → w + first_of_frame sc (suc f) ≤ last
     → IsRunning (moment sc hands (w + first_of_frame sc (suc f))) → epoch + w * sc.plan.l ≤ ear.ticks → StandsAt sc hands ear (suc f) w epoch low

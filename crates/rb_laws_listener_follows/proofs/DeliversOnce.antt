@@ -77,7 +77,6 @@ sync-delivers : (sizes : Sizes) (st : NodeState) (stage first : ℕ) (sense : �
 unfolding close_sync sync_outcome_of
 sync-delivers sizes st stage first sense = refl
 
--- and of no sync slot
 record IsOfExact (sizes : Sizes) (st : NodeState) (slot stage : ℕ) (d : Delivery) : Type 0 where
   pub of_slot : IsOfSlot st slot stage d
   pub exact : (slot == sync_slot_of sizes) ≡ false
@@ -202,7 +201,6 @@ delivers_once sc ear tick s first w frame epoch only k d in_time told is = (
     begun : t.x.now.begun ≡ epoch
     begun = only t.x.now.begun t.x.now.e (omega (arith, t.x.now.up_to, in_time)) t.x.now.told (t.x.now.frame_is ∙ sym t.at.frame ∙ is)
 
--- and of no frame before the first
 pub delivers_later : (sc : Scenario) (ear : Ear) (tick : ℕ) (s : Search) (first : First) → WaitsFirst sc ear tick s first → (k : ℕ) (d : Delivery) → k < ear.ticks → (told_at sc ear k).delivered ≡ Some d → first.frame ≤ d.frame
 delivers_later sc ear tick s first w k d in_time told =
     let t : DeliversThen sc ear k d = delivers_then sc ear tick s first w k d in_time told in

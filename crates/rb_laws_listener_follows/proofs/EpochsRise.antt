@@ -42,7 +42,6 @@ pub record IsSince (sc : Scenario) (ear : Ear) (k : ℕ) : Type 0 where
   pub early : (new_epoch_of sc.plan Biu core.state ≡ None) ⊎ (begun + second_end sc.sizes sc.plan ≤ k)
   pub keeps : (t : ℕ) (c : Core) → begun + second_end sc.sizes sc.plan ≤ t → t ≤ k → listening_at sc ear t ≡ now.Following c → new_epoch_of sc.plan Biu c.state ≡ new_epoch_of sc.plan Biu core.state
 
--- the same of the state in which it stands at tick k, where this may be the first one of the frame
 pub record IsIn (sc : Scenario) (ear : Ear) (k : ℕ) (st : NodeState) : Type 0 where
   pub begun : ℕ
   pub up_to : begun ≤ k

@@ -53,7 +53,6 @@ pub record Abides (sc : Scenario) (hands : List HandIn) (ear : Ear) (n epoch low
 abbrev pub sense_at : Scenario → List HandIn → Ear → ℕ → ℕ → NodeState → ℕ → ℕ → ℕ → Sense
 sense_at sc hands ear n epoch st slot q = sense_heard sc ear epoch (moment sc hands n).window st slot (q + 1)
 
--- and what it makes of the window
 abbrev pub outcome_at : Scenario → List HandIn → Ear → ℕ → ℕ → NodeState → ℕ → ℕ → Outcome
 outcome_at sc hands ear n epoch st slot q = closed_by sc slot (q + 1) ((moment sc hands n).window * sc.plan.l) st (sense_at sc hands ear n epoch st slot q)
 

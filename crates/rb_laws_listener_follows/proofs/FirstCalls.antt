@@ -76,7 +76,6 @@ span_window sc before st w slot stage a ticks epoch s has epoch_is turns later i
 abbrev pub sense_span : Scenario → Ear → ℕ → ℕ → NodeState → ℕ → ℕ → ℕ → Sense
 sense_span sc ear first ticks st slot stage j = sense_of (expect_of sc.sizes sc.plan.version st slot stage) (of_source (collected sc.sizes ear.heard first ticks) j)
 
--- so it closes a window of the sync slot
 pub span_closing : (sc : Scenario) (ear : Ear) (st : NodeState) (w stage a ticks epoch : ℕ) → IsSpan sc st w (sync_slot_of sc.sizes) stage a ticks → HasTicks sc.plan → st.epoch ≡ epoch
     → closing sc ear st (epoch + a) (ticks - 1) ≡ close_sync sc.sizes Biu st stage (st.epoch + a) (sense_span sc ear (epoch + a) ticks st (sync_slot_of sc.sizes) stage)
 span_closing sc ear st w stage a ticks epoch s has epoch_is =

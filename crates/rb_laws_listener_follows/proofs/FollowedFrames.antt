@@ -273,7 +273,7 @@ followed_at sc hands law ear is learned records tick s first w first_is last hol
     (followed_step sc hands law ear is learned records tick s first w first_is last holds d complete le
     (followed_at sc hands law ear is learned records tick s first w first_is last holds begun d (frame_before sc hands d learned complete) (omega (arith, more, le)))).followed
 
--- and each after its first from the first window on
+-- each after its first from the first window on
 pub begun_at : (sc : Scenario) (hands : List HandIn) → IsLawful sc → (ear : Ear) → IsEar sc ear → (learned : ℕ) (records : List Sense) (tick : ℕ) (s : Search) (first : First)
     → WaitsFirst sc ear tick s first → first.frame ≡ suc learned → (last : ℕ) → HoldsTo sc hands ear learned records last
     → IsFollowed sc hands ear (suc learned) → (d : ℕ) → IsComplete sc hands (suc d + learned) (sync_slot_of sc.sizes) → suc (suc d + learned) * (windows_in sc.sizes + 1) ≤ last

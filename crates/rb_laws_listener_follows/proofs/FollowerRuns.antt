@@ -61,7 +61,6 @@ arrivals-cons sizes k x xs = go (nat_lt x.from sizes.rmus)
     go true = refl
     go false = refl
 
--- and of several
 pub hears_all : (sc : Scenario) (cs : List Coming) (c : Core) → c.had < 2 ^ 31
     → hears sc cs (now.Following c) ≡ now.Following (record c { inbox = c.inbox ++ arrivals sc.sizes c.had cs })
 unfolding hear arrivals
@@ -185,7 +184,6 @@ follows_next sc ear before st first n i w le was =
     ∙ hears_all sc (ear.heard (suc (first + i))) (record { state = st; had = suc (first + i); inbox = collected sc.sizes ear.heard first (i + 1) }) below
     ∙ ap (λ l. now.Following (record { state = st; had = suc (first + i); inbox = l })) (collected-more sc.sizes ear.heard first i (suc (first + i)) (omega arith))
 
--- so it is at each of its ticks
 pub follows_window : (sc : Scenario) (ear : Ear) (before st : NodeState) (first n : ℕ) → IsWindow sc.sizes sc.plan before st first n → Stands sc ear before first
     → (i k : ℕ) → k ≡ first + i → i ≤ n → listening_at sc ear k ≡ now.Following (core_in sc.sizes ear before st first i k)
 follows_window sc ear before st first n w s zero k e le =

@@ -45,7 +45,6 @@ is_window sizes plan before st n ticks in_frame some turns later in_time =
       in_time = omega (arith, in_time, end);
     }
 
--- and with its last tick it is in this window
 pub closes_there : (sizes : Sizes) (plan : Plan) (st : NodeState) (n : ℕ) → HasTicks plan → n ≤ stages_in sizes → first_of sizes plan Biu st n ≤ last_of sizes plan Biu st n
     → window_here sizes plan Biu st (st.epoch + first_of sizes plan Biu st n + (last_of sizes plan Biu st n - first_of sizes plan Biu st n)) ≡ window_numbered sizes plan Biu st n
 closes_there sizes plan st n ticks in_frame some =

@@ -66,7 +66,7 @@ first_tells sc hands ear learned tick s l = record {
     next : suc learned ≡ learned + 1
     next = omega arith
 
--- and nothing of frames before it
+-- nothing of frames before it
 later_tells : (sc : Scenario) (hands : List HandIn) (ear : Ear) (learned tick : ℕ) (s : Search) (l : Learns sc hands ear learned tick s) → TellsLater sc ear learned
 later_tells sc hands ear learned tick s l = record {
   epochs = λ k e in_time told. let m : l.first.frame ≤ e.frame = none_earlier sc ear tick s l.first l.waits k e in_time told in omega (arith, m, l.learns.frame);
@@ -153,7 +153,7 @@ follows_first sc hands stands ear learned tick s l = record {
     next : suc learned ≡ learned + 1
     next = omega arith
 
--- and in each later one
+-- in each later one
 follows_later : (sc : Scenario) (hands : List HandIn) (stands : StandsFor sc hands) (ear : Ear) (learned tick : ℕ) (s : Search) (l : Learns sc hands ear learned tick s) → (d : ℕ)
     → IsReachedWell sc hands ear learned s.lesson.records (suc (suc d + learned)) → (begin : ℕ) × FollowsFrame sc hands stands.bus ear learned s.lesson.records (suc (suc d + learned)) begin
 follows_later sc hands stands ear learned tick s l d reached = (

@@ -56,7 +56,6 @@ pub record NextBegins (sc : Scenario) (hands : List HandIn) (ear : Ear) (frame n
 sent_late : (later p f h u d least x t : ℕ) → p + d * (f + h) ≤ h * u + least → later + h * u + least ≤ x → x ≤ t → t < later + p → ⊥
 sent_late later p f h u d least x t c1 sent reached at = absurd (omega (arith, c1, sent, reached, at))
 
--- and what is said by one that turns faulty in it too
 said_late : (later p f h l u d least most skew x t c : ℕ) → least ≤ most → skew + d * h ≤ h * u + least → p + d * (f + h) + most + (1 + h) * u ≤ l * u → later + l * u ≤ x → x < c + u + skew → c ≤ t
     → t < later + p → ⊥
 said_late later p f h l u d least most skew x t c delays fits c2 sent reached at last = absurd (omega (arith, delays, fits, c2, sent, reached, at, last))
@@ -124,7 +123,6 @@ pub record IsLate (sc : Scenario) (epoch next_epoch k : ℕ) : Type 0 where
   pub from : epoch + f0_of sc.sizes sc.plan + sc.plan.l + sc.plan.v ≤ k
   pub before : k < next_epoch
 
--- so early that the next frame has not begun at the listener
 not_yet : (sc : Scenario) (hands : List HandIn) (ear : Ear) (n epoch low : ℕ) (s : Shared) (next_epoch later k : ℕ) → Beside sc hands ear n epoch low s
     → NextBegins sc hands ear (moment sc hands n).frame next_epoch later → k < next_epoch → time_of ear.clock k < later + sc.plan.p
 not_yet sc hands ear n epoch low s next_epoch later k b next before =

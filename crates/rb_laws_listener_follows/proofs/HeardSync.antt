@@ -48,7 +48,6 @@ frame_late : (low p f h l v z u d most least x t : ℕ) → 1 ≤ u → p + d * 
     → t + (u + d) ≤ low + p + (f + l + v) * (u + d) → ⊥
 frame_late low p f h l v z u d most least x t some c6 sent reached last = absurd (omega (arith, some, c6, sent, reached, last))
 
--- and so does what a node says that is not good from there on
 frame_soon : (low p f h l v z u d least most skew x t c : ℕ) → least ≤ most → skew + d * h ≤ h * u + least
     → p + d * (f + h) + 3 * most + 2 * (u + d) + d * (l + v) + (1 + h) * u ≤ z * u → low + (f + l + v + z) * u ≤ x → x < c + u + skew → c ≤ t
     → t + (u + d) ≤ low + p + (f + l + v) * (u + d) → ⊥

@@ -156,7 +156,6 @@ placed n less =
     let at : get_or (numbers 35) n 0 ≡ n = get_or-range_with_len 0 35 n 0 less ∙ zero-add n in
     ap (λ k. is_placed k (sends_at k)) (sym at) ∙ AllPass-from_list_all (λ n. is_placed n (sends_at n)) (numbers 35) all-placed n 0 less
 
--- so it is heard
 heard-so : (n : ℕ) (s : Sending) → n < 35 → sends_at n ≡ Some s → slice_get (heard_with (suc s.tick)) 0 ≡ Some (comes s)
 unfolding heard_with
 heard-so n s less sent =

@@ -140,7 +140,7 @@ always-good-in sc hands law j frame slot running good =
         (not-later (windows_in sc.sizes + 1) (sync_slot_of sc.sizes) onset.0 onset.1 frame slot (omega arith) (onset-in sc law j onset.0 onset.1 (always-counts sc hands j good) is) (not-true (is_before (Some onset) frame slot) later)) running in
         let both : true ≡ false = sym (ap not began) ∙ never in cc))
 
--- and in the slot of each moment of the run, and in those before it in its frame
+-- in the slot of each moment of the run, and in those before it in its frame
 pub always-good-at : (sc : Scenario) (hands : List HandIn) → IsLawful sc → (j n slot : ℕ) → IsRunning (moment sc hands n) → 3 * slot ≤ (moment sc hands n).window
     → is_always_good sc hands j ≡ true → is_good sc Rmu j (moment sc hands n).frame slot ≡ true
 always-good-at sc hands law j n slot running le good =
@@ -155,7 +155,7 @@ call-at sc hands law ear is run i number a c j good =
     let time : ℕ = (coming_to sc ear j (moment sc hands c.n).frame calls.sending).time in
     (stamp_of ear.clock time, record { calls = calls; stamped = stamp_of-is ear.clock (steady-ear sc law ear is).moves time })
 
--- the same as a call that comes
+-- a time is the same as a call that comes
 abbrev pub as-call : (sc : Scenario) (hands : List HandIn) (ear : Ear) (i number a : ℕ) (c : IsHeardCall sc hands ear i number a) (j at : ℕ) → CallsToo sc hands ear c.n j at → 1 ≤ at
     → IsHeardCall sc hands ear j number at
 as-call sc hands ear i number a c j at too some =

@@ -29,7 +29,6 @@ pub record LastsFrom (sc : Scenario) (hands : List HandIn) (n : ℕ) (me : Side)
   pub trusted : (kind : Side) → trusted_of kind me now ≡ trusted_of kind me st
   pub votes : (t : ℕ) → t < sync_slot_of sc.sizes → 3 * t + 3 ≤ (moment sc hands n).window → get_or now.votes t Fault ≡ get_or st.votes t Fault
 
--- so do all good nodes of moment k, if it is of that frame
 pub record AllLast (sc : Scenario) (hands : List HandIn) (n k : ℕ) : Type 0 where
   pub window : (moment sc hands n).window ≤ (moment sc hands k).window
   pub last : (me : Side) (i : ℕ) (now : NodeState) → IsGoodNode sc (moment sc hands k) me i now → LastsFrom sc hands n me i now

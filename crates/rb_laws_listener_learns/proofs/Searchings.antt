@@ -34,7 +34,7 @@ pass-by plan frame s Q cases = by (s.learns && (frame == s.lesson.frame)) refl (
 
 -- What stays.
 
--- but for what is recorded the search is the same
+-- the search is the same but for what is recorded
 pub record RecordsOnly (a b : Search) : Type 0 where
   pub had : b.had ≡ a.had
   pub newest : b.newest ≡ a.newest

@@ -210,7 +210,7 @@ trusts-all sc hands law ear most learned records whole called n j st here good n
         (recorded-value sc hands ear learned records whole m o (told_in kind sc.sizes i) (told_stage kind) their.st said.value there.1 there.0.running there.0.frame_is their.node
         (always-good-in sc hands law o learned (sync_slot_of sc.sizes) sync_begun good_o) (told-recorded kind sc.sizes i count) said.is).one
 
--- and no others
+-- no others
 trusted-there : (sc : Scenario) (hands : List HandIn) → IsLawful sc → (learned slot q : ℕ) → slot < sync_slot_of sc.sizes → q < 3 → learned ≤ sc.frames → (number : ℕ) → number ≡ learned % 65536
     → (n j : ℕ) (st : NodeState) → IsIn sc hands learned n → is_always_good sc hands j ≡ true → IsGoodNode sc (moment sc hands n) Rmu j st → (kind : Side) (i : ℕ)
     → IsTrustedIn sc hands number slot (q + 1) kind i → has (trusted_of kind Rmu st) i ≡ true

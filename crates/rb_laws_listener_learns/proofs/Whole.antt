@@ -295,7 +295,6 @@ same-place-of sc hands law ear is run frame slot j at i b o m x p q in_at in_b g
     nth : i ≡ o
     nth = run.once b i o q.coming in_b good_q (ap (λ t. slice_get (ear.heard t) i) (sym stamps) ∙ at_there) q.there
 
--- so it has no bad record
 never-spoilt : (sc : Scenario) (hands : List HandIn) → IsLawful sc → (ear : Ear) → IsEar sc ear → HearsTheRun sc hands ear → (k n frame slot j : ℕ) → k < ear.ticks
     → ((at : ℕ) (c : Coming) → at ≤ k → c.from ≡ j → IsHeard ear at c → IsOfGood sc hands ear c) → IsSpoilt sc ear k n frame slot j → ⊥
 never-spoilt sc hands law ear is run k n frame slot j in_time good h = by h.by

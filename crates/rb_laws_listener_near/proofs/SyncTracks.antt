@@ -69,7 +69,7 @@ unfolding close_sync sync_outcome_of
 like_sync sc hands n m s q ws c st like first sense i now h =
     alike_still st now (close_sync sc.sizes Biu st (q + 1) first sense).state refl refl refl refl refl (like_next sc hands n m s q ws c st like i now h)
 
--- and an RMU that does no wrong in it is not accused
+-- an RMU that does no wrong in it is not accused
 pub spares_sync : (sizes : Sizes) (st : NodeState) (stage first : ℕ) (sense : ℕ → Sense) (j : ℕ) → j < 16 → does_wrong (expects_call Biu st stage j) (sense j) ≡ false → has st.far.direct j ≡ false
     → has (close_sync sizes Biu st stage first sense).state.far.direct j ≡ false
 unfolding close_sync sync_outcome_of

@@ -107,7 +107,6 @@ like_after sc hands n m s slot q first c st sense seen w i now h =
           ∙ sym x.parts.owners ∙ ap (λ t. t.owners) (sym x.is ∙ is);
     }
 
--- and to accuse no good RMU
 pub spares_after : (sc : Scenario) (hands : List HandIn) (n : ℕ) (m : Moment) (s : Shared) (slot q first : ℕ) → Setting sc hands n m s slot q
     → (st : NodeState) → Tracks sc m st → (sense : ℕ → Sense) → Senses sc m slot q sense
     → (j : ℕ) → is_good_now sc (next sc m) Rmu j ≡ true → has (closed_by sc slot (q + 1) first st sense).state.far.direct j ≡ false
@@ -122,7 +121,6 @@ spares_after sc hands n m s slot q first c st t sense senses j good =
     (reference_value Biu 16 (with_sent st st.sent) (role_of sc.sizes slot) (sender_at sc.sizes Biu st slot) (q + 1) (closing_at sc.sizes Biu st slot (q + 1) sense))
     st.far (expected_at sc.sizes Biu st slot (q + 1)) sense j small taken.right (t.spares j was)
 
--- so it keeps track of the bus
 pub tracks_after : (sc : Scenario) (hands : List HandIn) (n : ℕ) (m : Moment) (s : Shared) (slot q first : ℕ) → Setting sc hands n m s slot q
     → (st : NodeState) (sense : ℕ → Sense) (seen : ℕ → JudgedStage → Option (ℕ → See)) → IsWatched sc m slot q st sense seen
     → Tracks sc (next sc m) (closed_by sc slot (q + 1) first st sense).state

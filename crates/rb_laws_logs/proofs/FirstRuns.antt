@@ -142,7 +142,6 @@ few-steps sc lawful n going =
     let same : length (first_run sc n).book.given ≡ length (world_after sc choices).book.given = ap (λ (w : World). length w.book.given) (run-is sc n) in
     omega (arith, steps, few, given, same)
 
--- so it ends
 pub run-ends : (sc : Scenario) → IsLawful sc → (first_run sc (most_takes sc + length (records_of sc []) + 1)).book.ended ≡ true
 run-ends sc lawful = by (first_run sc n).book.ended refl
   where

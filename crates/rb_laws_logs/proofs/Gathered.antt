@@ -54,7 +54,7 @@ present-append [] ys = refl
 present-append (None ∷ xs) ys = present-append xs ys
 present-append (Some x ∷ xs) ys = ap (λ l. x ∷ l) (present-append xs ys)
 
--- and if the items themselves are made
+-- if the items themselves are made
 pub gather-made : {X Y : Type 0} (n : ℕ) (take : ℕ → Y → List ℕ) (make : ℕ → X → Y) (xs : List X)
     → gather n take (map_from n make xs) ≡ gather n (λ k x. take k (make k x)) xs
 gather-made n take make [] = refl

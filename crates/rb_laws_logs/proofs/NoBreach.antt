@@ -139,7 +139,6 @@ goes-on sc none (suc p) le =
     differs : (a b : ℕ) → a < b → (a == b) ≡ false
     differs a b h = grind (arith, nat_tests)
 
--- and ends there
 pub record IsLastStep (sc : Scenario) : Type 0 where
   pub given : records_of sc [] ≡ (moment sc [] (last_moment sc)).book.given ++ Ended ∷ []
 
@@ -158,7 +157,6 @@ last-book sc none =
     same-is : (a b : ℕ) → a ≡ b → (a == b) ≡ true
     same-is a b h = grind (arith, nat_tests)
 
--- so it breaks off nowhere
 pub breaks-not : (sc : Scenario) → IsLawful sc → EndsWithoutBreach sc → (b q : ℕ) → BreaksAt sc [] b q → ⊥
 breaks-not sc lawful none b q off =
     let m : Moment = moment sc [] b in

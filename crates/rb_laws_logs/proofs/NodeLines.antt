@@ -49,7 +49,6 @@ abbrev pub window_text : Scenario → NodeName → Moment → List ℕ
 window_text sc name m =
     if_there (λ st. line_text m.frame (slot_numbered sc.sizes m.window) (line_in (row_in sc m (kind_of name) (index_of name) st))) (state_of name m)
 
--- and of the frame that begins with a moment
 abbrev pub block_text : Scenario → NodeName → Moment → List ℕ
 block_text sc name m = if_there (λ st. epoch_lines name (Some (epoch_of sc.sizes (kind_of name) st))) (state_of name m)
 

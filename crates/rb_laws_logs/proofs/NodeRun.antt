@@ -111,7 +111,6 @@ pub record Underway (sc : Scenario) (name : NodeName) (n : ℕ) (s : Site) : Typ
 abbrev pub acts_so_far : Scenario → NodeName → ℕ → List Act
 acts_so_far sc name n = acts_of sc.sizes sc.plan (kind_of name) (index_of name) (first_core sc.sizes (kind_of name)) (given_so_far sc name n)
 
--- and one that has: its events have told all
 pub record IsDone (sc : Scenario) (name : NodeName) (n : ℕ) (s : Site) : Type 0 where
   pub told : flat_map (act_lines name) (acts_so_far sc name n) ≡ told_up_to sc name (last_moment sc)
   pub count : frames_in (acts_so_far sc name n) ≡ sc.frames

@@ -53,7 +53,7 @@ use Rattle.rb_laws_logs.proofs.Positions.{StandsAt, one-place, stands-at}
 use Rattle.rb_laws_logs.proofs.TickText.{AfterTick, Turns, after-close, after-open, first-not-last, turns-now}
 use Rattle.rb_laws_logs.proofs.Worlds.{MayTake, first-due, may-take, no-hands, tick-done, worlds-in-run}
 
--- If the node stands.
+-- Where the node stands.
 
 -- the moment in which the world has it is the one that is known
 pub record Here (sc : Scenario) (name : NodeName) (w : World) (h : StandsInRounds sc w) (s : Site) (p : ℕ) (st : NodeState) (a : Timed) : Type 0 where
@@ -134,7 +134,6 @@ still-underway sc name n s z x e u after core_is is makes inside =
       before = omega (arith, frame, inside);
     }
 
--- or it has begun the frame after the last
 now-done : (sc : Scenario) (name : NodeName) (n : ℕ) (s z : Site) (x : Act) (e : Event) (u : Underway sc name n s) → HasTicks sc.plan → (after : AfterTick sc name u.p u.st u.a x z) → after.q ≡ u.p
     → epoch_at sc.sizes (kind_of name) after.then_st after.b.tick ≡ None → given_next sc name (first_run sc n) ≡ e ∷ []
     → Makes sc.sizes sc.plan name (kind_of name) (index_of name) s.core (given e) x.core (act_lines name x) (frames_with x.epoch)

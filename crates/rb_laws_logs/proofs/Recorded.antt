@@ -115,7 +115,7 @@ tick-had sizes plan me i c word = by (is_spent c) refl
     by true e = inr (spent c.had e, refl)
     by false e = inl (acts (is_last sizes plan me st c.had))
 
--- so a core that is not spent has had all ticks
+-- a core that is not spent has had all ticks
 had-counts : (sizes : Sizes) (plan : Plan) (me : Side) (i : ℕ) (c : Core) (events : List CoreEvent) → (core_after sizes plan me i c events).had < 2 ^ 31
     → c.had + count_ticks events ≡ (core_after sizes plan me i c events).had
 had-counts sizes plan me i c [] h = omega arith

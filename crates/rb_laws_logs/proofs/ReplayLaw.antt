@@ -355,7 +355,7 @@ ended-next sc none b (inr at) h =
           ap (λ (b : Book). b.upcoming) (at.1 ∙ sym (ap (λ n. (moment sc [] n).book) k) ∙ same) ∙ end-next sc none
     ]
 
--- so the node is done at the end
+-- the node is done at the end
 pub done-at : (sc : Scenario) (name : NodeName) → IsLawful sc → EndsWithoutBreach sc → IsGoodThroughout sc name → (n : ℕ) → (first_run sc n).book.ended ≡ true → (s : Site) × IsDone sc name n s
 done-at sc name lawful none good n ended =
     let node : NodeAt sc name n = nodes-at sc name lawful none good n in

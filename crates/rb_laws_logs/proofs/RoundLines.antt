@@ -88,7 +88,6 @@ good-moment sc name p good going =
           ∙ ap (is_good sc (kind_of name) (index_of name) sc.frames) z ∙ good
     ]
 
--- and has a state there, in that frame
 pub record HasState (sc : Scenario) (name : NodeName) (m : Moment) : Type 0 where
   pub st : NodeState
   pub there : state_of name m ≡ Some st

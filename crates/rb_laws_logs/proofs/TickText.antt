@@ -251,7 +251,6 @@ from-tail sc name p h =
     (frame-step sc name (suc p) (omega (arith, w, h)) ∙ ap (λ l. l ++ block_text sc name (moment sc [] (suc (suc p)))) (window-step sc name p (omega (arith, h)))
     ∙ append_assoc (told_up_to sc name p) (window_text sc name (moment sc [] p)) (block_text sc name (moment sc [] (suc (suc p)))))
 
--- and from the last stage, where the tail is passed over
 from-last : (sc : Scenario) (name : NodeName) (p : ℕ) → HasTicks sc.plan → IsGoodThroughout sc name → (moment sc [] p).frame < sc.frames → (moment sc [] p).window + 1 ≡ stages_in sc.sizes
     → Place sc name p (suc (suc (suc p)))
 from-last sc name p ticks good inside h =

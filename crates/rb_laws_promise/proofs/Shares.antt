@@ -30,7 +30,7 @@ use Rattle.rb_laws_promise.specs.Shares.{GoodBiusGetTheirShare, share_of, slots_
 use Rattle.rb_laws_promise.proofs.Passes.{owners-share}
 use Rattle.rb_laws_promise.proofs.Promise.{stands}
 
--- If the bus is.
+-- Where the bus is.
 
 -- after n steps the bus is in its frame before its slot, and it has a value for each slot of the
 -- frame before that

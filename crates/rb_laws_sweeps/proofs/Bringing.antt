@@ -48,7 +48,7 @@ without-it q (suc n) c (x ∷ xs) s h = by (q x) (without-it q n c xs s h)
     by true e = ap suc e
     by false e = e
 
--- and if it was the only one, nothing is left
+-- if it was the only one, nothing is left
 without-sole : (q : Coming → Bool) (n : ℕ) (c : Coming) (cs : List Coming) → StandsAt n c cs → q c ≡ true → (d : Coming) → filter q cs ≡ d ∷ []
     → (c ≡ d) × (filter q (remove cs n) ≡ [])
 without-sole q n c [] s h d e = absurd s

@@ -40,7 +40,6 @@ each-itself xs = each-is (map_each (λ side n x. x) xs) xs (from-itself 0 xs.biu
 abbrev pub KeepsAhead : (Side → ℕ → Site → Site) → Type 0
 KeepsAhead g = (side : Side) (j : ℕ) (s : Site) → (g side j s).ahead ≡ s.ahead
 
--- so it leaves the first of them
 pub first-changed : (g : Side → ℕ → Site → Site) (w x : World) (me : Side) (i : ℕ) (a : Timed) → x.sites ≡ map_each g w.sites → KeepsAhead g → IsFirstTick w me i a → IsFirstTick x me i a
 first-changed g w x me i a is keeps h = record {
   node = g me i h.node;

@@ -83,7 +83,6 @@ is-first c cs all = by (first_of cs) refl
     by (Some q) h = ap (λ b. Some (pick c q b))
         (every-stands (λ d. comes_first c d ≡ true) q.place q.coming cs (first-stands cs q h) all)
 
--- so does what comes before all others and after those that stand before it
 pub first-is : (n : ℕ) (c : Coming) (cs : List Coming) → StandsAt n c cs → Every (λ d. comes_first c d ≡ true) cs
     → ((m : ℕ) (d : Coming) → m < n → StandsAt m d cs → comes_first d c ≡ false) → first_of cs ≡ Some (record { place = n; coming = c })
 unfolding first_of

@@ -47,7 +47,7 @@ pub hears-none : (sc : Scenario) (me : Side) (i until : ℕ) (s : Site) → Ever
 unfolding heard
 hears-none sc me i until s late = by-silent sc me i until (length s.coming) s late
 
--- else the first is heard first
+-- the first is heard first
 pub hears-first : (sc : Scenario) (me : Side) (i until : ℕ) (s : Site) (p : Placed) → first_of s.coming ≡ Some p → p.coming.time < until
     → heard sc me i until s ≡ telling sc [] me i s (Arrival p.place p.coming) ∷ heard sc me i until (after_arrival sc me i p.place p.coming s)
 unfolding heard heard_by after_arrival
@@ -92,7 +92,6 @@ push-unheard sc me i until ahead more s later =
     ∙ ap (λ z. t ∷ heard sc me i until z) (arrival-more sc me i p.place p.coming ahead more s (first-stands s.coming p e)) ∙ ap (λ l. t ∷ l) rest
     ∙ sym (hears-first sc me i until s p e lt)) s
 
--- so with the message of a tick, in a sweep through the time of the tick
 pub sent-unheard : (sc : Scenario) → IsLawful sc → (me side : Side) (j i frame until : ℕ) (x : Sending) (s : Site) → until ≤ time_of (clock_of sc me j) x.tick + 1
     → heard sc side i until (sent_to sc me j frame x side i s) ≡ heard sc side i until s
 sent-unheard sc lawful me side j i frame until x s le = by (same_side side (other me)) s.runs refl refl

@@ -51,7 +51,7 @@ wrong-unstamped false Silent = refl
 wrong-unstamped false (One stamp m) = refl
 wrong-unstamped false Bad = refl
 
--- the same came of each source, but for the stamps
+-- the same came from each source, but for the stamps
 abbrev SenseAlike : (ℕ → Sense) → (ℕ → Sense) → Type 0
 SenseAlike f g = (j : ℕ) → unstamped (f j) ≡ unstamped (g j)
 
@@ -240,7 +240,6 @@ tick-alike sizes plan me i word st k inbox other last below small same = by (nat
 passed : (k : ℕ) (c : Core) → c.had ≤ k → pass_to k c ≡ record c { had = k }
 passed k c le = let e : max c.had k ≡ k = omega arith in ap (λ n. record c { had = n }) e
 
--- so it is the same for two cores in one state to which the same bytes came of each source
 pub ticks-alike : (sc : Scenario) (ports : List PortState) (me : Side) (i k : ℕ) (c d : Core)
     → is_last sc.sizes sc.plan me (state_at sc.sizes sc.plan me c.state k) k ≡ true
     → (window_here sc.sizes sc.plan me (state_at sc.sizes sc.plan me c.state k) k).slot < sync_slot_of sc.sizes

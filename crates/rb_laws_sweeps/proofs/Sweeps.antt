@@ -51,7 +51,7 @@ pub sweep-stays : (sc : Scenario) (me : Side) (i until : ℕ) (s : Site) → Eve
 unfolding swept
 sweep-stays sc me i until s late = by-stays sc me i until (length s.coming) s late
 
--- else the first is taken first
+-- the first is taken first
 pub sweep-takes : (sc : Scenario) (me : Side) (i until : ℕ) (s : Site) (p : Placed) → first_of s.coming ≡ Some p → p.coming.time < until
     → swept sc me i until s ≡ swept sc me i until (after_arrival sc me i p.place p.coming s)
 unfolding swept swept_by after_arrival

@@ -139,7 +139,6 @@ after-third sc hands n m s c before Biu i now h =
     let k = stage-keeps sc hands n m s 2 c Biu i from.st from.was in
     subst (KeepsTicks sc) from.is (ticks-kept sc from.st (after sc m Biu i from.st) (epoch_after sc m Biu i from.st) k.1.k1 k.1.k2 (before Biu i from.st from.was))
 
--- and so does the tail
 after-tail : (sc : Scenario) (hands : List HandIn) (n : ℕ) (m : Moment) (s : Shared) → Agree sc hands n m s → m.window ≡ 3 * sync_slot_of sc.sizes + 3 → AllKeepTicks sc m → AllKeepTicks sc (next sc m)
 after-tail sc hands n m s agree at before me i now h =
     let from : CameFrom sc m me i now = came_from sc hands n m s agree me i now h in

@@ -124,7 +124,7 @@ near_present e x y f g from (suc n) near =
     one_pair e x y (f from) (g from) (present (map f (range_with_len (from + 1) n))) (present (map g (range_with_len (from + 1) n)))
     (near from (omega arith)) (near_present e x y f g (from + 1) n (λ j lt. near j (omega arith)))
 
--- so the times of the two middles are near
+-- the times of the two middles are near
 pub middle_times_near : (e : ℕ) (x y : ℕ → ℕ) (f g : ℕ → Option ℕ) (m n : ℕ) → IsMonotone x → IsMonotone y
     → ((j : ℕ) → j < 16 → BothNear e x y (f j) (g j)) → IsMiddle m (present (map f (numbers 16))) → IsMiddle n (present (map g (numbers 16)))
     → AreNear e (x m) (y n)

@@ -100,7 +100,6 @@ call_time-is sc m kind stage j st tick there at =
     ap (λ o. time_of (clock_of sc kind j) (unwrap_or (option_and_then (λ st. call_tick_of sc.sizes sc.plan st stage) o) 0)) there
     ∙ ap (λ o. time_of (clock_of sc kind j) (unwrap_or o 0)) at
 
--- so they go out from some time on, and within as much
 pub near_calls : (sc : Scenario) (hands : List HandIn) (n : ℕ) (m : Moment) (s : Shared) (q : ℕ) (me : Side) (c : IsHeardStage sc hands n m s q me) (near : ℕ)
     → CallNear sc m (other me) (q + 1) near → (least : ℕ) × CallBetween sc m (other me) (q + 1) least (least + near)
 near_calls sc hands n m s q me c near close =

@@ -33,7 +33,6 @@ heard_from sc low = low + sc.plan.dmin
 abbrev pub heard_to : Scenario → ℕ → ℕ
 heard_to sc high = high + sc.plan.dmax + tick_of sc.plan
 
--- and so the calls of stage 2, and of stage 3
 abbrev pub from_2 : Scenario → ℕ → ℕ
 from_2 sc low = heard_from sc (from_1 sc low) + sc.plan.l * shortest_of sc.plan
 
@@ -54,7 +53,6 @@ near_1 plan = eps_of plan + tick_of plan
 abbrev pub near_2 : Plan → ℕ
 near_2 plan = near_1 plan + drift_of plan * plan.l + near_1 plan
 
--- and so the calls of stage 3
 abbrev pub near_3 : Plan → ℕ
 near_3 plan = near_2 plan + drift_of plan * plan.v
 

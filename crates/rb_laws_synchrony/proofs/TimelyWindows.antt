@@ -106,7 +106,6 @@ pub good_here : (sc : Scenario) (m : Moment) (slot stage : ℕ) → IsSet sc m s
     → is_good sc me i m.frame slot ≡ true
 good_here sc m slot stage c me i st h = ap (is_good sc me i m.frame) (sym c.slot_is) ∙ h.good
 
--- so it is timely
 pub timely : (sc : Scenario) (m : Moment) (slot stage : ℕ) (c : IsSet sc m slot stage) (low high : ℕ) → IsSentBetween sc m slot stage c.ws low high
     → LieAbout sc m slot stage c.ws low high → IsTimely sc m
 timely sc m slot stage c low high sent about = record {

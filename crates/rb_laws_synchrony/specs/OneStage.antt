@@ -1,4 +1,4 @@
--- One stage of the sync slot, whatever nodes that are not good do: if the middle of a good node
+-- One stage of the sync slot, whatever nodes that are not good do: where the middle of a good node
 -- lies, how near the middles of two are, and that no good node is accused.
 use Rattle.std.specs.Prelude.{ℕ, ◌≡◌, ◌+◌, ◌-◌, ◌<◌, ◌≤◌, ◌==◌, ◌&&◌, ◌⊎◌, not, Bool, true, false, if◌then◌else◌, Option, Some, None, is_some}
 use Rattle.rb_base.specs.Counting.{count_if, numbers}

@@ -74,7 +74,7 @@ latest_delay_is base rules from to rule place is has = go (find (is_between from
 in_all : (most n : ℕ) → n ≤ most → is_in_range (0, most) n ≡ true
 in_all most n le = ap (λ b. b && nat_le n most) (le-leb 0 n (omega arith)) ∙ le-leb n most le
 
--- those of every message
+-- the ranges of every message
 pub every_place : (frames slots stages : ℕ) (place : Place) → place.frame ≤ frames → place.slot ≤ slots → place.stage ≤ stages
     → covers (0, frames) (0, slots) (0, stages) place ≡ true
 every_place frames slots stages place frame slot stage =
@@ -126,7 +126,6 @@ latest_more base pair rules latest from to rule are many sender receiver is = re
 pub base_alone : (base : ℕ) (rules : List Rule) (from to : NodeName) (place : Place) → rules ≡ [] → base ≡ delay_after base rules from to place
 base_alone base rules from to place none = subst (λ rs. base ≡ delay_after base rs from to place) (sym none) refl
 
--- so with the latest rule that stands at the pair's number
 pub by_latest : (latest : List Rule) (pair : ℕ) (rule : Rule) (place : Place) → Some rule ≡ slice_get latest pair
     → covers rule.frames rule.slots rule.stages place ≡ true
     → (base : ℕ) → (rules : List Rule) → AreLatest base rules latest → rule.delay ≡ delay_after base rules (sender_of pair) (receiver_of pair) place

@@ -206,7 +206,6 @@ sixteen_there base rules shared flat row sender place ranges are fits few at has
     let all : all_latest_have rules sender place ≡ true = sym (are.kept sender ranges place fits (sym at)) ∙ has in
     sixteen ∙ ap (λ b. if b then 16 else 0) (sym all)
 
--- so by the node
 pub there_by_sender : (base : ℕ) (rules : List Rule) (from : NodeName) (sender : ℕ) (place : Place) (row : List ℕ) → IsSender sender from
     → true ≡ is_numbered from → length row ≡ (if all_latest_have rules sender place then 16 else 0)
     → length row ≡ (if has_row (record { base = base; rules = rules }) from place then 16 else 0)

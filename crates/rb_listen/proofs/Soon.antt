@@ -46,7 +46,6 @@ set-soon (x ∷ xs) zero s h soon (suc k) = soon (suc k)
 set-soon (x ∷ xs) (suc place) s h soon zero = soon zero
 set-soon (x ∷ xs) (suc place) s h soon (suc k) = set-soon xs place s h (λ j. soon (suc j)) k
 
--- nor do they with one message more
 pub noted-soon : (sizes : Sizes) (j at : ℕ) (m : Message) (lesson : Lesson) → at ≤ 2 ^ 31 → AreSoon lesson.records
     → AreSoon (noted sizes j at m lesson).records
 unfolding AreSoon

@@ -143,7 +143,6 @@ pub next-none : (v : Seated) (c : Core) (had k : ℕ) → c.state ≡ v.state �
     → next_wake v.sizes v.plan c ≡ None
 next-none v c had k s h next end = next-at v c had s h ∙ among-none v had k next end
 
--- so it is the end of what may pass
 pub passing-is : (n : Running) (k : ℕ) → IsNextWake n.seat n.had k → passing_end n ≡ k
 passing-is n k next =
     let most : k ≤ 2 ^ 31 = next.most in

@@ -23,7 +23,6 @@ some_bytes (Ticks count) = omega arith
 some_bytes (Arrival from size) = omega arith
 some_bytes End = omega arith
 
--- the same record, and then the same
 same_then : {B : Type 0} (r : Result Entry LogRefusal) (f g : Entry → Result B LogRefusal) → ((entry : Entry) → f entry ≡ g entry) → (r >>= f) ≡ (r >>= g)
 same_then (Ok entry) f g same = same entry
 same_then (Err fault) f g same = refl

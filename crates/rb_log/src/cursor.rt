@@ -18,7 +18,7 @@ pub enum LogEvent<'a> {
 #[derive(Drop)]
 pub(crate) struct Cursor<'a> {
     pub bytes: &'a [u8],
-    /// If the next record begins, and how many ticks the log has before it.
+    /// Where the next record begins, and how many ticks the log has before it.
     pub place: usize,
     pub ticks: u32,
     /// How many ticks with word 0 are left of the record before it.

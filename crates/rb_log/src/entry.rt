@@ -117,7 +117,7 @@ pub(crate) fn zeros_of(entry: Entry) -> u32
     }
 }
 
-/// If a record begins, and how many ticks the log has before it.
+/// Where a record begins, and how many ticks the log has before it.
 #[derive(Clone, Copy)]
 pub(crate) struct Position {
     pub place: usize,
@@ -135,7 +135,7 @@ pub(crate) fn is_end(entry: Entry) -> bool
     }
 }
 
-// If the next record begins. None at the end of the log.
+// Where the next record begins. None at the end of the log.
 #[tactic(auto, using(crate::proofs::Reading::steps))]
 fn advance(
     senders: u8,

@@ -11,7 +11,7 @@ pub enum LogRefusal {
     /// The field that starts there has a number that it may not have.
     #[error("the field at byte {0} may not have this number")]
     BadField(u64),
-    /// The bytes end there inside the header, inside a record or if a record must begin.
+    /// The bytes end there inside the header, inside a record or where a record must begin.
     #[error("the log is cut short at byte {0}")]
     Truncated(u64),
     /// This byte follows the end.

@@ -47,7 +47,6 @@ all-words : (letters : List (ArrayVec ℕ)) → waiting_in 0 letters ≡ map spe
 all-words [] = refl
 all-words (l ∷ ls) = refl
 
--- or it was its last
 pub is-sent : (sent : ℕ) (letters : List (ArrayVec ℕ)) (letter d : ArrayVec ℕ) → 0 < length letters → letter ≡ get_or letters 0 d
     → parts_in (length letter.items) ≤ sent → waiting_in 0 (remove letters 0) ≡ without_word (waiting_in sent letters)
 is-sent sent [] letter d some is last = absurd (omega (arith, some))

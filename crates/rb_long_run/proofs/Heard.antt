@@ -35,7 +35,6 @@ heard-more frame slot all now lines i d given old mid new below is gives before 
     subst (λ t. Appends old new t) (sym (text-one frame slot all now lines i d below is))
     (appends_join old mid new _ _ before (subst (λ (g : Option (List ℕ)). Appends mid new (given_text frame slot (get_or lines i d) g)) gives after))
 
--- or a first part of it
 pub heard-part : (frame slot : ℕ) (all now : Open) (lines : List SlotLine) (i : ℕ) (d : SlotLine) (given : Option (List ℕ)) (old mid new : Option (List ℕ)) → i < length lines
     → now ≡ with_lines all (take i lines) → given ≡ letter_of now (get_or lines i d) → Appends old mid (lines_text frame slot all (take i lines))
     → AppendsPart mid new (given_text frame slot (get_or lines i d) given) → AppendsPart old new (lines_text frame slot all lines)
@@ -47,7 +46,6 @@ heard-part frame slot all now lines i d given old mid new below is gives before 
     sym (text-split frame slot all (take (i + 1) lines) (drop (i + 1) lines)) ∙ ap (lines_text frame slot all) (take-append-drop (i + 1) lines) in
     subst (λ t. AppendsPart old new t) whole (part_widens old new _ _ some)
 
--- and what is open after it
 pub open-more : (all now next : Open) (lines : List SlotLine) (i : ℕ) (d : SlotLine) → i < length lines → now ≡ with_lines all (take i lines) → next ≡ with_line now (get_or lines i d)
     → next ≡ with_lines all (take (i + 1) lines)
 open-more all now next lines i d below is after =

@@ -62,7 +62,6 @@ with-turn all past (Some (Slot frame slot lines)) is = hears-all all past lines 
 with-turn all past (Some Ended) is = subst (λ xs. Hears all xs) (sym (append-nil past)) is
 with-turn all past (Some (Breach place cause)) is = subst (λ xs. Hears all xs) (sym (append-nil past)) is
 
--- and what is open after them
 pub hears-more : (turns : List Turn) (t : Turn) (all : Open) → Hears all (deliveries_in (records_in turns)) → Hears (open_with all (record_of t)) (deliveries_in (records_in (turns ++ t ∷ [])))
 hears-more turns t all is =
     subst (λ xs. Hears (open_with all (record_of t)) xs) (sym (ap deliveries_in (records-more turns t) ∙ deliveries-with (records_in turns) (record_of t)))

@@ -52,7 +52,7 @@ written-next : (sc : Scenario) (is_plain : Bool) (told mid : Option (List Turn))
 written-next sc is_plain told mid k held mid_held after_held newest passed all t is now =
     subst (λ text. Appends held after_held text) (sym (text-next sc is_plain told mid k held mid_held newest passed all t is)) (appends_join held mid_held after_held _ _ is.text now)
 
--- and the run goes on
+-- the run goes on
 pub one-written : (sc : Scenario) (is_plain : Bool) (told mid since : Option (List Turn)) (k after : KeptWorld) (held mid_held after_held : Option (List ℕ)) (newest next passed : ℕ) (all then_open : Open) (t : Turn)
     → (is : IsWritten sc is_plain told mid k held mid_held newest passed all) → Next sc is_plain told mid since k after held mid_held newest passed all t is
     → Appends mid_held after_held (turn_text newest all (record_of t)) → next ≡ newest_with newest (record_of t) → then_open ≡ open_with all (record_of t) → end_at (record_of t) ≡ None
@@ -66,7 +66,6 @@ one-written sc is_plain told mid since k after held mid_held after_held newest n
   heard = subst (λ (o : Open). Hears o (deliveries_in (records_in (is.turns ++ t ∷ [])))) (sym heard) (hears-more is.turns t all is.heard);
 }
 
--- or ends
 pub all-written : (sc : Scenario) (is_plain : Bool) (told mid since : Option (List Turn)) (k after : KeptWorld) (held mid_held after_held : Option (List ℕ)) (newest passed : ℕ) (all : Open) (t : Turn) (e : Ending)
     → (is : IsWritten sc is_plain told mid k held mid_held newest passed all) → Next sc is_plain told mid since k after held mid_held newest passed all t is
     → Appends mid_held after_held (turn_text newest all (record_of t)) → end_at (record_of t) ≡ Some e → WritesLetters sc is_plain told since held after_held
@@ -78,7 +77,6 @@ all-written sc is_plain told mid since k after held mid_held after_held newest p
   text = written-next sc is_plain told mid k held mid_held after_held newest passed all t is now;
 }
 
--- or only a first part of it is written
 pub part-written : (sc : Scenario) (is_plain : Bool) (told mid since : Option (List Turn)) (k after : KeptWorld) (held mid_held after_held : Option (List ℕ)) (newest passed : ℕ) (all : Open) (t : Turn)
     → (is : IsWritten sc is_plain told mid k held mid_held newest passed all) → Next sc is_plain told mid since k after held mid_held newest passed all t is
     → AppendsPart mid_held after_held (turn_text newest all (record_of t)) → WritesSome sc is_plain told since held after_held

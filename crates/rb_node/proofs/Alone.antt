@@ -84,7 +84,7 @@ is-alone me v w b a =
 pub kept-alone : (me : Side) (v : Seated) (had : ℕ) (a : Ahead) → LooksAhead me v had a → a.alone ≡ true → IsAlone me v a.window a.busy
 kept-alone me v had a l is = alone-is me v a.window a.busy (sym l.alone ∙ is)
 
--- so the tick ends a window of a slot before the sync slot, and no frame begins with it
+-- the tick ends a window of a slot before the sync slot, and no frame begins with it
 
 pub alone-ends : (me : Side) (v : Seated) (had : ℕ) (a : Ahead) (c : Core) (k : ℕ) → LooksAhead me v had a → a.alone ≡ true
     → c.state ≡ v.state → c.had ≡ had → next_tick v.sizes v.plan me v.index c ≡ Some k → EndsExactWindow v.sizes v.plan me c.state k

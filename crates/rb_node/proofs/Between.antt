@@ -47,7 +47,6 @@ runs-on me v had m inbox a r lo hi =
       ahead = record { next = next-on me v had m a.busy.tick r.ahead.next lo hi; window = window-on me v had m a r.ahead lo hi; stage = r.ahead.stage; wants = r.ahead.wants; alone = r.ahead.alone };
     }
 
--- so it is the end of what may pass
 pub passing-is : (me : Side) (n : Running) (k : ℕ) → IsNextBusy me n.seat n.had k → passing_end me n ≡ k
 passing-is me n k next =
     let most : k ≤ 2 ^ 31 = next.most in

@@ -303,7 +303,7 @@ chosen-sooner had stage candidate before after c = record {
   either = elim c.either [ inl is ↦ inr is.0 | inr other ↦ inl (ap (λ (b : Busy). b.tick) other.1) ];
 }
 
--- so the message is that of the lowest stage that is due
+-- the message is that of the lowest stage that is due
 pub says-in : (me : Side) (v : Seated) (slot had tick : ℕ) (third second first : Busy)
     → IsChosen had (tick_said me v slot 3) 3 (record { tick = tick; stage = 0 }) third → IsChosen had (tick_said me v slot 2) 2 third second
     → IsChosen had (tick_said me v slot 1) 1 second first → SaysIn me v slot first.tick first.stage

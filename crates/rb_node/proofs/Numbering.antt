@@ -93,7 +93,6 @@ numbered-here me v had w ticks here below =
           absurd (omega arith)
     ]
 
--- so it goes on to its last tick at least
 pub ends-later : (v : Seated) (had : ℕ) (w : Window) → v.state.epoch ≤ had → IsNumbered v.sizes v.plan (had - v.state.epoch) w
     → had ≤ v.state.epoch + w.last
 ends-later v had w epoch n =
@@ -134,7 +133,6 @@ follows-exact plan n some = by (nat_lt (n % 3 + 1) 3) refl
         (record { slot = n / 3 + 1; stage = 1; first = n * plan.l + plan.l - 1 + 1; last = n * plan.l + plan.l - 1 + plan.l })
         (exact_window plan (n + 1)) (omega arith) (omega arith) (omega (arith, next, some)) (omega (arith, next, some))
 
--- or it is the sync slot's first, which is as long
 pub follows : (sizes : Sizes) (plan : Plan) (offset : ℕ) (w : Window) → HasTicks plan → IsNumbered sizes plan offset w
     → window_at sizes plan (w.last + 1) ≡ Some (following plan w)
 follows sizes plan offset w ticks h =
@@ -218,7 +216,7 @@ idle had stage candidate b later none = record {
   either = inr (none b.tick later (omega arith), refl);
 }
 
--- so the choice among the three stages is that of the window's own
+-- the choice among the three stages is that of the window's own
 pub own-stage : (me : Side) (v : Seated) (had : ℕ) (w : Window) (before after : Busy) → v.plan.h < v.plan.l → v.state.epoch ≤ had
     → IsNumbered v.sizes v.plan (had - v.state.epoch) w → w.slot < sync_slot_of v.sizes → had ≤ before.tick
     → before.tick ≤ v.state.epoch + w.last → IsChosen had (tick_said me v w.slot w.stage) w.stage before after

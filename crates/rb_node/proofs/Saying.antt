@@ -77,7 +77,6 @@ goes-out k None t h = refl
 goes-out k (Some m) None h = cc
 goes-out k (Some m) (Some t) h = ap (λ b. elim b as (λ _. Option Message) [ true ↦ Some m | false ↦ None ]) h
 
--- and at no other
 pub stays-in : (k : ℕ) (m : Option Message) (t : Option ℕ) → is_tick t k ≡ false → if_at k (sent_at m t) ≡ None
 stays-in k None t h = refl
 stays-in k (Some m) None h = refl

@@ -68,7 +68,6 @@ silent me v k shape plan e =
     ∙ ap (λ s. option_or (stage_at me v s 1 0 k) (option_or (stage_at me v s 2 0 k) (stage_at me v s 3 0 k))) (first-slot me v k shape (has-ticks v.plan plan) e)
     ∙ three-none _ _ _ (silent-stage me v 1 k shape plan e) (silent-stage me v 2 k shape plan e) (silent-stage me v 3 k shape plan e)
 
--- so it says no message
 pub silent-says : (me : Side) (v : Seated) (slot k : ℕ) → IsShape v.sizes → IsPlan v.plan → v.state.epoch ≡ k → slot ≡ (window_of_tick me v k).slot
     → SaysIn me v slot k 0
 silent-says me v slot k shape plan e is =
@@ -127,7 +126,7 @@ want-later me v w k h is none =
     ∙ ap (λ m. want_for v.sizes (slot_wanted v.sizes (option_or m (option_or (stage_at me v w.slot 2 0 k) (stage_at me v w.slot 3 0 k))))) (unsaid me v w.slot 1 k none)
     ∙ ap (want_for v.sizes) (wanted-later me v w.slot k (stage_at me v w.slot 2 0 k) (stage_at me v w.slot 3 0 k) refl refl)
 
--- so nothing is wanted where no message of the first stage is due, whether the node turns or not
+-- nothing is wanted where no message of the first stage is due, whether the node turns or not
 pub want-silent : (me : Side) (v : Seated) (w : Window) (k : ℕ) → IsShape v.sizes → IsPlan v.plan → w ≡ window_of_tick me v k
     → is_tick (tick_said me v w.slot 1) k ≡ false → want_at me v k ≡ want.Nothing
 want-silent me v w k shape plan is none = by (is_tick (new_epoch_of v.plan me v.state) k) refl

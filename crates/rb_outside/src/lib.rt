@@ -1,4 +1,4 @@
-//! The outside: if bytes come from and if they go. Every failure of it is counted.
+//! The outside: where bytes come from and where they go. Every failure of it is counted.
 #![tactic(auto)]
 
 mod faults;

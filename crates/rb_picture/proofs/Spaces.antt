@@ -53,7 +53,6 @@ first_of_one (x ∷ xs) h =
     let two = and_parts (nat_lt 32 x) (above 32 xs) h in
     rw (is_other 32 32 x (omega arith) two.0) (ap (λ l. x ∷ l) (first_of_one xs two.1))
 
--- the same by index, where no byte is a space
 pub first_by_index : (xs rest : List ℕ) → ((i : ℕ) → i < length xs → get_or xs i 0 ≢ 32) → first_field (xs ++ 32 ∷ rest) ≡ xs
 first_by_index [] rest none = refl
 first_by_index (x ∷ xs) rest none =

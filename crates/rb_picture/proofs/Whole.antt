@@ -17,7 +17,6 @@ pub record GoesOn (bytes : List ℕ) (at newest : ℕ) (left : List Line) : Type
   pub ended : end_of newest left ≡ last_place
   pub fits : AllFit left
 
--- so of each report that the bytes are
 abbrev pub GoesOnAs : List ℕ → ℕ → ℕ → Type 0
 GoesOnAs bytes at newest = (lines : List Line) → AllFit lines → IsReport bytes lines → (left : List Line) × GoesOn bytes at newest left
 

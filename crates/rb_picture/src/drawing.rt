@@ -87,7 +87,7 @@ pub(crate) fn push_cell(
     }
 }
 
-// If the run broke off.
+// The place at which the run broke off.
 fn place_words(place: Place) -> ArrayString<96>
     ensures { result.bytes ≡ place_words place }
 {
@@ -395,7 +395,7 @@ fn rank(set: u16, number: u8) -> u64
     u64::from(lower.count())
 }
 
-// If a row of names begins, and how many names stand there before those of a set.
+// Where a row of names begins, and how many names stand there before those of a set.
 #[derive(Clone, Copy)]
 struct Names {
     x: u64,

@@ -75,7 +75,7 @@ pub(crate) fn text_of(line: Line) -> ArrayString<96>
     }
 }
 
-// If a node stands among those of its bus.
+// The place of a node among those of its bus.
 fn node_place(node: NodeName) -> u64
     ensures value { result ≡ node_place node }
     ensures most { result ≤ 511 }
@@ -95,7 +95,7 @@ fn place_of(frame: u32, kind: u8, slot: u16, node: u64) -> u64
     ((u64::from(frame) * 4 + u64::from(kind)) * 65536 + u64::from(slot)) * 512 + node + 1
 }
 
-/// If the line stands in a report.
+/// The place of the line in a report.
 pub(crate) fn line_place(line: Line) -> u64
     ensures { result ≡ line_place line }
 {

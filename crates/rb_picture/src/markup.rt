@@ -5,7 +5,7 @@ ghost use Rattle.rb_picture.specs.Markup.{escape, escaped, with_attribute, with_
 use itoa::{Buffer, Integer};
 use rb_base::OutOfMemory;
 
-/// If a rectangle stands, and how large it is, in pixels.
+/// Where a rectangle is, and how large it is, in pixels.
 #[derive(Clone, Copy)]
 pub struct Area {
     pub x: u64,

@@ -1,4 +1,4 @@
-//! If things stand in a picture.
+//! The places of things in a picture.
 ghost use Rattle.std.specs.Prelude.{◌≡◌, ◌^◌, ◌<◌, ◌≤◌};
 ghost use Rattle.rb_picture.specs.Places.{breach_area, cell_area, cell_width, close_area, column_left, grid_area, grid_left, is_behind, margin, panel_area, panel_height, panel_top, panels_of, picture_height, picture_width, offset_of, row_of, row_top, rows_of, slots_of, strip_area, tick_area, word_width};
 

@@ -28,7 +28,7 @@ first_at p xs i x is passes before =
 abbrev pub fails : Sides → Bool
 fails sides = int_lt sides.left sides.right
 
--- those before the nth hold
+-- the windows before the nth hold
 abbrev pub HoldBefore : Sizes → Plan → ℕ → Type 0
 HoldBefore sizes plan n = (k : ℕ) (d : Sides) → k + 1 < n → fails (get_or (inequalities_of sizes plan) k d) ≡ false
 

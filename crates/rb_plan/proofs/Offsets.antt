@@ -84,7 +84,6 @@ found_below sizes plan offset number some below low high =
     ∙ ap (λ found. option_or found (find (holds_offset offset) (sync_windows sizes plan)))
     (found_exact plan offset number 0 (3 * sync_slot_of sizes) some (omega arith) (omega arith) low high)
 
--- the same, by a division
 pub divided_below : (sizes : Sizes) (plan : Plan) (offset ticks : ℕ) → ticks ≡ plan.l → 1 ≤ plan.l → offset < f0_of sizes plan
     → Some (exact_window plan (offset / ticks)) ≡ window_at sizes plan offset
 divided_below sizes plan offset ticks e some below =

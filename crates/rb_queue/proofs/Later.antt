@@ -45,7 +45,6 @@ lane_left p kept new start room capacity reserved latest is left same =
       by = subst (AreBy latest) (sym left) (λ k c e. let w = among p (drop start kept) k c e in is.by w.0 c w.1);
     }
 
--- so is what stands beside it
 pub queue_left : (until : ℕ) (lane new : Held) (more : List Pending) (capacity : ℕ) → IsQueue lane more capacity → new ≡ without_before until lane
     → IsQueue new more capacity
 queue_left until lane new more capacity is left =

@@ -116,7 +116,7 @@ pub record IsLeft (time : ℕ) (arrivals : List Coming) (i first left : ℕ) : T
   pub some : left < length (from_on time arrivals first (257 - first))
   pub same : slice_get (from_on time arrivals first (257 - first)) left ≡ slice_get (arrivals_at time arrivals) i
 
--- those of one source more are behind them
+-- the arrivals of one more source are behind them
 pub all_sources : (time : ℕ) (arrivals : List Coming) → from_on time arrivals 0 (257 - 0) ≡ arrivals_at time arrivals ++ from_on time arrivals 256 1
 all_sources time arrivals =
     ap (from_on time arrivals 0) (let n : 257 - 0 ≡ 256 + 1 = omega arith in n) ∙ from_on-split time arrivals 0 256 1

@@ -9,7 +9,7 @@ use crate::lane::Lane;
 use crate::pending::Pending;
 use crate::scan::{count, count_tick, place_among};
 
-/// If something that is pending stands: at a place among the arrivals, in the place of the tick, or
+/// Where something that is pending is: at a place among the arrivals, in the place of the tick, or
 /// at a place of what is kept beside.
 pub enum Spot {
     Arrival(usize),

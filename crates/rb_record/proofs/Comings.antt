@@ -187,7 +187,6 @@ rests sc (suc n) = by (rests sc n) (length (due_of sc (first_run sc n))) refl
         subst (λ (w : World). AreIdle w.sites) (sym (run-busy sc (first_run sc n) (omega (arith, e))))
         (take-idle sc (first_run sc n) 0 (run-reached sc n) before)
 
--- and what comes has 1 to 32 bytes
 pub record IsSound (s : Site) : Type 0 where
   pub sized : AreSized s.coming
   pub idle : IsIdle s

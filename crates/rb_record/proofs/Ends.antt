@@ -165,7 +165,6 @@ going-busy sc n lawful going m lt = by (length (due_of sc (first_run sc m))) ref
         true-false (sym (subst (λ k. (first_run sc k).book.ended ≡ true) same (still-over sc (suc m) (n - suc m) (run-ends sc m lawful none))) ∙ going)
     by (suc k) e = omega (arith, e)
 
--- so there were few
 pub few-going : (sc : Scenario) (n : ℕ) → IsLawful sc → (first_run sc n).book.ended ≡ false → n < 2 ^ 63
 few-going sc n lawful going = few-steps sc n lawful (going-busy sc n lawful going)
 

@@ -21,6 +21,5 @@ turn-goes sc n t is none = reached-ended sc (first_run sc n) (run-reached sc n) 
 pub turn-ends : (sc : Scenario) (n : ℕ) (t : Turn) (e : Ending) → (first_run sc n).turn ≡ record_of t → end_at (record_of t) ≡ Some e → (first_run sc n).book.ended ≡ true
 turn-ends sc n t e is some = reached-ended sc (first_run sc n) (run-reached sc n) ∙ ap is_last is ∙ ends-last (record_of t) e some
 
--- and it ends as that says
 pub ends-so : (sc : Scenario) (n : ℕ) (t : Turn) (e : Ending) → IsLawful sc → (first_run sc n).turn ≡ record_of t → end_at (record_of t) ≡ Some e → EndsWith sc e
 ends-so sc n t e lawful is some = ap end_at (sym (ends-as-rounds sc n lawful (turn-ends sc n t e is some)) ∙ is) ∙ some

@@ -85,7 +85,6 @@ cause-none : {T E : Type 0} (a : ℕ) (r : Result T E) → IsOk r → HasCause a
 cause-none a (Ok x) is = record { later = omega arith; rose = tt }
 cause-none a (Err e) is = absurd (cc)
 
--- the same failure, by another name
 pub cause-err : {T U E : Type 0} (a b c : ℕ) (r : Result T E) (s : Result U E) → a ≤ b → IsErr r → HasCause b c r → HasCause a c s
 cause-err {T} {U} {E} a b c r s le err is = by s (rose r err (cause-join a b c r le is).rose)
   where
@@ -246,7 +245,6 @@ module _ {K : Type 0} (held : K → Option (List ℕ)) (faults : K → ℕ) wher
             (λ part. recorded-part sc name n (n + more) events k a.log a.waiting start (held a.output.now) (held c.output.now) lawful is.recorded (given-told sc name n more draws) part);
       }
 
-  -- so it is with each bus that is kept
   pub comes-to-next : (sc : Scenario) (name : NodeName) (records : ℕ) (a b c : Recorder K) (k after : KeptWorld) (turn : Turn) (start : Option (List ℕ)) → k.bus ≡ sc
       → IsRecordedSoFar sc name records k a.log a.waiting start (held a.output.now) → a.frames ≡ sc.frames → IsOk a.written
       → after.bus ≡ k.bus → ((w : World) → Stands k w → TellsToNext (Recorder K) (RecordsNext held faults) name a b k after turn w) → Settles held faults b c
@@ -275,7 +273,6 @@ module _ {K : Type 0} (held : K → Option (List ℕ)) (faults : K → ℕ) wher
   goes-further sc name records a c after turn start is ok none =
       record { steps = is.steps; many = is.many; going = turn-goes sc is.steps turn is.turn_is none; recorded = recorded-then sc name records a c after turn start is ok }
 
-  -- or ends
   pub comes-to-end : (sc : Scenario) (name : NodeName) (records : ℕ) (a c : Recorder K) (after : KeptWorld) (turn : Turn) (e : Ending) (start : Option (List ℕ))
       → ComesToNext sc name records a c after turn start → IsOk c.written → end_at (record_of turn) ≡ Some e
       → IsRecordedWhole sc name after c.log c.waiting start (held c.output.now)

@@ -54,7 +54,6 @@ passes-then-part log mid v w xs ys h i j first part others =
     sym (append_assoc first.passed.out w due) ∙ ap (λ zs. zs ++ due) (sym first.passed.split) ∙ append_assoc v first.bytes due ∙ ap (λ zs. v ++ zs) (sym text) in
     subst (AppendsPart h j) all (part_join h i j first.passed.out (w ++ due) first.passed.text (part others))
 
--- or at those that came before
 pub part-then-none : (log : Tally) (v : List ℕ) (xs ys : List Event) (h i : Option (List ℕ)) → PassesPartOf log v xs h i → PassesPartOf log v (xs ++ ys) h i
 part-then-none log v xs ys h i part others = subst (λ es. AppendsPart h i (v ++ written log.waiting es)) (sym (append_assoc xs ys others)) (part (ys ++ others))
 
@@ -75,7 +74,6 @@ passes-settled log later v w u events h i j next settled = record {
   };
 }
 
--- or that write failed
 pub part-settled : (log later : Tally) (v w : List ℕ) (events : List Event) (h i j : Option (List ℕ)) → PassesNext log later v w events h i → AppendsPart i j w
     → PassesPartOf log v events h j
 part-settled log later v w events h i j next part others =

@@ -142,7 +142,6 @@ at-node sc w e name is same =
     kind-named is.d.side is.d.node name
     (ap (λ n. same_node n name) (sym (ap (λ (e : Event). e.node) is.is ∙ shown-node sc w.ports is.d.side is.d.node is.s.core is.d.pending)) ∙ same)
 
--- and at its site
 pub at-site : (sc : Scenario) (w : World) (e : Event) (name : NodeName) → (is : IsEvent sc w e) → same_node e.node name ≡ true → site_of name w ≡ Some is.s
 at-site sc w e name is same =
     let at = at-node sc w e name is same in
@@ -158,7 +157,7 @@ tick-fits sc w d lawful reached found due a ahead time =
     let fits : HasTicksLeft sc w = ticks-left sc lawful w (subst (AnyWorld sc (nodes_at sc)) (sym reached.is) (any sc lawful reached.choices)) going.0 in
     fits.left d.side d.node due.s a due.there ahead (subst (λ t. AllPend t w.sites) (sym time) (all-pend w due.t due.first))
 
--- and an arrival that is due is stamped with one
+-- an arrival that is due is stamped with one
 pub arrival-fits : (sc : Scenario) (w : World) (d : Due) → IsLawful sc → IsReached sc w → slice_get (due_of sc w) 0 ≡ Some d → (due : IsDue w d) → due.s.runs ≡ true → (time : ℕ) → time ≡ due.t
     → stamp_of (clock_of sc d.side d.node) time < 2 ^ 31
 arrival-fits sc w d lawful reached found due runs time is =

@@ -59,7 +59,6 @@ header-part sc name held since lawful text =
     let all = all-given sc name 0 lawful in
     record { events = all.0; given = all.1; text = part_widens held since (header_of (timetable_of sc) name) (written 0 all.0) text }
 
--- or one of a record
 pub records-part : (sc : Scenario) (name : NodeName) (held mid since : Option (List ℕ)) → Appends held mid (header_of (timetable_of sc) name)
     → IsRecordedInPart sc name mid since → WritesPart sc name held since
 records-part sc name held mid since header part = record {
@@ -75,7 +74,6 @@ end-text log events w held since is =
     sym (append_assoc is.passed.out w (written log.waiting [])) ∙ ap (λ zs. zs ++ written log.waiting []) (sym is.passed.split)
     ∙ sym (is.told.text []) ∙ ap (written 0) (append-nil events)
 
--- or one of the end
 pub end-part : (sc : Scenario) (name : NodeName) (k : KeptWorld) (log : Tally) (w : List ℕ) (held mid later since : Option (List ℕ))
     → Appends held mid (header_of (timetable_of sc) name) → IsRecordedWhole sc name k log w mid later → AppendsPart later since (w ++ written log.waiting [])
     → WritesPart sc name held since

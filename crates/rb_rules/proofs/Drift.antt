@@ -29,7 +29,7 @@ pub times_rise_to : (clock : Timeline) (tick later : ℕ) → tick ≤ later →
 times_rise_to clock tick later le =
     let e : tick + (later - tick) ≡ later = omega arith in rw e at (times_rise clock tick (later - tick))
 
--- and if each tick takes some time, they are later
+-- if each tick takes some time, they are later
 pub times_rise_strictly : (clock : Timeline) → Moves clock → (tick later : ℕ) → tick < later → time_of clock tick < time_of clock later
 times_rise_strictly clock moves tick later lt =
     let e : suc tick + (later - suc tick) ≡ later = omega arith in
@@ -84,6 +84,6 @@ segments_have shortest longest (s ∷ ss) tick rising within =
 pub has_lengths : (shortest longest : ℕ) (clock : Timeline) → IsClock shortest longest clock → HasLengths shortest longest clock
 has_lengths shortest longest clock is tick = segments_have shortest longest clock.segments tick is.rising is.within
 
--- and if the shortest is not nothing the clock moves
+-- if the shortest is not nothing the clock moves
 pub clock_moves : (shortest longest : ℕ) (clock : Timeline) → 1 ≤ shortest → IsClock shortest longest clock → Moves clock
 clock_moves shortest longest clock some is tick = omega (arith, (has_lengths shortest longest clock is tick).0)

@@ -71,7 +71,7 @@ same_evidence s p q sense same =
     same_set_of (λ j. has s.fresh j || has_evidence s p sense j) (λ j. has s.fresh j || has_evidence s q sense j) (bit s.fresh) in
     rw (direct, fresh) refl
 
--- so a close by the set of the nodes that are expected is the close by the test
+-- a close by the set of the nodes that are expected is the close by the test
 pub closing_by_set : (s : Standing) (p : ℕ → Bool) (sense : ℕ → Sense) → closing_of s (has (set_of p)) sense ≡ closing_of s p sense
 closing_by_set s p sense = same_closing s (has (set_of p)) p sense (λ j below. has-set_of j p below)
 

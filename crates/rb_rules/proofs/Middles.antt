@@ -237,7 +237,6 @@ middle-map f monotone m stamps is = record {
 count_if-permutation : (p : ℕ → Bool) (xs ys : List ℕ) → IsPermutation xs ys → count_if p ys ≡ count_if p xs
 count_if-permutation p xs ys moved = count_if-count_by p ys ∙ sum_by-IsPermutation (λ x. cond (p x) 1 0) xs ys moved ∙ sym (count_if-count_by p xs)
 
--- nor does the middle
 pub middle-permutation : (m : ℕ) (xs ys : List ℕ) → IsPermutation xs ys → IsMiddle m xs → IsMiddle m ys
 middle-permutation m xs ys moved is = record {
   few_below = omega (arith, is.few_below, length_permutation xs ys moved, count_if-permutation (λ x. nat_lt x m) xs ys moved);

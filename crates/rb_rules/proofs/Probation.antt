@@ -42,7 +42,7 @@ not_later : (f : Bool) (frame e : ℕ) → (f ≡ true → e ≡ frame) → (f �
 not_later true frame e now earlier = omega (arith, now refl)
 not_later false frame e now earlier = omega (arith, earlier refl)
 
--- so the count reaches the probation just where the accusation has lapsed by its frames
+-- the count reaches the probation just where the accusation has lapsed by its frames
 reaches : (q n frame e : ℕ) → q ≤ 4096 → e < frame + 1 → n ≡ min (frame + 1 - (e + 1)) 4096
     → (nat_le 1 q && nat_le q n) ≡ has_lapsed q e (frame + 1)
 reaches q n frame e most past is = ap (λ b. nat_le 1 q && b) (rw is (grind (arith, nat_tests)))

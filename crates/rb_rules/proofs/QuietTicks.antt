@@ -193,7 +193,6 @@ pub arrive-same : (sizes : Sizes) (me : Side) (c : Core) (from : ℕ) (bytes : L
 unfolding arrive arrived
 arrive-same sizes me c from bytes = arrived-same c from bytes (nat_lt from (count_of (other me) sizes) && not (is_spent c))
 
--- so it changes no tick that is to come
 pub arrive-next : (sizes : Sizes) (plan : Plan) (me : Side) (index : ℕ) (c : Core) (from : ℕ) (bytes : List ℕ)
     → next_tick sizes plan me index (arrive sizes me c from bytes) ≡ next_tick sizes plan me index c
 arrive-next sizes plan me index c from bytes =

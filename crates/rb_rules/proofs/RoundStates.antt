@@ -39,7 +39,6 @@ state-after sc m me i st h =
     get-each (λ me i r. r.state) (map_each go m.nodes) me i
     ∙ ap (option_map (λ r. r.state)) (get-each go m.nodes me i ∙ ap (option_map (go me i)) h)
 
--- and after its turn to the next frame
 pub state-turned : (sc : Scenario) (hands : List HandIn) (m : Moment) (me : Side) (i : ℕ) (st : NodeState) → slice_get (of_kind me m.nodes) i ≡ Some st
     → slice_get (of_kind me (next_frame sc hands m).nodes) i ≡ Some (turn_if_known sc.sizes sc.plan me st)
 unfolding begin_frame
@@ -114,7 +113,6 @@ early : (sizes : Sizes) (me : Side) (stage n : ℕ) → n + 1 ≤ 3 * sync_slot_
 early sizes me stage n h =
     ap (λ b. listens me Sync stage && b) (lt-neither (3 * sync_slot_of sizes + stage - 1) n (n + 1) (omega arith) h)
 
--- and what is known stays known
 late : (sizes : Sizes) (me : Side) (stage n : ℕ) → 3 * sync_slot_of sizes + stage - 1 < n → knows sizes me stage n ≡ knows sizes me stage (n + 1)
 late sizes me stage n h = ap (λ b. listens me Sync stage && b) (lt-both (3 * sync_slot_of sizes + stage - 1) n (n + 1) h (omega arith))
 

@@ -103,7 +103,6 @@ tests_so true tag frame slot stage value m small_frame small_slot small_value pa
     subst (HasFields (Some tag) frame slot stage value) m_is (record { is_message = message; tag_is = refl; frame_is = refl; slot_is = refl; stage_is = refl; value_is = refl })
 tests_so false tag frame slot stage value m small_frame small_slot small_value pass is = absurd (cc)
 
--- the same where the tag was read too
 made_so : (tag : Option Tag) (frame slot stage value : ℕ) (m : Message) → frame < 2 ^ 16 → slot < 2 ^ 16 → value < 2 ^ 32
     → message_with tag frame slot stage value ≡ Some m → HasFields tag frame slot stage value m
 made_so None frame slot stage value m small_frame small_slot small_value is = absurd (cc)
@@ -152,7 +151,6 @@ so_one b0 b1 b2 b3 b4 b5 b6 b7 b8 b9 b10 m small is =
     let so = fields_so b0 b1 b2 b3 b4 b5 b6 b7 b8 b9 (b10 ∷ []) small m read.1 in
     (so.0, ap (λ last. fields ++ last ∷ []) check ∙ ap (λ body. body ++ check_of body ∷ []) so.1)
 
--- so do twelve in version Two
 so_two : (bus b0 b1 b2 b3 b4 b5 b6 b7 b8 b9 b10 b11 : ℕ) (m : Message) → let bytes = b0 ∷ b1 ∷ b2 ∷ b3 ∷ b4 ∷ b5 ∷ b6 ∷ b7 ∷ b8 ∷ b9 ∷ b10 ∷ b11 ∷ [] in
     AreBytes bytes → message_in (Two bus) bytes ≡ Some m → Spells (Two bus) bytes m
 unfolding message_in

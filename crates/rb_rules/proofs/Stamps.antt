@@ -47,7 +47,6 @@ one_stamp clock time stamp other is other_is =
     let down = stamps_rise clock time time other stamp other_is is (omega arith) in
     omega arith
 
--- and it is the one that is computed
 pub stamp_is : (clock : Timeline) → Moves clock → (time stamp : ℕ) → IsStamp clock time stamp → stamp ≡ stamp_of clock time
 stamp_is clock moves time stamp is = one_stamp clock time stamp (stamp_of clock time) is (stamp_of-is clock moves time)
 

@@ -33,7 +33,6 @@ pub wrong_is_evidence : (s : Standing) (expected : ℕ → Bool) (sense : ℕ �
     → has s.trusted j ≡ true → does_wrong (expected j) (sense j) ≡ true → has_evidence s expected sense j ≡ true
 wrong_is_evidence s expected sense j t w = rw (t, w) refl
 
--- and none against one that did right
 pub right_is_no_evidence : (s : Standing) (expected : ℕ → Bool) (sense : ℕ → Sense) (j : ℕ)
     → does_wrong (expected j) (sense j) ≡ false → has_evidence s expected sense j ≡ false
 right_is_no_evidence s expected sense j r = and_right (has s.trusted j) (does_wrong (expected j) (sense j)) r
@@ -66,7 +65,7 @@ none_lapses s j =
     ] in
     go (has s.direct j) (has s.fresh j) (nat_le 0 (calm_after s j))
 
--- so a frame's end leaves the accused as they are
+-- a frame's end leaves the accused as they are
 pub accused_stay : (s : Standing) → s.direct < 2 ^ 16 → (standing_at_end 0 s).direct ≡ s.direct
 accused_stay s fits =
     let and_true : (b : Bool) → b ≡ (b && true) = λ b. elim b as (λ b. b ≡ (b && true)) [ true ↦ refl | false ↦ refl ] in

@@ -36,7 +36,7 @@ one_time_more : (value : Heard) (o : Option Heard) (rest : List Heard) → times
 one_time_more value None rest = omega arith
 one_time_more value (Some v) rest = refl
 
--- and a value as many times as it was taken
+-- a value as many times as it was taken
 pub times_present : (value : Heard) (f : ℕ → Option Heard) (js : List ℕ) → times value (present (map f js)) ≡ count_if (λ j. holds value (f j)) js
 times_present value f [] = refl
 times_present value f (j ∷ js) = one_time_more value (f j) (present (map f js)) ∙ ap (λ n. cond (holds value (f j)) 1 0 + n) (times_present value f js)
@@ -58,7 +58,6 @@ vote_is f good value said js more =
     let most : IsMajority value (present (map f js)) = omega (arith, length_present f js, times_present value f js) in
     majority_is value (present (map f js)) most
 
--- the same for a close
 pub closing_vote_is : (s : Standing) (expected : ℕ → Bool) (sense : ℕ → Sense) (good : ℕ → Bool) (value : Heard)
     → ((j : ℕ) → good j ≡ true → taken_of value_in s expected sense j ≡ Some value)
     → count_if (λ j. not (good j) && is_some (taken_of value_in s expected sense j)) (numbers 16) < count_if good (numbers 16)

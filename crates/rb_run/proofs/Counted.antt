@@ -37,7 +37,6 @@ one-counted sc is_plain told mid since k after before totals passed t is given n
   are = counted-next is.turns before totals t is.are now;
 }
 
--- or ends
 pub all-counted : (sc : Scenario) (is_plain : Bool) (told mid since : Option (List Turn)) (k after : KeptWorld) (before totals : Totals) (passed : ℕ) (t : Turn) (e : Ending)
     → (is : IsCounted sc is_plain told mid k before passed) → IsUnderWay sc is_plain told since after (is.turns ++ t ∷ []) (is_last (record_of t))
     → totals ≡ counted before (record_of t) → end_at (record_of t) ≡ Some e → TalliesAll sc is_plain told since totals

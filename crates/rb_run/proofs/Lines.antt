@@ -20,7 +20,6 @@ pub lines-more : {X : Type 0} (line : X → List ℕ) (xs : List X) (i : ℕ) (d
 lines-more line xs i d old mid new below before now =
     subst (λ t. Appends old new t) (sym (one-line line xs i d below)) (appends_join old mid new _ _ before now)
 
--- or a first part of it
 pub lines-part : {X : Type 0} (line : X → List ℕ) (xs : List X) (i : ℕ) (d : X) (old mid new : Option (List ℕ)) → i < length xs
     → Appends old mid (flat_map line (take i xs)) → AppendsPart mid new (line (get_or xs i d)) → AppendsPart old new (flat_map line xs)
 lines-part line xs i d old mid new below before now =

@@ -39,7 +39,6 @@ plain-records sc told since turns given all =
 pub plain-text : (sc : Scenario) (told since : Option (List Turn)) (turns : List Turn) → AreGiven sc true told since turns → AreAll sc turns → text_of turns ≡ report_of (records_of sc [])
 plain-text sc told since turns given all = ap report_of (plain-records sc told since turns given all)
 
--- and their numbers
 pub plain-totals : (sc : Scenario) (told since : Option (List Turn)) (turns : List Turn) → AreGiven sc true told since turns → AreAll sc turns → totals_of turns ≡ tally_of (records_of sc [])
 plain-totals sc told since turns given all = ap tally_of (plain-records sc told since turns given all)
 

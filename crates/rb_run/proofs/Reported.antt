@@ -45,7 +45,7 @@ written-next : (sc : Scenario) (is_plain : Bool) (told mid : Option (List Turn))
 written-next sc is_plain told mid k held mid_held after_held newest passed t is now =
     subst (λ text. Appends held after_held text) (sym (text-next sc is_plain told mid k held mid_held newest passed t is)) (appends_join held mid_held after_held _ _ is.text now)
 
--- and the run goes on
+-- the run goes on
 pub one-written : (sc : Scenario) (is_plain : Bool) (told mid since : Option (List Turn)) (k after : KeptWorld) (held mid_held after_held : Option (List ℕ)) (newest next passed : ℕ) (t : Turn)
     → (is : IsWritten sc is_plain told mid k held mid_held newest passed) → Next sc is_plain told mid since k after held mid_held newest passed t is
     → Appends mid_held after_held (turn_text newest (record_of t)) → next ≡ newest_with newest (record_of t) → end_at (record_of t) ≡ None
@@ -58,7 +58,6 @@ one-written sc is_plain told mid since k after held mid_held after_held newest n
   block = block ∙ ap (λ n. newest_with n (record_of t)) is.block ∙ sym (newest-more is.turns t);
 }
 
--- or ends
 pub all-written : (sc : Scenario) (is_plain : Bool) (told mid since : Option (List Turn)) (k after : KeptWorld) (held mid_held after_held : Option (List ℕ)) (newest passed : ℕ) (t : Turn) (e : Ending)
     → (is : IsWritten sc is_plain told mid k held mid_held newest passed) → Next sc is_plain told mid since k after held mid_held newest passed t is
     → Appends mid_held after_held (turn_text newest (record_of t)) → end_at (record_of t) ≡ Some e → WritesAll sc is_plain told since held after_held
@@ -70,7 +69,6 @@ all-written sc is_plain told mid since k after held mid_held after_held newest p
   text = written-next sc is_plain told mid k held mid_held after_held newest passed t is now;
 }
 
--- or only a first part of it is written
 pub part-written : (sc : Scenario) (is_plain : Bool) (told mid since : Option (List Turn)) (k after : KeptWorld) (held mid_held after_held : Option (List ℕ)) (newest passed : ℕ) (t : Turn)
     → (is : IsWritten sc is_plain told mid k held mid_held newest passed) → Next sc is_plain told mid since k after held mid_held newest passed t is
     → AppendsPart mid_held after_held (turn_text newest (record_of t)) → WritesPart sc is_plain told since held after_held

@@ -222,7 +222,6 @@ pub finished : (sc : Scenario) (is_plain : Bool) (told since : Option (List Turn
     → IsUnderWay sc is_plain told since k turns (is_last (record_of t)) → end_at (record_of t) ≡ Some e → IsUnderWay sc is_plain told since k turns true
 finished sc is_plain told since k turns t e is ends = subst (λ over. IsUnderWay sc is_plain told since k turns over) (ends-last (record_of t) e ends) is
 
--- and it ends as that turn says
 pub ends-so : (sc : Scenario) (is_plain : Bool) (told since : Option (List Turn)) (k : KeptWorld) (turns : List Turn) (t : Turn) (e : Ending)
     → IsUnderWay sc is_plain told since k (turns ++ t ∷ []) (is_last (record_of t)) → end_at (record_of t) ≡ Some e → EndsWith sc e
 ends-so sc is_plain told since k turns t e going ends =

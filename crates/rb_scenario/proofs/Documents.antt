@@ -15,7 +15,6 @@ same_document bytes s t is_s is_t = ap (λ o. elim o as (λ _. Members) [ None �
 pub accepted_is_toml : (input : List ℕ) (scenario : Scenario) → IsAccepted input scenario → ¬ IsRefused input NotToml
 accepted_is_toml input scenario accepted refused = refused accepted.document accepted.text
 
--- and it breaks no other rule
 pub accepted_is_unbroken : (input : List ℕ) (scenario : Scenario) (why : Refusal) → IsAccepted input scenario → ¬ IsBroken input why
 accepted_is_unbroken input scenario why accepted broken =
     let same : accepted.document ≡ broken.document = same_document input accepted.document broken.document accepted.text broken.text in

@@ -36,7 +36,6 @@ pub absent_or-bounds : (low high default : ℕ) (o : Option Data) → low ≤ de
 absent_or-bounds low high default None least greatest h = (least, greatest)
 absent_or-bounds low high default (Some d) least greatest h = within-bounds low high default d h
 
--- so is a pair, in order
 pub pair-bounds : (low high : ℕ) (d : Data) → is_range low high d ≡ true → (low ≤ (pair_of d).0) × ((pair_of d).0 ≤ (pair_of d).1) × ((pair_of d).1 ≤ high)
 pair-bounds low high d h =
     let h2 = and_parts _ _ h in
@@ -65,7 +64,6 @@ below_in sizes None n e = cc
 pub node_at-IsNodeOf : (sizes : Sizes) (key : List ℕ) (t : Members) (n : NodeName) → node_at sizes key t ≡ Some n → IsNodeOf sizes n
 node_at-IsNodeOf sizes key t n e = below_in sizes (get_member key t) n e
 
--- so are the nodes of a pattern
 mapped_one : (sizes : Sizes) (o : Option NodeName) → ((n : NodeName) → o ≡ Some n → IsNodeOf sizes n)
     → (p : Pattern) → option_map One o ≡ Some p → IsPatternOf sizes p
 mapped_one sizes (Some n) h p e = let is : One n ≡ p = cc in subst (IsPatternOf sizes) is (h n (λ j. Some n))

@@ -32,7 +32,6 @@ number_or-within low high (datetime s) h = le-leb 0 high (omega arith)
 number_or-within low high (array s) h = le-leb 0 high (omega arith)
 number_or-within low high (table s) h = le-leb 0 high (omega arith)
 
--- so is each item of an array of such integers
 get_item-within : (low high i : ℕ) (ds : Items) → every_item (is_within low high) ds ≡ true → nat_le (number_or 0 (get_item i ds)) high ≡ true
 get_item-within low high i no_items h = le-leb 0 high (omega arith)
 get_item-within low high zero (item d ds) h = number_or-within low high d (and_parts _ _ h).0
@@ -47,7 +46,6 @@ list-within high count i (boolean s) h = omega arith
 list-within high count i (datetime s) h = omega arith
 list-within high count i (table s) h = omega arith
 
--- and what stands at a place of an array that is there, or is not
 pub listed-within : (high count i : ℕ) (o : Option Data) → absent_or (is_list count (is_within 0 high)) o ≡ true → number_or 0 (option_and_then (at i) o) ≤ high
 listed-within high count i None h = omega arith
 listed-within high count i (Some d) h = list-within high count i d h

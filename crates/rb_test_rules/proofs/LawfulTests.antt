@@ -41,7 +41,7 @@ passed tests h k lt = AllPass-from_list_all (λ t. t) tests h k false lt
 each_by : {X : Type 0} (P : X → Type 0) (test : X → Bool) → ((x : X) → test x ≡ true → P x) → (xs : List X) → list_all test xs ≡ true → All P xs
 each_by P test shows xs h = λ k d lt. shows (get_or xs k d) (AllPass-from_list_all test xs h k d lt)
 
--- and there is one for each node
+-- there is one for each node
 abbrev has_each : {X : Type 0} → ℕ → (X → Bool) → List X → Bool
 has_each nodes test xs = nat_le nodes (length xs) && list_all test xs
 

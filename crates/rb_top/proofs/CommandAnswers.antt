@@ -115,7 +115,6 @@ pub record TellsAll (tells : Telling) (sc : Scenario) (is_plain : Bool) (told to
   pub all : AreAll sc turns
   pub text : Appends held held' (tells sc (records_in turns))
 
--- or some were, and a first part of it
 pub record TellsSome (tells : Telling) (sc : Scenario) (is_plain : Bool) (told told' : Option (List Turn)) (held held' : Option (List ℕ)) : Type 0 where
   pub turns : List Turn
   pub given : AreGiven sc is_plain told told' turns
@@ -132,7 +131,6 @@ pub record Reports (tells : Telling) (accepted : Accepted) (status : Status) (he
   pub cause : status ≡ WriteFault → Rose writes writes'
   pub one_of : IsOfRun status
 
--- so of each command
 pub run_reports : (accepted : Accepted) (status : Status) (held held' : Option (List ℕ)) (writes writes' : ℕ) (is_plain : Bool) (told told' : Option (List Turn))
     → (HasEnded status → IsReported (as_scenario accepted) status is_plain told told' held held')
     → (status ≡ WriteFault → WritesPart (as_scenario accepted) is_plain told told' held held')
@@ -181,7 +179,7 @@ is_memory ReadFault one_of h = absurd one_of
 is_memory WriteFault one_of h = absurd h
 is_memory OutOfMemory one_of h = refl
 
--- so where nothing was asked of the drive
+-- where nothing was asked of the drive
 pub is_memory_only : (status : Status) → IsOfRun status → RunsNothing status → status ≡ OutOfMemory
 is_memory_only Done one_of h = absurd h
 is_memory_only Breach one_of h = absurd h

@@ -159,7 +159,6 @@ of_no_biu skip input text line due (inr rmu) = not_of_both (log_in input) due.lo
 pub listen_sound : (skip : ℕ) → IsSound (listen_command skip)
 listen_sound skip = alone_sound _ (IsOverheard skip) IsNotForListeners (of_no_biu skip)
 
--- so is each command of the program
 pub is_sound : (form : Form) → IsSound (command_of form)
 is_sound Run = telling_sound _
 is_sound Check = check_sound

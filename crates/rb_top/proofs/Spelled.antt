@@ -23,10 +23,9 @@ letter_read text letter is e =
     let read : decode_of text ≡ Ok letter = ap decode_of e ∙ decode_of-encode_lower letter is.all_bytes in
     ap (λ (r : Result (List ℕ) FromHexError). letter_bytes r) read ∙ ap (λ fits. if fits then Some letter else None) is.many
 
--- so a text of which none is read is the digits of none
+-- a text of which none is read is the digits of none
 pub none_read : (text letter : List ℕ) → None ≡ letter_bytes (decode_of text) → IsLetter letter → ¬ (text ≡ encode_lower letter)
 none_read text letter none is e = let read = letter_read text letter is e in cc
 
--- and one of which this is read is the digits of no other
 pub one_read : (text read letter : List ℕ) → Some read ≡ letter_bytes (decode_of text) → IsLetter letter → text ≡ encode_lower letter → read ≡ letter
 one_read text read letter some is e = let again = letter_read text letter is e in cc

@@ -49,7 +49,6 @@ told-more sc scene book w me i change tells is holds = record {
     running Biu = running-one Biu scene.running_biu w.sites me i change tells.runs (is.running Biu)
     running Rmu = running-one Rmu scene.running_rmu w.sites me i change tells.runs (is.running Rmu)
 
--- and what is pending changes nothing that is told
 pub record Pends (change : Site → Site) : Type 0 where
   pub row : (s : Site) → (change s).row ≡ s.row
   pub begun : (s : Site) → (change s).begun ≡ s.begun

@@ -160,7 +160,6 @@ arrival-ready sc kept scene time name event w place d me i x may shown named =
     is-up s awaits n at true e = e
     is-up s awaits n at false e = absurd (none-stands n x s.coming (awaits.nothing e) at)
 
--- so it comes by the tick up to which ticks may pass
 pub in-time : (sc : Scenario) (kept : Each KeptSite) (w : World) (d : Due) (me : Side) (i : ℕ) (x : Coming) (r : ArrivalReady sc kept w d me i x)
     → ComesBy (passing_end me r.site.node) (clock_of sc me i) x.time
 in-time sc kept w d me i x r = by (next_tick sc.sizes sc.plan me i r.s.core) refl

@@ -100,7 +100,7 @@ good-out (Some onset) first last g slot small out =
       | inr after ↦ absurd (omega (arith, after, small))
     ]
 
--- and no entry speaks of it
+-- no entry speaks of it
 unsaid-out : (o : Option (ℕ × ℕ)) (says : List Say) (place : Place) → place.frame < 4294967297 → IsOut (first_restless o (first_frame says)) (last_restless o (last_frame says)) place.frame
     → list_any (is_for place) says ≡ false
 unsaid-out None says place small out = elim out [ inl before ↦ none-before says place before | inr after ↦ none-after says place after ]
@@ -134,7 +134,6 @@ calm-unsaid sc me i span frame calm small is =
     ∙ says-are sc to span
     ∙ none-for sc (clock_of sc (kind_of to) (number_of to)) span says (unsaid-out o says span.place few out)
 
--- so it awaits its next tick, and nothing more comes to it
 pub calm-awaits : (sc : Scenario) (me : Side) (i : ℕ) (s : Site) → is_calm sc me i s.core.state.frame ≡ true → i < count_of me sc.sizes → s.core.state.frame < 4294967296
     → proceed sc me i s ≡ await sc me i [] s
 calm-awaits sc me i s calm within small =

@@ -200,7 +200,6 @@ pub lane-own : (lanes : Each Held) (me : Side) (i : ℕ) → with_lane (name_of 
 lane-own lanes Biu i = ap (λ (ls : List Held). record lanes { bius = ls }) (set-own lanes.bius i)
 lane-own lanes Rmu i = ap (λ (ls : List Held). record lanes { rmus = ls }) (set-own lanes.rmus i)
 
--- or there is none
 pub await-none : (sc : Scenario) (scene : Scene) (w : World) (me : Side) (i : ℕ) → HasLane scene.agenda (name_of me i)
     → ((s : Site) → slice_get (of_kind me w.sites) i ≡ Some s → next_tick sc.sizes sc.plan me i s.core ≡ None)
     → ((s : Site) → slice_get (of_kind me w.sites) i ≡ Some s → s.ahead ≡ None)
@@ -253,7 +252,6 @@ await-push sc before lanes w name me k time c site kind there after time_is at n
         (sym (next ∙ ap (λ z. next_tick z site.node.seat.plan me site.node.seat.index c) at.sizes ∙ ap (λ z. next_tick sc.sizes z me site.node.seat.index c) at.plan
         ∙ ap (λ n. next_tick sc.sizes sc.plan me n c) at.number))
 
--- or none is
 pub await-still : (sc : Scenario) (scene : Scene) (w : World) (name : NodeName) (me : Side) (c : Core) (site : KeptSite) → kind_of name ≡ me → HasLane scene.agenda name
     → IsCoreAt sc me name site c w → None ≡ next_of me site.node c → Surrounds sc scene w
     → Surrounds sc scene (moved (kind_of name) (number_of name) (await sc me (number_of name) []) w)

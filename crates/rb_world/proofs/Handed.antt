@@ -90,7 +90,6 @@ pub hand-elsewhere : (k : KeptWorld) (w : World) (biu state : ℕ) → Stands k 
 hand-elsewhere k w biu state is other =
     subst (Stands k) (sym (hand-is k.bus w biu state None (no-frame w.turn (λ f e. other f (is.last ∙ e))))) is
 
--- nor at a BIU that is not good there
 pub hand-at-other : (k : KeptWorld) (w : World) (biu state frame : ℕ) → Stands k w → k.last ≡ last.Frame frame → is_good k.bus Biu biu frame 0 ≡ false
     → Stands k (hand k.bus w biu state)
 hand-at-other k w biu state frame is at bad =

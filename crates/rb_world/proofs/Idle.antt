@@ -23,7 +23,7 @@ free-idle k w is e = ap (λ b. w.book.ended || b) e ∙ or-true w.book.ended
 pub busy : (k : KeptWorld) (w : World) → w.book.ended ≡ false → needs_no_event k.bus w.book.upcoming ≡ false → (w.book.ended || needs_no_event k.bus w.book.upcoming) ≡ false
 busy k w e f = ap (λ b. b || needs_no_event k.bus w.book.upcoming) e ∙ f
 
--- then nothing is due
+-- nothing is due
 pub none-due : (k : KeptWorld) (w : World) → Stands k w → (w.book.ended || needs_no_event k.bus w.book.upcoming) ≡ true → due_in k ≡ 0
 none-due k w is e = ap (λ b. elim b as (λ _. ℕ) [ true ↦ 0 | false ↦ how_many k.scene.agenda ]) (sym (idle-is k w is) ∙ e)
 
@@ -31,7 +31,7 @@ pub none-due-then : (k : KeptWorld) (w : World) → Stands k w → (w.book.ended
 unfolding due_of
 none-due-then k w is e = ap (λ b. length (elim b as (λ _. List Due) [ true ↦ [] | false ↦ due_now k.bus w ])) e
 
--- else all that is pending at the least time
+-- all that is pending at the least time
 pub length-due : (k : KeptWorld) (w : World) (n : ℕ) → (w.book.ended || needs_no_event k.bus w.book.upcoming) ≡ false → n ≡ length (due_now k.bus w) → n ≡ length (due_of k.bus w)
 length-due k w n e all = all ∙ sym (ap length (due-is-now k.bus w e))
 

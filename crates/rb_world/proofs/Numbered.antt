@@ -66,13 +66,11 @@ take-in-rounds sc w i d lawful reached found =
     turn-in-rounds sc w (take sc w i) lawful (reached-more sc w (Take i) reached) (take-hands sc w i)
     (subst (λ (x : World). (i : ℕ) (d : Due) → slice_get (due_of sc x) i ≡ Some d → IsNextTurn sc x (take sc x i)) (sym reached.is) (turns-hold sc lawful reached.choices).0 i d found)
 
--- so of what stands afterwards
 pub taken-in-rounds : (sc : Scenario) (after : KeptWorld) (turn : Turn) (w : World) (i : ℕ) (d : Due) → IsLawful sc → IsReached sc w → slice_get (due_of sc w) i ≡ Some d
     → Gives after turn (take sc w i) → TakesInRounds sc w (take sc w i) (record_of turn)
 taken-in-rounds sc after turn w i d lawful reached found gives =
     subst (TakesInRounds sc w (take sc w i)) gives.turn_is (take-in-rounds sc w i d lawful reached found)
 
--- or none is, before the run has ended
 go-on-in-rounds : (sc : Scenario) (w : World) → IsLawful sc → IsReached sc w → w.book.ended ≡ false → TakesInRounds sc w (go_on sc w) (go_on sc w).turn
 go-on-in-rounds sc w lawful reached going =
     turn-in-rounds sc w (go_on sc w) lawful (reached-more sc w GoOn reached) (ap (λ (x : World). x.hands) (go-on-is sc w going) ∙ settle-hands sc ByItself 2 w)
@@ -167,7 +165,6 @@ going-on sc ties before after r lawful reached next turn going =
       },
     )
 
--- and afterwards
 still : (sc : Scenario) (ties : Ties) (before after : Standing) (r : Record) → IsLawful sc → IsReached sc before.world → IsNext sc ties before after → after.world.turn ≡ Some r
     → before.world.book.ended ≡ true → IsReached sc after.world × (GivesInRounds sc before.world after.world r)
 still sc ties before after r lawful reached next turn over =

@@ -256,7 +256,6 @@ may-tick-now sc kept scene until w v me i a time own before site name lanes m na
     subst (λ n. MayTick sc me n a.tick site (record scene { agenda = lanes }) (moved me i (bare_with sc me i a core) v) (bare_with sc me i a core m.first.at.first.node)) (sym r.number)
     (may-tick-with sc kept scene until w v me i a core site lanes m.first.at r)
 
--- and has taken it
 pub takes-now : (sc : Scenario) (kept : Each KeptSite) (scene after : Scene) (until : Side → ℕ → ℕ) (w v : World) (me : Side) (i : ℕ) (a : Timed) (time : ℕ) (own : List KeptSite) (before site new : KeptSite)
     (name : NodeName) (lanes : Each Held) → (m : MayTakeExactly sc kept scene until w v me i a time own before) → name ≡ name_of me i → TakesIn me scene.agenda name (time + 1) before site lanes
     → Ticks sc me (number_of site) a.tick new after (moved me i (bare_with sc me i a (kept_core sc me i a m.first.at.first.node)) v)

@@ -59,7 +59,6 @@ pub record ArrivalNext (sizes : Sizes) (me : Side) (lane : Held) (s : Site) (tim
   pub shown : coming_with time k ≡ Some first.coming
   pub left : HoldsSite sizes me (without_ready 0 lane) (without_waiting (Arrival first.place first.coming) s)
 
--- or the tick, and all arrivals come later
 pub record TickNext (sizes : Sizes) (me : Side) (lane : Held) (s : Site) (time : ℕ) (k : EventKind) : Type 0 where
   pub tick : Timed
   pub pends : s.ahead ≡ Some tick
@@ -175,7 +174,7 @@ every-mapped : (m : ℕ) (cs : List Coming) → Every (λ (c : Coming). m ≤ c.
 every-mapped m [] all = tt
 every-mapped m (c ∷ cs) all = (all.0, every-mapped m cs all.1)
 
--- then the tick comes at that time, if no arrival does
+-- the tick comes at that time, if no arrival does
 tick-then : (me : Side) (i t : ℕ) (o : Option Timed) (cs : List Coming) → least (option_to_list (option_map (λ (a : Timed). a.time) o) ++ map (λ (c : Coming). c.time) cs) ≡ Some t
     → Every (λ (c : Coming). t + 1 ≤ c.time) cs → tick_at me i t o ≡ [] → ⊥
 tick-then me i t None cs least_is later none = let up = least-above (t + 1) (map (λ (c : Coming). c.time) cs) t (every-mapped (t + 1) cs later) least_is in omega (arith, up)

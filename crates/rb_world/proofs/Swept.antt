@@ -72,7 +72,6 @@ comes-before sc me i until place site s c h k next =
     let reach = h.reachable.before a pends in
     omega (arith, before, reach)
 
--- so it comes by the tick up to which ticks may pass
 pub comes-in-time : (sc : Scenario) (me : Side) (i until place : ℕ) (site : KeptSite) (s : Site) (c : Coming) → MayCome sc me i until place site s c
     → ComesBy (passing_end me site.node) (clock_of sc me i) c.time
 comes-in-time sc me i until place site s c h = by (next_tick sc.sizes sc.plan me i s.core) refl

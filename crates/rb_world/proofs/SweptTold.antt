@@ -121,7 +121,7 @@ none-left sc me i until site lanes sites s name on named has_lane most later = b
         let none : NoneBefore until on.now = nothing-next sc.sizes lanes (at_node me i (λ _. on.now) sites) me i on.now until on.may.holds on.may.there late in
         all-every (λ c. until ≤ c.time) on.now.coming none.coming
 
--- so all has been told
+-- all has been told
 pub told-ends : (S : Type 0) (step : S → Told → S → Type 0) (a b : S) (sc : Scenario) (me : Side) (i until : ℕ) (site : KeptSite) (lanes : Each Held) (sites : Each Site) (s : Site) (name : NodeName)
     → SweepsTold S step a b sc me i until site lanes sites s → name ≡ name_of me i → HasLane lanes name → until ≤ 18446744073709551615 → IsFirstBefore until (lane_of lanes name) None
     → WasTold S step a (heard sc me i until s) b
@@ -129,7 +129,6 @@ told-ends S step a b sc me i until site lanes sites s name it named has_lane mos
     subst (λ l. WasTold S step a l b)
     (sym (it.all ∙ ap (λ l. it.told ++ l) (hears-none sc me i until it.on.now (none-left sc me i until site lanes sites s name it.on named has_lane most later)) ∙ append-nil it.told)) it.was
 
--- and what is left of the sweep is that of the whole
 pub sweep-rest : (sc : Scenario) (me : Side) (i until : ℕ) (site new : KeptSite) (lanes after : Each Held) (sites : Each Site) (s : Site) → (on : SweepsOn sc me i until site lanes sites s)
     → Sweeps sc me i until new after (at_node me i (λ _. on.now) sites) on.now → Sweeps sc me i until new after sites s
 sweep-rest sc me i until site new lanes after sites s on is = record {

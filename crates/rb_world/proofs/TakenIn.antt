@@ -65,7 +65,7 @@ taken-one : (sc : Scenario) (me : Side) (c : Coming) (s : Site) → c.from < cou
     → taken_in sc me c s ≡ record s { core = record s.core { inbox = s.core.inbox ++ (c.from, stamped s.core.had c) ∷ [] }; got = s.got ++ c ∷ [] }
 taken-one sc me c s known small = ap (λ core. record s { core = core; got = s.got ++ c ∷ [] }) (arrive-is sc me s.core c.from c.bytes known small)
 
--- and all are
+-- all are
 pub taken : (sc : Scenario) (me : Side) (cs : List Coming) (s : Site) → s.core.had < 2 ^ 31 → Every (λ (c : Coming). c.from < count_of (other me) sc.sizes) cs → Taken s (taken_all sc me cs s) cs
 taken sc me [] s small known = record {
   state = refl;

@@ -70,7 +70,7 @@ begin-biu sc scene book w name i e epoch time port named begun time_is port_is i
     (subst (λ n. Holds sc book (moved Biu i (with_begun (record { frame = e.frame; line = record { node = n; tick = e.tick; time = time; biu = e.biu; rmu = e.rmu }; port = Some port })) w))
     named holds)))
 
--- and an RMU
+-- an RMU
 pub begin-rmu : (sc : Scenario) (scene : Scene) (book : KeptBook) (w : World) (name : NodeName) (i : ℕ) (e : Epoch) (epoch : Option Epoch) (time : ℕ)
     → name ≡ node.Rmu i → epoch ≡ Some e → time ≡ time_of (clock_of sc (kind_of name) (number_of name)) e.tick → Surrounds sc scene w
     → Holds sc book (moved Rmu i (with_begun (record { frame = e.frame; line = record { node = name; tick = e.tick; time = time; biu = e.biu; rmu = e.rmu }; port = None })) w)
@@ -83,7 +83,6 @@ begin-rmu sc scene book w name i e epoch time named begun time_is is holds =
     (subst (λ n. Holds sc book (moved Rmu i (with_begun (record { frame = e.frame; line = record { node = n; tick = e.tick; time = time; biu = e.biu; rmu = e.rmu }; port = None })) w))
     named holds)))
 
--- or no frame begins
 pub begin-none : (sc : Scenario) (scene : Scene) (w : World) (me : Side) (i : ℕ) (epoch : Option Epoch) → epoch ≡ None → Surrounds sc scene w
     → Surrounds sc scene (moved me i (with_epoch sc w.ports me i epoch) w)
 begin-none sc scene w me i epoch e is =

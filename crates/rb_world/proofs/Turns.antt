@@ -74,7 +74,6 @@ gives sc way w v z c nodes scene draws book turn last lawful reached chosen sett
       turn_is = settles.turn_is;
     })
 
--- so with a due event that has happened
 pub taken : (sc : Scenario) (w : World) (i : ℕ) (d : Due) (nodes : Each KeptSite) (scene : Scene) (draws : Seeding) (book : KeptBook) (turn : Turn) (last : Last) → IsLawful sc
     → IsReached sc w → slice_get (due_of sc w) i ≡ Some d → Happens sc nodes scene w d → Settles sc Way.ByAnEvent (happens sc w d) book turn
     → last ≡ last_of (record_of turn) → Gives (record { bus = sc; nodes = nodes; scene = record scene { book = book }; seeding = draws; last = last }) turn (take sc w i)

@@ -67,7 +67,6 @@ rose_so : {A B : Type 0} (writes writes' : ℕ) → (A → Rose writes writes') 
 rose_so writes writes' f g (inl a) = f a
 rose_so writes writes' f g (inr b) = g b
 
--- and none with one of the sink
 never_written : (words : List (String Global)) (status : Status) (source source' : List ℕ) (sink sink' : Held) → sink ≡ fresh → sink'.failed ≡ false
     → ((flag : Flag) → AskFor words (Show flag) → Shows flag status (Some sink.bytes) (Some sink'.bytes) (faults_of sink) (faults_of sink'))
     → (AskFor words Run → (both : Bool) → ArePlain both true true → status ≡ code.WriteFault

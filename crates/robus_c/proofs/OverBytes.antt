@@ -29,7 +29,6 @@ given_over limit input source source' e g =
 pub never_rose : Rose 0 0 → ⊥
 never_rose r = omega (arith, r)
 
--- and that of a sink has not, where no call failed
 pub no_fault : (sink sink' : Held) → sink ≡ fresh → sink'.failed ≡ false → Rose (faults_of sink) (faults_of sink') → ⊥
 no_fault sink sink' e ok r =
     let before : faults_of sink ≡ 0 = ap faults_of e in

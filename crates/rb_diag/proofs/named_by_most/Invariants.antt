@@ -5,6 +5,6 @@ use Rattle.rb_base.proofs.SetLoops.{passing_below}
 use Rattle.rb_diag.specs.Votes.{most_against}
 use Rattle.rb_diag.proofs.named_by_most.Given as goal
 
--- those of the nodes so far
+-- The nodes so far.
 abbrev pub invariant-loop-j : goal.invariant-loop-j
 invariant-loop-j g l = l.named ≡ passing_below l.j (λ j. has l.trusted j && most_against l.senders (λ i. get_or l.vectors i Fault) j)

@@ -10,7 +10,6 @@ one_more : (draws seed : ℕ) → next_state (state_after draws seed) ≡ state_
 unfolding state_after
 one_more draws seed = let same : suc draws ≡ draws + 1 = omega arith in ap (λ n. state_after n seed) same
 
--- and its number
 number_after : ℕ → ℕ → ℕ
 number_after seed n = number_of (state_after (suc n) seed)
 

@@ -29,7 +29,6 @@ good_first Rmu i st g = first_of i _ g.1
 some_same : {X : Type 0} (a b : X) → Some a ≡ Some b → a ≡ b
 some_same a b h = cc
 
--- and stands in its first state
 good_is : (P : Side → ℕ → NodeState → Type 0) → P Biu 0 (first_state smallest_bus.sizes Biu) → P Rmu 0 (first_state smallest_bus.sizes Rmu)
     → (me : Side) (i : ℕ) (st : NodeState) → IsGoodIn smallest_bus first_window me i st → P me i st
 unfolding begin_frame with_frame
