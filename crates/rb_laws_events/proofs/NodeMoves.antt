@@ -102,7 +102,6 @@ epoch-known sizes plan Biu st n h k =
 epoch-known sizes plan Rmu st n h k =
     is_some-map (λ k3. k3 + plan.z) st.k3 ∙ k.k3 ∙ lt-ltb (3 * sync_slot_of sizes + 3 - 1) n (omega arith)
 
-
 epoch-unknown : (sizes : Sizes) (plan : Plan) (me : Side) (st : NodeState) (n : ℕ) → n ≤ 3 * sync_slot_of sizes → Knows sizes me n st → new_epoch_of plan me st ≡ None
 epoch-unknown sizes plan Biu st n h k =
     ap (option_map (λ k2. k2 + plan.v + plan.z + plan.c)) (none-from st.k2 (k.k2 ∙ le-ltb (3 * sync_slot_of sizes + 2 - 1) n (omega arith)))
