@@ -29,7 +29,7 @@ pub(crate) fn is_last(turn: &Turn) -> bool
 }
 
 /// Takes a bus through the frame that it has begun, up to the first turn beyond it. If the run has
-/// ended, nothing is asked of the drive: the breach of this frame was given in place of its begin.
+/// ended, nothing is asked of the drive: the breach of this frame was given in place of its start.
 pub(crate) fn pass<D: Drive>(side: &mut Side, apps: &Apps, drive: &mut D)
     requires { is_last (record_of side.old.turn) ≡ false
         → IsOnItsWay (D.is_plain drive.old) (D.told drive.old) side.old.world side.old.terms

@@ -20,8 +20,8 @@ use Rattle.rb_listen.specs.Listening as now
 use Rattle.rb_listen.specs.Passes.{are_most}
 use Rattle.rb_listen.specs.declared.heed.Heed.{Heed}
 
--- a listener's clock, how long a message of a place is on its way to it from each RMU, and what
--- comes to it with each stamp, in order. So many of its ticks are spoken of
+-- a listener's clock, how long a message of a place is on its way to it from each RMU, what comes
+-- to it with each stamp, in order, and how many of its ticks are spoken of
 pub record Ear : Type 0 where
   pub clock : Timeline
   pub delay : ℕ → Place → ℕ

@@ -1,4 +1,4 @@
--- For the law of record and replay: where a node stands in the rounds is known by its core and by its
+-- For the law of record and replay: a node's place in the rounds is known by its core and by its
 -- pending tick.
 use Rattle.std.proofs.Common.{◌≡◌, ℕ, ◌+◌, ◌<◌, ◌≤◌, Bool, true, [], ap, sym, ◌∙◌, subst, arith, inl, inr, Some, slice_get}
 use Rattle.std.proofs.lemmas.Bool.{cases_lt}
