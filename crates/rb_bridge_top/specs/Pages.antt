@@ -21,7 +21,7 @@ help_text =
     ++ codes "\n"
     ++ codes "Status: 0 done, 1 fault premise breached on a bus, 2 unknown words,\n"
     ++ codes "3 input refused, 4 input too long, 5 reading failed, 6 writing failed,\n"
-    ++ codes "7 no memory, 8 arguments could not be had.\n"
+    ++ codes "7 out of memory, 8 arguments could not be read.\n"
     ++ codes "\n"
     ++ codes "Example: robus_bridge run < examples/bridges/carried_words.toml\n"
     ++ codes "Manual: docs/robus_bridge.md\n"

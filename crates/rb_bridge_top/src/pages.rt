@@ -17,7 +17,7 @@ run         bridge  the words that cross, in each frame
 
 Status: 0 done, 1 fault premise breached on a bus, 2 unknown words,
 3 input refused, 4 input too long, 5 reading failed, 6 writing failed,
-7 no memory, 8 arguments could not be had.
+7 out of memory, 8 arguments could not be read.
 
 Example: robus_bridge run < examples/bridges/carried_words.toml
 Manual: docs/robus_bridge.md

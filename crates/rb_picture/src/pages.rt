@@ -19,7 +19,8 @@ FIRST LAST     panels of the frames from one number to the other
 
 Input: a report, at most 67108864 bytes. Output: one SVG document.
 Status: 0 done, 2 unknown words, 3 input refused, 4 input too long,
-5 reading failed, 6 writing failed, 7 no memory, 8 arguments could not be had.
+5 reading failed, 6 writing failed, 7 out of memory,
+8 arguments could not be read.
 
 Example: robus run < examples/late_onset.toml | robus_picture > run.svg
 Manual: docs/robus_picture.md, or man robus_picture

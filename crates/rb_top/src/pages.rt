@@ -17,17 +17,17 @@ check                scenario  both sides of the plan's seven inequalities
 letters              scenario  the letters that BIUs receive whole
 group most|mid MASK  scenario  what the good BIUs find for a group in each frame
 record NODE          scenario  the log of all that the node is given
-replay               log       what the node of the log makes of it
-listen SKIP          log       what a passive listener makes of it
-gen SEED FRAMES      none      the scenario that the seed fixes
+replay               log       the lines of the log's node, from its log alone
+listen SKIP          log       the lines of a passive listener that hears the log
+gen SEED FRAMES      none      the scenario generated from the seed
 stress SEED FRAMES   none      four numbers of that scenario's run
 spell HEX            none      the words that spell a letter
 --help, -h           none      this page
 --version            none      the program's name and version
 
 Status: 0 done, 1 fault premise breached, 2 unknown words, 3 input refused,
-4 input too long, 5 reading failed, 6 writing failed, 7 no memory,
-8 arguments could not be had.
+4 input too long, 5 reading failed, 6 writing failed, 7 out of memory,
+8 arguments could not be read.
 
 Example: robus run < examples/one_silent_rmu.toml
 Manual: docs/robus.md
