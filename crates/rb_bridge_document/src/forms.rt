@@ -1,5 +1,5 @@
-//! Whether a document has the keys of a bridge and no others, and values of their forms; and what
-//! stands there.
+//! Whether a document has the keys of a bridge and no others, and values of their forms; and the
+//! values at its keys.
 ghost use Rattle.std.specs.Prelude.{◌≡◌, ◌&&◌, nat_le, not, option_map, string_bytes};
 ghost use Rattle.std.specs.List.{list_any};
 ghost use Rattle.std.specs.BTreeMap.{keys as keys_in};
@@ -114,7 +114,7 @@ fn has_wrong(fields: &[Field], table: &Table) -> bool
     false
 }
 
-// How many items stand in a value.
+// How many items a value has.
 fn count_in(value: Option<&Value>) -> usize
     ensures { result ≡ length_of (items_in (option_map (λ x. view x.now) value.entry)) }
 {

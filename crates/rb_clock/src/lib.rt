@@ -40,7 +40,8 @@ impl From<AllocError> for ClockRefusal {
     }
 }
 
-/// A clock: its start, and from which ticks on which lengths stand.
+/// A clock: its start, and the segments of its ticks, each with its first tick and the length of
+/// its ticks.
 #[derive(Drop)]
 pub struct Clock {
     start: u64,

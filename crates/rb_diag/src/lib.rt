@@ -134,8 +134,8 @@ fn named_by<S: Copy>(vectors: &[Heard; 16], senders: NodeSet<S>, i: u8) -> u32
     }
 }
 
-// The trusted nodes but for those that no sender names, who are most: counting would find nothing
-// against them.
+// The trusted nodes without those that no sender names, which are the most: counting would find
+// nothing against them.
 fn suspects<S: Copy, T: Copy>(
     vectors: &[Heard; 16],
     senders: NodeSet<S>,

@@ -1,4 +1,4 @@
-//! What came of each source in a window.
+//! What came from each source in a window.
 ghost use Rattle.std.specs.Prelude.{◌≡◌, List, [], ◌∷◌, ◌++◌, ◌≤◌, ℕ};
 ghost use Rattle.rb_base.specs.Nodes.{set_of};
 ghost use Rattle.rb_rules.specs.Sense.{sense_of};
@@ -11,7 +11,7 @@ use rb_frame::Spelling;
 use rb_rules::{Expect, Sense};
 use std::marker::Model;
 
-/// What came of each source since the last window was closed: as much of it as the sense of a
+/// What came from each source since the last window was closed: as much of it as the sense of a
 /// source depends on. Its size does not depend on how much comes.
 #[derive(Drop)]
 pub struct Inbox<K> {
@@ -89,7 +89,7 @@ impl<K: Copy> Inbox<K> {
         }
     }
 
-    /// The sources of which something came. An inbox stands for some list of arrivals, whatever
+    /// The sources from which something came. An inbox stands for some list of arrivals, whatever
     /// came.
     pub fn came(&self) -> NodeSet<K>
         ensures value { result ≡ self.now.came }

@@ -8,11 +8,11 @@ ghost use Rattle.rb_eligible.specs.Standings.{standing_of};
 
 use rb_base::{NodeId, NodeSet};
 
-/// What a node holds of the nodes of the other kind: which it trusts, which it accuses for what
-/// came of them or did not come (`direct`), which for a value that differed (`mismatch`), and
-/// against which it had direct evidence in the frame that runs (`fresh`). `calm` is by node the
-/// number of whole frames in a row without direct evidence while it is accused directly, counted up
-/// to 4096.
+/// What a node holds of the nodes of the other kind: which it trusts; which it accuses directly
+/// (`direct`), for what came from them or did not come; which it accuses by mismatch, for a value
+/// that differed; and against which it had direct evidence in the current frame (`fresh`). `calm`
+/// has for each node the number of whole frames in a row without direct evidence while it is
+/// accused directly, counted up to 4096.
 #[derive(Clone, Copy, Debug, PartialEq, Eq)]
 pub struct Standing<K> {
     pub trusted: NodeSet<K>,
@@ -59,7 +59,7 @@ impl<K: Copy> Standing<K> {
         }
     }
 
-    /// Whether what comes of the node may be taken: it is trusted and not accused directly.
+    /// Whether messages from the node may be accepted: it is trusted and not accused directly.
     pub fn eligible(&self, id: NodeId<K>) -> bool
         ensures { result ≡ is_eligible (standing_of self.now) id }
     {

@@ -41,7 +41,7 @@ fn first_of<K: Copy>(left: NodeSet<K>) -> Option<NodeId<K>>
     rest.pop_first()
 }
 
-// Writes down what was taken of the source.
+// Writes down what was accepted from the source.
 #[inline(always)]
 fn put<K: Copy>(source: NodeId<K>, value: Option<Heard>, taken: &mut [Option<Heard>; 16])
     ensures small { source < 16 }
@@ -89,8 +89,8 @@ struct Group<K> {
     value: Option<Heard>,
 }
 
-// What was taken of the sources of a set but of those that are left: of which exactly one message
-// came, and the largest group.
+// What was accepted from the sources of a set, without those that are left: from which of them
+// exactly one message came, and the largest group.
 #[derive(Clone, Copy)]
 struct Partial<K> {
     left: NodeSet<K>,
@@ -132,7 +132,7 @@ fn with_run<K: Copy>(lead: Group<K>, run: NodeSet<K>, value: Option<Heard>) -> G
     }
 }
 
-// The set, with the run if exactly one message came of each of it.
+// The set, with the run added if exactly one message came from each of its sources.
 fn with_ones<K: Copy>(ones: NodeSet<K>, run: NodeSet<K>, one: bool) -> NodeSet<K>
     ensures { result ≡ (if one then set_of (λ j. has ones j || has run j) else ones) }
 {
@@ -155,9 +155,9 @@ fn nothing_of<K: Copy>(due: NodeSet<K>) -> Partial<K>
     }
 }
 
-// Takes what came of those sources of the set that are left, of each of which there is one arrival.
-// It goes by runs: the first source that is left is read, and what it said is taken of all after it
-// that spell as it does.
+// Accepts what came from those sources of the set that are left. There is one arrival from each.
+// The sources are taken in runs: the first source that is left is read, and what it said is
+// accepted from all after it that spell as it does.
 #[inline(never)]
 fn take_runs<K: Copy>(
     inbox: &Inbox<K>,
@@ -195,7 +195,7 @@ fn take_runs<K: Copy>(
     }
 }
 
-// Takes what came of the sources of the set, of each of which there is one arrival. If all say the
+// Accepts what came from the sources of the set. There is one arrival from each. If all say the
 // same word, which is nearly always so, nothing is counted: this is the short cut "arrivals alike"
 // of docs/PERFORMANCE.md.
 #[inline(always)]
@@ -264,8 +264,8 @@ fn ones_barred<K: Copy>(inbox: &Inbox<K>, barred: NodeSet<K>, expect: &Expect) -
     }
 }
 
-// Accuses after a window in which exactly one message that is meant for it came of these of the
-// sources that are expected and eligible.
+// Accuses after a window. `ones` are the expected and eligible sources from which exactly one
+// message came that is meant for it.
 #[inline(always)]
 fn accuse_by<K: Copy>(
     inbox: &Inbox<K>,

@@ -23,7 +23,7 @@ fn check(low: u64, high: u32) -> u8
     check_of_four(first ^ second ^ high)
 }
 
-// Whether the bus's number and the check stand at the end.
+// Whether the bus's number and the check are at the end.
 fn has_end(bus: u8, low: u64, high: u32) -> bool
     ensures { result
         ≡ ((high / 65536 % 256 == bus)

@@ -110,7 +110,7 @@ pub fn tag_in(byte: u8) -> Option<Tag>
     }
 }
 
-// Whether the value may stand beside the tag.
+// Whether a message with the tag may have the value.
 fn may_have(tag: Tag, value: u32) -> bool
     ensures { result ≡ may_have tag value }
 {

@@ -204,8 +204,8 @@ fn says_of(alloc: Global, frames: u32) -> Result<Vec<Say>, OutOfMemory>
 /// The scenario of a seed and a number of frames, 1 to 4096. It has 8 BIUs, each of which asks for
 /// two of the 16 data slots, and 5 RMUs. The starts of the clocks, the lengths of their ticks, the
 /// delays of the links, and the frame from which on RMU 4 is silent are drawn. In the frame
-/// halfway, `frames / 2`, BIU 7 becomes faulty and says unlike words. The only error is want of
-/// memory. What the scenario is, is this project's own.
+/// halfway, `frames / 2`, BIU 7 becomes faulty and says unlike words. The only error is out of
+/// memory. The choice of the scenario is this project's own.
 pub fn generate(alloc: Global, seed: u64, frames: u32) -> Result<Scenario, OutOfMemory>
     requires least { 1 ≤ frames }
     requires most { frames ≤ 4096 }

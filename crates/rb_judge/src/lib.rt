@@ -110,9 +110,9 @@ impl Judge {
         }
     }
 
-    /// A stage begins and is told whole, by the sets of its nodes of both kinds. It stands beside
-    /// `stage` and a `note` for each sight, for who keeps these sets: of such a stage no single
-    /// sights can be noted.
+    /// Begins a stage with the sets of its nodes of both kinds, which say all that is needed of it.
+    /// It is for callers that keep these sets themselves and is an alternative to `stage` with a
+    /// `note` for each sight: no single sights can be noted of such a stage.
     pub fn whole_stage(&mut self, biu: &StageSets<Biu>, rmu: &StageSets<Rmu>)
         ensures known { (stages : List JudgedStage) (s : JudgedStage) → Knows self.old stages
             → AreSetsOf biu_side biu.now s → AreSetsOf rmu_side rmu.now s

@@ -1,5 +1,5 @@
 //! Laws of agreement: what all good nodes hold in common, whom they accuse, and whom they convict.
-//! There is no clock in them, but for the premise of the last two. Each law is the contract of a
+//! There is no clock in them, except in the premise of the last two. Each law is the contract of a
 //! function that does nothing.
 #![tactic(auto)]
 
@@ -7,8 +7,8 @@ ghost use Rattle.rb_laws_agreement.specs.Held.{HeldWordsAreDelivered};
 ghost use Rattle.rb_laws_agreement.specs.Laws.{AccusedByAllIsConvicted, DeliveriesAreRight, GoodNodesAgree, GoodNodesHoldOneSchedule, GoodSendersAreHeard, NoGoodNodeIsAccused, NoGoodNodeIsConvicted, PortsFollowTheBus, PortsHoldOneState, RoundsStepTheBus, TimeIsAllThatIsLeft, TimeKeepsThePromise, UnheardNodesHaveNoVector};
 ghost use Rattle.rb_laws_agreement.specs.OneSlot.{OneSlotAgrees, VotesAgree, VotesAreValid};
 
-/// In one stage, whatever comes of the others: if all good sources say one value, and more of what
-/// a node takes comes of them than of others, that is its vote.
+/// In one stage, whatever the other nodes do: if all good sources say one value, and a node accepts
+/// more from them than from others, that value is its vote.
 pub fn votes_are_valid()
     ensures { VotesAreValid }
 {}

@@ -58,7 +58,7 @@ pub fn events_are_rounds()
     ensures { EventsAreRoundsInLawful }
 {}
 
-/// No run stands still: in every lawful scenario some event is due, whatever was chosen, as long as
+/// No run gets stuck: in every lawful scenario some event is due, whatever was chosen, as long as
 /// the run has not ended and its next record needs an event.
 pub fn something_is_due()
     ensures { SomethingIsDueInLawful }
@@ -78,7 +78,7 @@ pub fn every_run_ends()
 {}
 
 /// In every lawful scenario room for `most_pending` events at each node, reserved at opening, is
-/// enough: for its tick, for four messages of each node of the other kind, and for three times as
+/// enough: for its tick, for four messages from each node of the other kind, and for three times as
 /// many as there are entries of what is said. Whatever was chosen, no more is pending at a node
 /// (`now`), nor after a tick of its own (`own`), nor with the message that another node sends at
 /// its tick (`message`).
@@ -87,9 +87,9 @@ pub fn pending_events_are_few()
 {}
 
 /// In every lawful scenario, whatever is chosen and handed in, each core that runs holds the state
-/// that its node has in the rounds at the moment before the stage in which the core stands by its
-/// own frame and window, and each BIU that runs has its port of that moment. A node that does not
-/// run stands in a slot in which it is not good. All this in every world before a stage of a sync
+/// that its node has in the rounds at the moment before the stage in which the core is by its own
+/// frame and window, and each BIU that runs has its port of that moment. A node that does not run
+/// is in a slot in which it is not good. All this holds in every world before a stage of a sync
 /// slot with which the run breaks off.
 pub fn cores_are_those_of_the_rounds()
     ensures { CoresAreThoseOfTheRounds }
@@ -103,7 +103,7 @@ pub fn cores_follow_the_rounds()
     ensures { CoresFollowTheRounds }
 {}
 
-/// Any two running nodes of a world that stand in one slot begin it at most the stated skew apart,
+/// Any two running nodes of a world that are in one slot begin it at most the stated skew apart,
 /// and hold the same convicted nodes, no good one among them, the same votes on the earlier slots
 /// of the frame on which both vote, and from the first data slot on one schedule: in each slot that
 /// is complete in the rounds, and at the start of each frame.

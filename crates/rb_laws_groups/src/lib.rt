@@ -21,7 +21,7 @@ pub fn groups_agree()
 {}
 
 /// In a frame whose data slots are served without a breach, and in which a BIU is good up to their
-/// end, all good nodes go by one schedule.
+/// end, all good nodes hold one schedule.
 pub fn frames_have_a_schedule()
     ensures { FramesHaveASchedule }
 {}

@@ -90,11 +90,11 @@ pub fn some_tick_is_first()
 
 /// In every lawful scenario, whatever was chosen before: if the world is ahead of another, each of
 /// whose nodes lacks only arrivals before a time, and the first tick is pending there, takes of the
-/// first due event lead to the tick. One take more, that of the tick, leads to a world that is
+/// first due event lead to the tick. One more take, that of the tick, leads to a world that is
 /// ahead of what the tick alone makes of the other: one node is swept, takes its tick, and what
 /// that completes is settled. The times of the nodes only rise. What each node is told in these
-/// takes is what the other world had left for it, then its tick if it is the tick's node, but for
-/// what is left behind again: so a run may tell a node's arrivals when it takes them.
+/// takes is what the other world had left for it, then its tick if it is the tick's node, without
+/// what is left behind again. A run may therefore tell a node's arrivals when it takes them.
 pub fn worlds_go_on_ahead()
     ensures { WorldsGoOnAhead }
 {}

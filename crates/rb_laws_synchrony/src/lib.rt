@@ -5,16 +5,15 @@
 ghost use Rattle.rb_laws_synchrony.specs.Laws.{EpochsStayNear, SlotsBeginNear, WindowsAreTimely};
 ghost use Rattle.rb_laws_synchrony.specs.OneStage.{MiddlesAreNear, MiddlesLieAmongGoodCalls};
 
-/// In one stage of the sync slot, whatever comes of the nodes that are not good: if good sources
-/// call a good node between two reference times, and more of what it takes comes of them than of
-/// others, the middle that it keeps lies between these times, but for a tick, and it accuses none
-/// of them.
+/// In one stage of the sync slot, whatever nodes that are not good do: if good sources call a good
+/// node between two reference times, and the node accepts more from them than from others, the
+/// middle that it keeps lies between these times, give or take a tick, and it accuses none of them.
 pub fn middles_lie_among_good_calls()
     ensures { MiddlesLieAmongGoodCalls }
 {}
 
-/// If two good nodes besides take near calls of each source, their middles differ by no more than
-/// `dmax - dmin` and a longest tick.
+/// If two good nodes also accept near calls from each source, their middles differ by at most `dmax
+/// - dmin` and a longest tick.
 pub fn middles_are_near()
     ensures { MiddlesAreNear }
 {}

@@ -20,8 +20,8 @@ use rb_slot::role_of;
 use rb_vote::majority_taken;
 
 /// What is recorded of a frame: its number, modulo 65536, the tick at which the listener decides by
-/// it, if that is known, and of each RMU what came of it in each slot: that of RMU `j` in a slot
-/// has the number 16 times the slot and `j`.
+/// it, if that is known, and what came from each RMU in each slot: the record of RMU `j` in a slot
+/// has the number 16 times the slot plus `j`.
 #[derive(Drop)]
 pub struct Lesson {
     pub frame: u16,

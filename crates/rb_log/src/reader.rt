@@ -118,9 +118,9 @@ impl<'a> LogReader<'a> {
         self.cursor.next()
     }
 
-    /// Passes the ticks with word 0 that stand in a row at the front of the events, at most so
-    /// many, and gives their number. It costs a step a record, however many ticks the record tells
-    /// of.
+    /// Passes the ticks with word 0 that are in a row at the front of the events, at most `most` of
+    /// them, and gives their number. It costs one step for each record, however many ticks the
+    /// record tells of.
     pub fn skip(&mut self, most: u64) -> u64
         ensures value { result ≡ min most (quiet_in_front self.old.events) }
         ensures passed { self.old.events ≡ replicate result (Tick 0) ++ self.new.events }

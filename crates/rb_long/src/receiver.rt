@@ -9,7 +9,7 @@ use arrayvec::ArrayVec;
 use rb_base::Heard;
 use std::marker::Model;
 
-/// What a port has received of the letters of each sender.
+/// What a port has received of the letters from each sender.
 #[derive(Drop)]
 pub struct LongReceiver {
     readers: [Reader; 16],

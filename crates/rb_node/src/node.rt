@@ -169,8 +169,8 @@ impl<K: Kind> Node<K> {
     }
 
     /// The window that begins with the next tick. `None` if and only if none does. If a frame
-    /// begins with that tick, it is the first window of that frame, in which the node does not
-    /// stand yet.
+    /// begins with that tick, it is the first window of that frame, which the node has not begun
+    /// yet.
     pub fn entering(&self) -> Option<Span>
         ensures { option_map span_in result
             ≡ span_from self.now.seat.sizes self.now.seat.plan (side_of K.CODE) self.now.seat.state

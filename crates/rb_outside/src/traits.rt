@@ -18,8 +18,8 @@ pub trait Source {
 
     /// Gives the next bytes. `Ok(n)` put n bytes, at most the slice's length, at the front of
     /// `into`; `Ok(0)` for a slice that is not empty is the end of the input. `Failed` is the
-    /// answer only if the count of faults rose or stands at 2^64-1, and nothing was given. The
-    /// count never falls.
+    /// answer only if the count of faults rose or is at 2^64-1, and nothing was given. The count
+    /// never falls.
     fn read(&mut self, into: &mut [u8]) -> Result<usize, Failed>
         ensures bound { ReadsAtMost result into.new }
         ensures bytes { ReadConsumes (left self.old) (left self.new) result into.new }
@@ -34,9 +34,9 @@ pub trait Sink {
     /// How many calls have failed, up to 2^64-1.
     ghost faults: { Self → ℕ };
 
-    /// Takes bytes. `Ok(n)` took the first n bytes of `from`, and at least one if there is one.
-    /// `Failed` is the answer only if the count of faults rose or stands at 2^64-1, and nothing was
-    /// taken. The count never falls.
+    /// Accepts bytes. `Ok(n)` means that the first n bytes of `from` were accepted, and at least
+    /// one if there is one. `Failed` is the answer only if the count of faults rose or is at
+    /// 2^64-1, and nothing was accepted. The count never falls.
     fn write(&mut self, from: &[u8]) -> Result<usize, Failed>
         ensures bound { WritesAtMost result from.now }
         ensures bytes { WriteAppends (held self.old) (held self.new) result from.now }

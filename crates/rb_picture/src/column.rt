@@ -65,7 +65,7 @@ fn brings(value: Heard, line: Line) -> bool
     }
 }
 
-// Whether all deliveries in the slot with this mark, which stand first, bring this.
+// Whether all deliveries in the slot with this mark, which are the first of the lines, bring this.
 #[tactic(auto, using(crate::proofs::Turns::bring_turns))]
 fn all_bring(mark: u64, value: Heard, lines: &[Line]) -> bool
     ensures { result ≡ all_bring mark value lines.now }

@@ -138,7 +138,7 @@ pub(crate) fn push_ending(out: &mut Vec<u8>) -> Result<(), OutOfMemory>
     push_label(out, 20, 52, "note", "The run came to its end.", "")
 }
 
-/// The owner of a slot stands at its column.
+/// The owner of a slot is drawn at its column.
 #[tactic(auto, unfolding(crate::specs::Drawing::with_owner))]
 pub(crate) fn push_owner(
     out: &mut Vec<u8>,
@@ -385,7 +385,7 @@ fn push_whole(
     push_states(out, extent, frame, facts)
 }
 
-// How many nodes of the set stand before this one.
+// How many nodes of the set come before this one.
 fn rank(set: u16, number: u8) -> u64
     requires { number ≤ 15 }
     ensures value { result ≡ rank set number }
@@ -395,7 +395,7 @@ fn rank(set: u16, number: u8) -> u64
     u64::from(lower.count())
 }
 
-// Where a row of names begins, and how many names stand there before those of a set.
+// The place at which a row of names begins, and how many names there are before those of a set.
 #[derive(Clone, Copy)]
 struct Names {
     x: u64,

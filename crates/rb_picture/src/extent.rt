@@ -75,7 +75,7 @@ pub struct Newest {
     pub facts: Facts,
 }
 
-/// The rows of the nodes of a kind: how many rows stand above them, how many they are, and which
+/// The rows of the nodes of a kind: how many rows are above them, how many they are, and which
 /// nodes are convicted and present.
 #[derive(Clone, Copy)]
 pub struct Rows {
@@ -286,7 +286,7 @@ fn facts_after(facts: Facts, line: Line) -> Facts
     }
 }
 
-/// What the lines of the frame with this number less one say, which stand first.
+/// What the lines of the frame with this number less one say, which are the first of the lines.
 #[tactic(auto, using(crate::proofs::Turns::line_turns))]
 pub(crate) fn facts_of(mark: u64, lines: &[Line]) -> Facts
     ensures { result ≡ facts_of mark lines.now }

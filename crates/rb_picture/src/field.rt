@@ -1,4 +1,4 @@
-//! The fields of a line: what stands between its spaces.
+//! The fields of a line: the parts between its spaces.
 ghost use Rattle.std.specs.Prelude.{ℕ, ◌≡◌, ◌<◌, ◌^◌, ◌++◌, ◌∷◌, Bool, true, false, Some, None, IfSome, decimal, codes, List};
 ghost use Rattle.rb_base.specs.declared.node.NodeName.{NodeName};
 ghost use Rattle.rb_base.specs.declared.node.NodeName.TheVariants.{Biu, Rmu};
@@ -11,7 +11,7 @@ ghost use Rattle.rb_picture.specs.Fields.{HeardFits, NodeFits, field_at, later_f
 use rb_base::{Heard, NodeName};
 use rb_rules::Cause;
 
-/// What stands before the first space, or all.
+/// The part before the first space, or all.
 pub(crate) fn first_field(text: &str) -> &str
     ensures { result.now ≡ field_at 0 text.now }
 {
@@ -21,7 +21,7 @@ pub(crate) fn first_field(text: &str) -> &str
     }
 }
 
-// What stands behind the first space, or nothing.
+// The part behind the first space, or nothing.
 fn later_fields(text: &str) -> &str
     ensures { result.now ≡ later_fields text.now }
 {

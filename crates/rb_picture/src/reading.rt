@@ -26,7 +26,7 @@ use std::alloc::Global;
 pub enum Fault {
     /// What begins here is no line of a report.
     NoLine,
-    /// The line does not stand behind the one before it.
+    /// The line does not come after the one before it.
     OutOfOrder,
     /// The bytes end before a line that tells how the run ended.
     NoEnd,

@@ -6,8 +6,8 @@ ghost use Rattle.rb_port.specs.Answering.{LearnsAs, OffersAs};
 /// Answers the word that an application with this state offers for a slot.
 pub type Offer = Box<dyn Fn(u64, u16) -> u32>;
 
-/// Answers the state of an application that had this state, after the slot's delivery from that
-/// sender. None stands for Fault.
+/// Answers the state of an application that had this state before, after the slot's delivery from
+/// that sender. None stands for Fault.
 pub type Learn = Box<dyn Fn(u64, u16, u8, Option<u32>) -> u64>;
 
 /// An application, as what it offers and what it learns.

@@ -1,4 +1,4 @@
-//! What stands behind a BIU: its application, and the port that hands words over. Both are this
+//! What is behind a BIU: its application, and the port that hands words over. Both are this
 //! project's own.
 #![tactic(auto)]
 

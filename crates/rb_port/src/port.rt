@@ -12,8 +12,7 @@ use std::marker::Model;
 // How many of the latest deliveries are kept.
 const KEPT: usize = 64;
 
-/// The port of a BIU: which application stands behind it, that one's state, and the latest 64
-/// deliveries.
+/// The port of a BIU: which application it has, the state of that, and the latest 64 deliveries.
 #[derive(Drop)]
 pub struct Port {
     app: u8,

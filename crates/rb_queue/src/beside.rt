@@ -38,8 +38,8 @@ pub(crate) fn least_time(lane: &Lane, more: &[Pending]) -> Option<u64>
     first
 }
 
-// How many are kept beside that are of a time and of the sources that begin with the first and
-// stand before the end.
+// How many are kept beside the lane that come at a time from the sources from `first` on and before
+// `end`.
 fn count_beside(more: &[Pending], time: u64, first: u16, end: u16) -> usize
     ensures value { result ≡ count_if (is_sent_between time first end) more.now }
     ensures few { result ≤ length more.now }

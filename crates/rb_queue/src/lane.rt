@@ -335,7 +335,7 @@ impl Lane {
         self.tick
     }
 
-    /// The tick is pending no more. Nothing else changes.
+    /// Takes the pending tick away. Nothing else changes.
     #[inline(always)]
     pub fn take_tick(&mut self)
         ensures { self.new ≡ without_tick self.old }

@@ -11,8 +11,8 @@ use std::marker::Model;
 
 /// The pending events of the nodes of a bus, a lane for each node, with room for a fixed number of
 /// events. A lane holds what comes to the node in the order of pushing, and the time of the node's
-/// tick. Beside it stands what it does not hold whole: a further tick, a tick with a word, what has
-/// quiet ticks before it, and all that `push` is given after such an event.
+/// tick. What it does not hold whole is kept beside it: a further tick, a tick with a word, what
+/// has quiet ticks before it, and all that `push` is given after such an event.
 #[derive(Drop)]
 pub struct Lanes {
     bius: Vec<Queue>,
@@ -76,7 +76,7 @@ impl Lanes {
     }
 
     /// Adds an event to its node's events, due at this time in reference units. There is room for
-    /// it. It comes back as it is given here, and stands behind all that was pushed of its sender,
+    /// it. It comes back as it is given here, and comes after all that was pushed from its sender,
     /// or of the node's own ticks, before it.
     pub fn push(&mut self, time: u64, event: Event)
         requires in_shape { HasQueue self.old event.node }

@@ -29,8 +29,7 @@ impl Pending {
         self.source() == source && self.time == time
     }
 
-    // Whether it comes at the time from one of the sources that begin with the first and stand
-    // before the end.
+    // Whether it comes at the time from one of the sources from `first` on and before `end`.
     pub(crate) fn is_between(&self, time: u64, first: u16, end: u16) -> bool
         ensures { result ≡ is_sent_between time first end self.now }
     {

@@ -102,8 +102,7 @@ fn is_between(arrival: &Arrival, time: u64, first: u16, end: u16) -> bool
     first <= source && source < end && arrival.time() == time
 }
 
-// How many arrivals come at a time from the sources that begin with the first and stand before the
-// end.
+// How many arrivals come at a time from the sources from `first` on and before `end`.
 pub(crate) fn count(arrivals: &[Arrival], time: u64, first: u16, end: u16) -> usize
     ensures value { result ≡ count_if (is_between time first end) arrivals.now }
     ensures few { result ≤ length arrivals.now }

@@ -54,7 +54,7 @@ fn give_tick<S: Sink>(
     Ok(begun_by(heed.epoch))
 }
 
-// Gives the listener a tick and the quiet ticks that stand behind it in the log.
+// Gives the listener a tick and the quiet ticks that follow it in the log.
 fn give_ticks<S: Sink>(
     listener: &mut Listener,
     log: &mut LogReader<'_>,

@@ -57,7 +57,7 @@ fn give_tick<K: Kind, S: Sink>(
     Ok(frames_by(step.epoch))
 }
 
-// Gives the node a tick and the quiet ticks that stand behind it in the log.
+// Gives the node a tick and the quiet ticks that follow it in the log.
 fn give_ticks<K: Kind, S: Sink>(
     node: &mut Node<K>,
     log: &mut LogReader<'_>,

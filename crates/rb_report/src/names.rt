@@ -1,4 +1,4 @@
-//! The names that stand in lines.
+//! The names that are used in lines.
 ghost use Rattle.std.specs.Prelude.{◌≡◌, ◌≢◌, ◌≤◌, true, false, [], length, slice_index_or};
 ghost use Rattle.rb_report.specs.Report.{cause_text, log_refusals, refusal_of, refusals, scenario_refusals, summaries};
 

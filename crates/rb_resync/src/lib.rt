@@ -19,7 +19,7 @@ use rb_plan::Feasible;
 use rb_rules::Expect;
 pub use rb_rules::SyncClosing;
 
-// What is taken of a source: its stamp, if it is one of those of which a message is taken.
+// What is accepted from a source: its stamp, if a message is accepted from it.
 fn taken<K: Copy>(inbox: &Inbox<K>, takers: NodeSet<K>, source: u8) -> Option<u64>
     requires { source < 16 }
     ensures { result ≡ (if has takers source then Some (sole_at inbox.now.soles source).at

@@ -28,16 +28,14 @@ fn vote(taken: &[Option<Heard>; 16], alike: bool, value: Heard) -> Heard
     if alike { value } else { majority_taken(taken) }
 }
 
-/// Closes a stage below the sync slot. Of each source that is expected and eligible the value is
-/// taken that came of it, if exactly one message came and it is meant for the window; a relayed
-/// Fault is a value too. Then each trusted source is accused that was expected and of which not
-/// exactly that came, or that was not expected and of which something came. The vote is the
-/// majority of what was taken, and Fault over nothing. A mismatch accusation takes no part in any
-/// of this.
-///
-/// This is the receiving end of a communication stage of the unified protocol of Miner, Geser, Pike
-/// and Maddalon (FORMATS 2004): local error detection, then the hybrid majority. The rules of
-/// evidence are this project's own.
+/// Closes a stage below the sync slot. The value from each source that is expected and eligible is
+/// accepted if exactly one message came from it and that is meant for the window; a relayed Fault
+/// is a value too. Then each trusted source is accused that was expected but did not send exactly
+/// this one message, or that was not expected but sent something. The vote is the majority of the
+/// accepted values, and Fault if there are none. A mismatch accusation changes nothing in any of
+/// this.  This is the receiving end of a communication stage of the unified protocol of Miner,
+/// Geser, Pike and Maddalon (FORMATS 2004): local error detection, then the hybrid majority. The
+/// rules of evidence are this project's own.
 pub fn close_stage<K: Copy>(
     inbox: &Inbox<K>,
     standing: &mut Standing<K>,
@@ -106,8 +104,8 @@ pub fn relay_of(taken: Option<Heard>) -> Heard
     taken.unwrap_or(Heard::Fault)
 }
 
-/// What a node says as a relay of the slot's sender, a node below 16: what it took of it in stage
-/// 1, and Fault if it took nothing.
+/// What a node says as a relay of the slot's sender, a node below 16: what it accepted from it in
+/// stage 1, and Fault if it accepted nothing.
 pub fn relay(closing: &Closing, sender: u8) -> Heard
     requires { sender < 16 }
     ensures { result ≡ unwrap_or (at_source closing.now.taken sender) Heard.Fault }

@@ -1,15 +1,15 @@
 //! What the close of a window gives.
 use rb_base::{Delivery, Heard, Place, See};
 
-/// What was taken of each source in a stage below the sync slot, and the majority of it.
+/// What was accepted from each source in a stage below the sync slot, and the majority of it.
 #[derive(Clone, Copy, Debug, PartialEq, Eq)]
 pub struct Closing {
     pub taken: [Option<Heard>; 16],
     pub voted: Heard,
 }
 
-/// The stamps that were taken of each source in a stage of the sync slot, in ticks, and the middle
-/// of them.
+/// The stamps that were accepted from each source in a stage of the sync slot, in ticks, and the
+/// middle of them.
 #[derive(Clone, Copy, Debug, PartialEq, Eq)]
 pub struct SyncClosing {
     pub taken: [Option<u64>; 16],

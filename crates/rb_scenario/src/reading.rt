@@ -29,7 +29,7 @@ use rb_scenario_entries::says::{IsSay, says_in};
 use std::alloc::{AllocError, Global};
 use toml::Table;
 
-/// Whether the values of the entries, and those at the root that go by the bus, are in range.
+/// Whether the values of the entries, and those at the root that depend on the bus, are in range.
 #[tactic(auto, unfolding(crate::specs::Reading::fits_bus))]
 pub(crate) fn fits_bus(bus: &Bus, table: &Table) -> bool
     requires { IsBus bus.now }

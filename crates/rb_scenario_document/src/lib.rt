@@ -1,4 +1,4 @@
-//! TOML documents of scenarios: which keys a table may have and in which form, and what stands at
+//! TOML documents of scenarios: which keys a table may have and in which form, and the values at
 //! them.
 #![tactic(auto)]
 

@@ -29,14 +29,14 @@ impl Test for Within {
     }
 }
 
-/// Whether an integer within the bounds, both included, stands at a key.
+/// Whether the key has an integer within the bounds, both included.
 pub fn has_number(table: &Table, key: &str, low: u64, high: u64) -> bool
     ensures { result ≡ has_number key.now low high (table_view table.now) }
 {
     passes(&Within { low, high }, member(table, key))
 }
 
-/// Whether an integer within the bounds, both included, stands at a key, or nothing.
+/// Whether the key has an integer within the bounds, both included, or is not there.
 pub fn may_have_number(table: &Table, key: &str, low: u64, high: u64) -> bool
     ensures { result ≡ may_have_number key.now low high (table_view table.now) }
 {
@@ -68,7 +68,7 @@ pub fn number_within(value: Option<&Value>, default: u64, low: u64, high: u64) -
     number_or(value, default)
 }
 
-/// The number at a key, which stands there.
+/// The number at a key that is there.
 pub fn number_at(table: &Table, key: &str, low: u64, high: u64) -> u64
     requires { has_number key.now low high (table_view table.now) ≡ true }
     ensures value { result ≡ number_at key.now 0 (table_view table.now) }
@@ -118,14 +118,14 @@ pub fn pair(value: &Value) -> (u64, u64)
     (number_or(value.get(0), 0), number_or(value.get(1), 0))
 }
 
-/// Whether such a pair stands at a key.
+/// Whether the key has such a pair.
 pub fn has_range(table: &Table, key: &str, low: u64, high: u64) -> bool
     ensures { result ≡ has_range key.now low high (table_view table.now) }
 {
     passes(&Range { low, high }, member(table, key))
 }
 
-/// Whether such a pair stands at a key, or nothing.
+/// Whether the key has such a pair, or is not there.
 pub fn may_have_range(table: &Table, key: &str, low: u64, high: u64) -> bool
     ensures { result ≡ may_have_range key.now low high (table_view table.now) }
 {
@@ -156,7 +156,7 @@ pub fn pair_at(table: &Table, key: &str) -> (u64, u64)
     }
 }
 
-/// The pair at a key, which stands there within the bounds.
+/// The pair at a key that is there, within the bounds.
 pub fn range_there(table: &Table, key: &str, low: u64, high: u64) -> (u64, u64)
     requires { has_range key.now low high (table_view table.now) ≡ true }
     ensures value { result ≡ range_at key.now (0, 0) (table_view table.now) }
@@ -176,7 +176,7 @@ pub fn may_have_list<T: Test>(table: &Table, key: &str, count: u8, test: &T) -> 
     }
 }
 
-/// What stands at place `index` of the array at a key.
+/// The item at place `index` of the array at a key.
 pub fn item_at<'a>(table: &'a Table, key: &str, index: usize) -> Option<&'a Value>
     ensures { option_map (λ x. view x.now) result ≡ item_at key.now index (table_view table.now) }
 {

@@ -37,7 +37,7 @@ pub(crate) fn sync_slot(bus: &Bus) -> u64
     u64::from(bus.shape.sync_slot())
 }
 
-/// What stands at a key of the plan.
+/// The value at a key of the plan.
 fn in_plan<'a>(table: &'a Table, key: &str) -> Option<&'a Value>
     ensures { option_map (λ x. view x.now) result ≡ in_plan key.now (table_view table.now) }
 {
@@ -47,14 +47,14 @@ fn in_plan<'a>(table: &'a Table, key: &str) -> Option<&'a Value>
     }
 }
 
-/// Whether an integer within the bounds stands there, or nothing.
+/// Whether the key has an integer within the bounds, or is not there.
 fn may_plan(table: &Table, key: &str, low: u64, high: u64) -> bool
     ensures { result ≡ may_plan key.now low high (table_view table.now) }
 {
     absent_or(&Within { low, high }, in_plan(table, key))
 }
 
-/// The number that stands there, or else the default.
+/// The number at the key, or the default if the key is not there.
 fn planned(table: &Table, key: &str, default: u64, low: u64, high: u64) -> u64
     requires stands { may_plan key.now low high (table_view table.now) ≡ true }
     requires low { low ≤ default }

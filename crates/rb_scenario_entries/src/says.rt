@@ -143,7 +143,7 @@ fn word_content(value: &Value) -> Option<Content>
     }
 }
 
-/// What the mark `true` stands for.
+/// What the mark `true` means.
 fn marked(content: Content, value: &Value) -> Option<Content>
     ensures { result ≡ marked content (view value.now) }
 {

@@ -24,7 +24,7 @@ fn take_first(alloc: Global, apps: &Apps, world: &mut World) -> Result<String, A
     format!(in alloc; "{due} {event:?} {frame:?}\n")
 }
 
-// Takes `count` events, and writes what comes of each.
+// Takes `count` events, and writes the result of each.
 fn take_events(
     alloc: Global,
     apps: &Apps,
@@ -38,7 +38,7 @@ fn take_events(
     Ok(())
 }
 
-/// What comes of the first events of the document's run.
+/// The results of the first events of the document's run.
 pub(crate) fn first_events(
     alloc: Global,
     apps: &Apps,

@@ -16,8 +16,8 @@ ghost use Rattle.rb_test_rules.specs.Parts.{biu, plan, rmu, sizes};
 
 /// Slots and frames of the bus, at the edges of both.
 pub fn slots_and_frames_of_the_bus()
-    // The schedule stands with the last schedule slot, and stays. If each BIU asks for one slot,
-    // the last four are idle.
+    // The schedule is there from the last schedule slot on, and stays. If each BIU asks for one
+    // slot, the last four are idle.
     ensures owners { map (λ bus. bus.owners)
         (at_first ∷ scheduled ∷ bus_after_slot sizes Fault scheduled ∷ [])
         ≡ ([] ∷ (0 ∷ 1 ∷ 2 ∷ 3 ∷ 0 ∷ 1 ∷ 2 ∷ 3 ∷ []) ∷ (0 ∷ 1 ∷ 2 ∷ 3 ∷ 0 ∷ 1 ∷ 2 ∷ 3 ∷ []) ∷ []) }

@@ -17,7 +17,7 @@ pub fn convictions()
     ensures sparing { convicted 7 (Word 8 ∷ Word 2 ∷ Fault ∷ []) ≡ 2 }
     // Nodes of both kinds are convicted at once, by the trusted sets of the frame that ends: the
     // vector of RMU 2, which is convicted too, is needed to convict BIU 1. In the frame after, the
-    // vectors of both count no more.
+    // vectors of both no longer count.
     ensures bius { next_frame.near ≡ 13 }
     ensures rmus { next_frame.far.trusted ≡ 3 }
     ensures bius_later { next_but_one_frame.near ≡ 13 }

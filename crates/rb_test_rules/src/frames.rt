@@ -18,15 +18,15 @@ pub fn several_frames()
     // A state is handed to the port of BIU 0 at the start of frame 1: it is what the BIU sends from
     // then on.
     ensures state_handed_in { records_of state_handed_in hand_ins ≡ state_handed_in_records }
-    // An RMU that is convicted with frame 0 stays so in frame 1: what it says counts no more, also
-    // beside a BIU that lies.
+    // An RMU that is convicted with frame 0 stays so in frame 1: what it says no longer counts,
+    // even beside a BIU that lies.
     ensures convicted_rmu { records_of convicted_rmu [] ≡ convicted_rmu_records }
 {}
 
 /// Messages with the number of a bus.
 pub fn buses_by_their_number()
-    // Two RMUs send messages of another bus: nothing is taken of them, and the words come all the
-    // same.
+    // Two RMUs send messages of another bus: nothing is accepted from them, and the words come all
+    // the same.
     ensures message_of_another_bus { records_of message_of_another_bus []
         ≡ message_of_another_bus_records }
     // If the messages are the bus's own, they are accepted, and the run ends with the breach.

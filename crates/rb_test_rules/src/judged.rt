@@ -41,7 +41,7 @@ pub fn causes()
         ≡ None }
 {}
 
-/// Of which class a node is, by what others saw and took of it.
+/// The class of a node, by what others saw and accepted from it.
 pub fn classes()
     // What was taken and what was seen unlike in any stage of the frame counts: two BIUs lie, each
     // in a stage of its own.

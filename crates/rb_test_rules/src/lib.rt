@@ -1,5 +1,5 @@
 //! Cases that are computed from the definitions of the bus alone: each is an equation on a function
-//! that does nothing, proved by computing. No code is run, and nothing stands on this crate.
+//! that does nothing, proved by computing. No code is run, and no crate uses this one.
 #![tactic(auto)]
 
 pub mod abstract_bus;

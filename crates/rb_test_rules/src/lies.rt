@@ -32,8 +32,8 @@ pub fn one_faulty_node()
 pub fn several_faulty_nodes()
     // A BIU and then an RMU lie unlike: the run ends with the breach of the fault premise.
     ensures two_sided { records_of two_sided [] ≡ two_sided_records }
-    // Two of three RMUs lie: the run ends with the breach, in the stage in which something is taken
-    // of them.
+    // Two of three RMUs lie: the run ends with the breach, in the stage in which something is
+    // accepted from them.
     ensures too_few_good { records_of too_few_good [] ≡ too_few_good_records }
     // One of two faulty RMUs is silent, and the other sends two messages, too few bytes, a wrong
     // check and a Fault with a value: if one BIU took any of it, the good RMU would not outnumber

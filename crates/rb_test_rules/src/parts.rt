@@ -49,14 +49,14 @@ pub fn messages_of_a_source()
 
 /// Nodes that are accused and convicted.
 pub fn accused_nodes()
-    // Whom a node trusts, accuses and takes of.
+    // Whom a node trusts and accuses, and from whom it accepts messages.
     ensures sets { (accused.trusted ∷ accused.direct ∷ accused.mismatch ∷ accused.fresh ∷ [])
         ≡ (7 ∷ 2 ∷ 4 ∷ 2 ∷ []) }
     ensures vector { vector_of accused ≡ 6 }
     ensures eligible { map (is_eligible accused) (0 ∷ 1 ∷ 2 ∷ 3 ∷ [])
         ≡ (true ∷ false ∷ true ∷ false ∷ []) }
-    // With a probation of one frame an accusation stands at the end of its own frame and lapses at
-    // the end of the next; with two, new evidence begins the count anew.
+    // With a probation of one frame an accusation is there at the end of its own frame and lapses
+    // at the end of the next; with two, new evidence starts the count anew.
     ensures own_frame { (standing_at_end 1 accused).direct ≡ 2 }
     ensures next_frame { (standing_at_end 1 (standing_at_end 1 accused)).direct ≡ 0 }
     ensures mismatch_stays { (standing_at_end 1 (standing_at_end 1 accused)).mismatch ≡ 4 }
@@ -73,8 +73,8 @@ pub fn accused_nodes()
 /// Slots, with those who send in them.
 pub fn slots_and_senders()
     // What slots are for, and who sends in them. BIU 1 and RMU 2 are convicted, and the data slots
-    // 0 and 1 are those of BIUs 0 and 3. A diagnosis slot goes by the trust in its own sender: RMU
-    // 1 and BIU 2 have theirs.
+    // 0 and 1 are those of BIUs 0 and 3. A diagnosis slot depends on the trust in its own sender:
+    // RMU 1 and BIU 2 have theirs.
     ensures roles { map (role_of sizes) (0 ∷ 3 ∷ 4 ∷ 11 ∷ 12 ∷ 15 ∷ 16 ∷ 18 ∷ 19 ∷ [])
         ≡ (Schedule 0 ∷ Schedule 3 ∷ Data 0 ∷ Data 7 ∷ DiagBiu 0 ∷ DiagBiu 3 ∷ DiagRmu 0
         ∷ DiagRmu 2 ∷ Sync ∷ []) }

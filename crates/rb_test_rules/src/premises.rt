@@ -82,8 +82,8 @@ pub fn alike_ports()
     ensures alike_with_hand_ins { AreAlike one_state handed_to_both 0 1 }
 {}
 
-/// In the third stage of the first data slot two BIUs and an RMU run: each stands in the slot, and
-/// the BIUs, which are alike, after its delivery. The next record needs an event.
+/// In the third stage of the first data slot two BIUs and an RMU run: each is in the slot, and the
+/// BIUs, which are alike, are after its delivery. The next record needs an event.
 pub fn running_nodes()
     ensures before_the_break { IsBeforeTheBreak one_state third_stage }
     ensures needs { NeedsEvent one_state third_stage }

@@ -7,13 +7,12 @@ ghost use Rattle.rb_test_rules.specs.Resynchronisation.{false_accuser, false_acc
 
 /// One node lies in the sync slot, or of both kinds one.
 pub fn lies_in_the_sync_slot()
-    // A BIU accuses all RMUs and calls at its own ticks: nobody is convicted, and the middles
-    // stand.
+    // A BIU accuses all RMUs and calls at its own ticks: nobody is convicted, and the middles stay.
     ensures false_accuser { records_of false_accuser [] ≡ false_accuser_records }
-    // An RMU calls at the window's first tick at all BIUs: the middles stand.
+    // An RMU calls at the window's first tick at all BIUs: the middles stay.
     ensures call_at_the_first_tick { records_of call_at_the_first_tick []
         ≡ call_at_the_first_tick_records }
-    // An RMU calls at the first tick at two BIUs and at the last at the others: the middles stand,
+    // An RMU calls at the first tick at two BIUs and at the last at the others: the middles stay,
     // and the premise holds.
     ensures calls_at_both_edges { records_of calls_at_both_edges [] ≡ calls_at_both_edges_records }
     // Both kinds have a liar, but the calls of the RMU are as close as two good ones may be: they

@@ -23,7 +23,7 @@ pub fn votes_and_owners()
     ensures against_faults { majority_of (Fault ∷ Word 1 ∷ Fault ∷ Word 1 ∷ []) ≡ Fault }
     ensures of_most { majority_of (Word 1 ∷ Word 1 ∷ Word 2 ∷ Word 3 ∷ []) ≡ Fault }
     ensures of_none { majority_of [] ≡ Fault }
-    // Who owns a slot: data slots have owners, once the schedule stands.
+    // Who owns a slot: data slots have owners, once the schedule is known.
     ensures before_the_schedule { owner_at sizes biu 4 ≡ None }
     ensures with_the_schedule { map (owner_at sizes (record biu { owners = 0 ∷ 3 ∷ [] }))
         (0 ∷ 4 ∷ 5 ∷ 6 ∷ 12 ∷ 16 ∷ 19 ∷ [])
@@ -44,7 +44,7 @@ pub fn applications_and_ports()
     ensures all_lost { losses_of (record { app = 0; state = 1; faults = replicate 64 true }) ≡ 64 }
     ensures older { losses_of (record { app = 0; state = 1; faults = replicate 63 false ++ true ∷ true ∷ true ∷ [] }) ≡ 1 }
     ensures delivered { losses_of (delivered_to (record { app = 0; state = 1; faults = true ∷ false ∷ [] }) Fault) ≡ 2 }
-    // A state is handed to its own port, in its own frame, and the later one stands.
+    // A state is handed to its own port, in its own frame, and the later one counts.
     ensures states { map (λ p. p.state) (hand_over 1 (record { frame = 1; biu = 1; state = 6 } ∷ record { frame = 2; biu = 0; state = 7 } ∷ record { frame = 1; biu = 1; state = 8 } ∷ [])
         (record { app = 0; state = 1; faults = [] } ∷ record { app = 0; state = 2; faults = [] } ∷ [])) ≡ (1 ∷ 8 ∷ []) }
     ensures losses { map losses_of (hand_over 1 (record { frame = 1; biu = 0; state = 6 } ∷ []) (record { app = 0; state = 1; faults = true ∷ [] } ∷ [])) ≡ (1 ∷ []) }

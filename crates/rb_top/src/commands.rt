@@ -96,9 +96,8 @@ pub fn replay<S: Source, K: Sink>(alloc: Global, input: &mut S, output: &mut K) 
 }
 
 /// `listen SKIP`: reads the log of a BIU, gives it to a passive listener from this tick of the
-/// BIU's clock on and writes what that tells.
-///
-/// Answers come as those of `replay`; `Refused` comes of the log of an RMU, too.
+/// BIU's clock on and writes what that tells.  The answers are those of `replay`; the log of an RMU
+/// is `Refused` too.
 pub fn listen<S: Source, K: Sink>(alloc: Global, skip: u32, input: &mut S, output: &mut K) -> Status
     ensures { AnswersAlone (Listen skip) result S.left S.faults input.old input.new
         K.held K.faults output.old output.new }

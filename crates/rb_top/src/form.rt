@@ -89,7 +89,7 @@ fn tick_in(text: &str) -> Option<u32>
     }
 }
 
-// The number below 16 that stands behind the letter.
+// The number below 16 that follows the letter.
 fn index_after(letter: &str, text: &str) -> Option<u8>
     ensures some { IfSome result (λ i. (i < 16) × (text.now ≡ letter.now ++ decimal i)) }
     ensures none { IfNone result ((i : ℕ) → i < 16 → text.now ≢ letter.now ++ decimal i) }

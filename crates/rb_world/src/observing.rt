@@ -53,7 +53,7 @@ pub(crate) fn is_observed(observed: Option<NodeName>, node: NodeName) -> bool
     }
 }
 
-// The frame in which a node stands.
+// The frame in which a node is.
 fn frame_of<K: Kind>(site: &Site<K>) -> u32
     ensures { (sc : Scenario) (s : WorldSite) → StandsFor sc (side_of K.CODE) site.now s
         → result ≡ s.core.state.frame }

@@ -79,7 +79,7 @@ fn happen(bus: &Bus, apps: &Apps, run: &mut Run, time: u64, node: NodeName, even
     }
 }
 
-// An arrival that is pending at a node comes to it, and is pending no more.
+// An arrival that is pending at a node comes to it, and is no longer pending.
 pub(crate) fn hear_at<K: Kind>(
     bus: &Bus,
     node: NodeName,

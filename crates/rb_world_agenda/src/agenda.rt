@@ -242,7 +242,7 @@ impl Agenda {
         self.lanes.tick(node)
     }
 
-    /// The node's tick is pending no more. Nothing else changes.
+    /// Takes the node's pending tick away. Nothing else changes.
     #[inline(always)]
     pub fn take_tick(&mut self, node: NodeName)
         requires in_shape { HasLane self.old node }

@@ -42,7 +42,7 @@ pub(crate) fn key_of(lanes: &RunLanes, node: NodeName) -> u64
     lanes.head(node).unwrap_or(u64::MAX)
 }
 
-/// The least of the keys, and the first place at which it stands.
+/// The least of the keys, and the first place that has it.
 #[derive(Clone, Copy)]
 pub struct Front {
     pub(crate) first: usize,

@@ -33,7 +33,7 @@ struct Transmission {
     place: Place,
 }
 
-// The delay that stands in the row for the node with this number, if one does.
+// The delay that the row has for the node with this number, if it has one.
 #[inline(always)]
 fn delay_at(row: &[u32], i: u8) -> Option<u32>
     ensures { result ≡ slice_get row.now i }

@@ -27,10 +27,10 @@ mod source;
 mod spelled;
 
 /// What `robus` does with these words, a NUL byte between one and the next, and this input. Its
-/// output stands in `output`, and the answer has the number of its status, 0 to 4 or 7, and the
+/// output is put into `output`, and the answer has the number of its status, 0 to 4 or 7, and the
 /// number of bytes of the output. If there are more than `output` has room for, the status is 9 and
-/// the first of them stand there. If the words are not UTF-8, the status is 8. Beyond its output
-/// `output` is as it was.
+/// the first of them are there. If the words are not UTF-8, the status is 8. Behind the program's
+/// output `output` is as it was.
 #[unsafe(no_mangle)]
 pub extern "C" fn robus_call(alloc: Global, words: &[u8], input: &[u8], output: &mut [u8]) -> Answer
     ensures { IsBusAnswer words.now input.now output.old output.new result }
