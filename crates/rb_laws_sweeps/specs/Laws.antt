@@ -103,8 +103,7 @@ TakesLeadToTheFirstTick =
     (sc : Scenario) → IsLawful sc → (choices : List Choice) → NeedsEvent sc (world_after sc choices)
     → (me : Side) (i : ℕ) (a : Timed) → IsFirstTick (world_after sc choices) me i a → LeadsToTick sc (world_after sc choices) me i a
 
--- some tick is the first in each world that is reached, and in each world of which that one is
--- ahead
+-- some tick is the first in each world that needs an event and of which a reached world is ahead
 abbrev pub SomeTickIsFirst : Type 0
 SomeTickIsFirst =
     (sc : Scenario) → IsLawful sc → (choices : List Choice) (until : Side → ℕ → ℕ) (w : World) → world_after sc choices ≡ ahead_of sc until w → NeedsEvent sc w

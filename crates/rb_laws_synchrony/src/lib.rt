@@ -7,7 +7,8 @@ ghost use Rattle.rb_laws_synchrony.specs.OneStage.{MiddlesAreNear, MiddlesLieAmo
 
 /// In one stage of the sync slot, whatever nodes that are not good do: if good sources call a good
 /// node between two reference times, and the node accepts more from them than from others, the
-/// middle that it keeps lies between these times, give or take a tick, and it accuses none of them.
+/// middle that it keeps is not before the first of these times and at most a longest tick after the
+/// second, and it accuses none of them.
 pub fn middles_lie_among_good_calls()
     ensures { MiddlesLieAmongGoodCalls }
 {}

@@ -135,8 +135,7 @@ pub record IsReport (bytes : List ℕ) (lines : List Line) : Type 0 where
   pub in_order : ascend 0 lines ≡ true
   pub ended : end_of 0 lines ≡ last_place
 
--- the bytes begin with the text of line `l`, which has `number` bytes and may come after what
--- `newest` says
+-- the bytes begin with the text of line `l`, which has `number` bytes and a place behind `newest`
 pub record StandsFirst (bytes : List ℕ) (newest : ℕ) (l : Line) (number : ℕ) : Type 0 where
   pub spelled : take number bytes ≡ line_text l
   pub some_byte : 0 < number
@@ -159,8 +158,8 @@ BeginsWithNoLine bytes = (l : Line) (tail : List ℕ) → Fits l → bytes ≢ l
 abbrev pub FindsEach : List ℕ → ℕ → Result (Line × ℕ) Fault → Type 0
 FindsEach bytes newest result = (l : Line) (tail : List ℕ) → Fits l → bytes ≡ line_text l ++ tail → newest < line_place l → result ≡ Ok (l, length (line_text l))
 
--- the first `number` bytes are the text of these lines, each in its place, and the last one leads
--- to `newest`
+-- the first `number` bytes are the text of these lines, each in its place, and `newest` is the
+-- place of the last one
 pub record SoFar (bytes : List ℕ) (number : ℕ) (lines : List Line) (newest : ℕ) : Type 0 where
   pub within : number ≤ length bytes
   pub spelled : take number bytes ≡ text_of_lines lines
