@@ -5,7 +5,9 @@ library    the public types and calls of a crate (tools/promises)
 claims     what the documents name, and whether it is there (tools/promises)
 shape      the shape of the code in numbers (tools/shape)
 atlas      how definitions, calls, laws and mutants hang together, and where their pages are
-markup, markdown, pages, reading, front, documents, build: the pages (tools/site)
+proofs     which proofs rest on the lemma of a law
+instances  which computed cases meet the premises of a law
+markup, markdown, pages, laws, reading, front, documents, build: the pages (tools/site)
 links, browser: their check
 
 Nothing here is installed with the package `robus`."""

@@ -55,9 +55,14 @@ def call_anchor(name: str) -> str:
     return "call." + name.replace("::", ".")
 
 
+def is_law(crate: str) -> bool:
+    """Whether the calls of a crate are laws."""
+    return crate.startswith("rb_laws_")
+
+
 def call_url(crate: str, name: str) -> str:
     """The page and anchor of a call; that of a law is a page of its own."""
-    if crate.startswith("rb_laws_"):
+    if is_law(crate):
         return f"laws/{crate}/{name.replace('::', '.')}.html"
     return f"crates/{crate}.html#{call_anchor(name)}"
 
@@ -102,6 +107,11 @@ def anchor_of(heading: str) -> str:
     """The anchor of a heading."""
     kept = re.sub(r"[^\w\s-]", "", heading.replace("`", "").lower())
     return re.sub(r"\s+", "-", kept.strip())
+
+
+def is_instance(law: Function) -> bool:
+    """Whether a law is a computed instance: it states more than the name of a definition."""
+    return not all(re.fullmatch(r"\w+", it.text) for it in law.clauses)
 
 
 class Atlas:
@@ -162,12 +172,18 @@ class Atlas:
         """The cases that compute each definition: those that name it, or name a definition of the
         tests that does."""
         found: dict[Place, list[Function]] = {}
-        for crate in COMPUTED:
-            for file in sources_of(crate):
-                for it in module(file).functions:
-                    for place in self.computed_by(it):
-                        found.setdefault(place, []).append(it)
+        for it in self.computed:
+            for place in self.computed_by(it):
+                found.setdefault(place, []).append(it)
         return found
+
+    @functools.cached_property
+    def computed(self) -> list[Function]:
+        """The computed cases: those of the crates of cases, and the laws that are instances."""
+        found = [it for crate in COMPUTED for file in sources_of(crate)
+                 for it in module(file).functions]
+        return found + [call.function for crate, _, call in self.calls()
+                        if is_law(crate) and is_instance(call.function)]
 
     def computed_by(self, case: Function) -> list[Place]:
         """The definitions that a computed case names, through definitions of the tests or not."""
@@ -256,7 +272,7 @@ class Atlas:
     def law_url(self, name: str) -> Optional[str]:
         """The address of a law that is named without its crate."""
         found = [crate for crate, library in self.libraries.items()
-                 if crate.startswith("rb_laws_") and name in library.calls]
+                 if is_law(crate) and name in library.calls]
         return call_url(found[0], name) if len(found) == 1 else None
 
     def module_url(self, name: str) -> Optional[str]:

@@ -9,15 +9,17 @@ from pathlib import Path
 from typing import Iterator
 
 from robus.errors import BadArgument
-from robus_docs.atlas import (Atlas, call_anchor, call_url, crate_of, definition_of, mutant_url,
-                              mutants_of, url_of)
+from robus_docs.atlas import (Atlas, call_anchor, call_url, crate_of, definition_of, is_law,
+                              mutant_url, mutants_of, url_of)
 from robus_docs.documents import Documents, Package
 from robus_docs.front import front
 from robus_docs.markup import page
-from robus_docs.pages import COMPUTED, Laws, Pages, first_sentence
+from robus_docs.instances import Instances
+from robus_docs.laws import Laws
+from robus_docs.pages import COMPUTED, Pages, first_sentence
+from robus_docs.proofs import Proofs
 from robus_docs.reading import Reading
-from robus_docs.source import (CRATES, TOP, crates, definitions_of, imports_of, module, sources_of,
-                               text_of)
+from robus_docs.source import CRATES, TOP, crates, definitions_of, module, sources_of, text_of
 
 Name = tuple[str, str, str, str]  # a name, its kind, its address, and its comment
 
@@ -31,7 +33,7 @@ class Site:
         self.documents = Documents(self.atlas)
         self.pages = Pages(self.atlas, self.documents)
         self.reading = Reading(self.atlas, self.pages)
-        self.laws = Laws(self.pages, citing_proofs(self.atlas))
+        self.laws = Laws(self.pages, Proofs(self.atlas), Instances(self.atlas))
         self.package = Package(self.documents.renderer())
         self.count = 0
 
@@ -100,7 +102,7 @@ class Site:
                 kind = f"field of {it.name} of {crate_of(place[0])}"
                 yield field, kind, url_of(place), short(said)
         for crate, name, call in self.calls():
-            kind = "law" if crate.startswith("rb_laws_") else "call"
+            kind = "law" if is_law(crate) else "call"
             said = short(first_sentence(call.docstring))
             yield f"{crate}::{name}", kind, call_url(crate, name), said
             for clause in call.function.clauses:
@@ -141,21 +143,3 @@ class Site:
 def short(text: str) -> str:
     """A comment for the list of a search."""
     return textwrap.shorten(text, 160, placeholder=" ..")
-
-
-def citing_proofs(atlas: Atlas) -> dict[str, list[Path]]:
-    """By name of a law, the files of proofs that use the lemma which is its proof."""
-    users: dict[tuple[str, str], list[Path]] = {}
-    for path in sorted(CRATES.glob("*/proofs/**/*.antt")):
-        for parts, name in imports_of(path.read_text(encoding="utf-8")).values():
-            if name and "proofs" in parts:
-                users.setdefault((".".join(parts), name), []).append(path)
-    found = {}
-    for crate, law, _ in atlas.calls():
-        own = CRATES / crate / f"proofs/{law}/Answers.antt"
-        if crate.startswith("rb_laws_") and own.exists():
-            text = text_of(own)
-            said = re.search(r"(?m)^returns [^=]*= *([^\s;()]+)", text)
-            parts, name = imports_of(text).get(said.group(1) if said else "", ([], None))
-            found[law] = [it for it in users.get((".".join(parts), name), []) if it != own]
-    return found

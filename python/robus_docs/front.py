@@ -3,7 +3,7 @@ from __future__ import annotations
 
 import re
 
-from robus_docs.atlas import Atlas, key_of
+from robus_docs.atlas import Atlas, is_law, key_of
 from robus_docs.markup import anchor, count, escape
 from robus_docs.reading import Reading
 
@@ -49,7 +49,7 @@ def front(reading: Reading, atlas: Atlas) -> str:
     promise, premise = (re.sub(r"\[([^|\]]+)\|([^\]]+)\]", phrase, it)
                         for it in (PROMISE, PREMISE))
     size = count(len(reading.places()), "definition")
-    laws = sum(1 for crate, _, _ in atlas.calls() if crate.startswith("rb_laws_"))
+    laws = sum(1 for crate, _, _ in atlas.calls() if is_law(crate))
     items = [
         (anchor("promise.html", "The promise, read downwards"),
          f"the {size} that say it, from the top call to the ground, to be ticked off"),

@@ -18,6 +18,7 @@ class Page(HTMLParser):
     def __init__(self, url: str, text: str) -> None:
         super().__init__(convert_charrefs=True)
         self.url, self.anchors, self.links = url, set(), []
+        self.hidden: set[int] = set()  # the places in links of those that a click must show first
         self.faults: list[str] = []
         self.open: list[str] = []
         self.feed(text)
@@ -34,7 +35,11 @@ class Page(HTMLParser):
             if mark in self.anchors:
                 self.faults.append(f"{self.url}: two anchors {mark}")
             self.anchors.add(mark)
-        self.links += [it for it in (values.get("href"), values.get("src")) if it is not None]
+        for link in (values.get("href"), values.get("src")):
+            if link is not None:
+                if tag != "a" or "details" in self.open:
+                    self.hidden.add(len(self.links))
+                self.links.append(link)
         if tag == "p" and "p" in self.open or tag == "a" and "a" in self.open:
             self.faults.append(f"{self.url}: <{tag}> within <{tag}>, line {self.getpos()[0]}")
         if tag not in VOID:
@@ -47,9 +52,12 @@ class Page(HTMLParser):
         else:
             self.open.pop()
 
-    def targets(self) -> Iterator[Target]:
-        """The places in the folder to which the page leads."""
-        for link in self.links:
+    def targets(self, without_hidden: bool = False) -> Iterator[Target]:
+        """The places in the folder to which the page leads, or to which links lead that a reader
+        sees at once."""
+        for at, link in enumerate(self.links):
+            if without_hidden and at in self.hidden:
+                continue
             found = urlparse(link)
             if not found.scheme:
                 path = os.path.normpath(os.path.join(os.path.dirname(self.url), found.path))
@@ -84,12 +92,13 @@ def place_faults(pages: dict[str, Page], wanted: list[str]) -> Iterator[str]:
 
 
 def clicks_to(pages: dict[str, Page], start: str, wanted: str) -> Optional[list[str]]:
-    """The fewest clicks that lead from a page to an address, as the addresses in between."""
+    """The fewest clicks on visible links that lead from a page to an address, as the addresses in
+    between."""
     url, _, mark = wanted.partition("#")
     todo, seen = collections.deque([(start, [])]), {start}
     while todo:
         here, clicks = todo.popleft()
-        for page, anchor in pages[here].targets():
+        for page, anchor in pages[here].targets(without_hidden=True):
             if (page, anchor) == (url, mark):
                 return [*clicks, wanted]
             if page in pages and page not in seen:

@@ -69,7 +69,12 @@ def bound_in(text: str) -> set[str]:
 
 
 def code(text: str, here: Module, link: Link, own: str = "") -> str:
-    """Code of a file with each name as a link to its definition."""
+    """Lines of code of a file with each name as a link to its definition."""
+    return f"<pre>{words_of_code(text, here, link, own)}</pre>"
+
+
+def words_of_code(text: str, here: Module, link: Link, own: str = "") -> str:
+    """Code of a file, within a line, with each name as a link to its definition."""
     bound = bound_in(text)
     types = {name: (file, name) for file, name in
              rust_types(re.findall(r"\w+", text), here)} if here.is_source else {}
@@ -87,7 +92,7 @@ def code(text: str, here: Module, link: Link, own: str = "") -> str:
         else:
             parts.append(escape(said))
         before = said
-    return f"<pre><code>{''.join(parts)}</code></pre>"
+    return f"<code>{''.join(parts)}</code>"
 
 
 def word(said: str, here: Module, link: Link, types: dict[str, Place]) -> str:

@@ -4,15 +4,13 @@ from __future__ import annotations
 import re
 import textwrap
 from pathlib import Path
-from typing import Iterator
 
 from robus_docs.atlas import (COMPUTED, Atlas, call_anchor, call_url, crate_of, definition_of,
-                              key_of, mutant_url, mutants_of, url_of)
+                              is_law, key_of, mutant_url, mutants_of, url_of)
 from robus_docs.documents import Documents
 from robus_docs.library import Call
 from robus_docs.markup import anchor, code, count, details, escape, named
-from robus_docs.source import (CRATES, Function, Place, crates, definitions_of, meaning_of, module,
-                               sources_of)
+from robus_docs.source import (CRATES, Function, Place, crates, definitions_of, module, sources_of)
 
 
 class Pages:
@@ -62,8 +60,7 @@ class Pages:
 
     def case(self, it: Function) -> str:
         """A computed case, as a link."""
-        url = f"crates/{crate_of(it.file)}.html#{call_anchor(it.name)}"
-        return anchor(url, f"<code>{escape(it.name)}</code>")
+        return named(call_url(crate_of(it.file), it.name), it.name)
 
     def sentences(self, url: str) -> list[str]:
         """The sentences of the documents that name what is at an address."""
@@ -91,7 +88,7 @@ class Pages:
         places = self.atlas.in_contract(call)
         rests = [f"{named(url_of(it), it[1])} {self.comment(crate, definition_of(it).comment)}"
                  for it in places]
-        title = (anchor(call_url(crate, name), escape(name)) if crate.startswith("rb_laws_")
+        title = (anchor(call_url(crate, name), escape(name)) if is_law(crate)
                  else f'<a href="#{anchor_name}">{escape(name)}</a>')
         return (f'<section class="call" id="{anchor_name}"><h3>{title}</h3>'
                 f"{self.prose(crate, call.docstring)}{self.contract(call)}"
@@ -216,95 +213,6 @@ class Pages:
                 said = listed.replace("<h2>Definitions</h2>", "")
                 parts.append(f"<h2>{anchor(f'crates/{crate}.html', crate)}</h2>{said}")
         return "".join(parts)
-
-
-class Laws:
-    """The pages of laws: contracts of functions that do nothing."""
-
-    def __init__(self, pages: Pages, citing: dict[str, list[Path]]) -> None:
-        self.pages, self.atlas, self.citing = pages, pages.atlas, citing
-
-    def all(self) -> Iterator[tuple[str, str, Call]]:
-        """Each law with its crate and name, those of the promise first."""
-        laws = [it for it in self.atlas.calls() if it[0].startswith("rb_laws_")]
-        yield from sorted(laws, key=lambda it: it[0] != "rb_laws_promise")
-
-    def page(self, crate: str, name: str, call: Call) -> str:
-        """The page of a law: statement, premises, instances, and who cites it."""
-        places = self.atlas.in_contract(call)
-        said = self.pages.prose(crate, call.docstring)
-        parts = [f'<h1>{escape(name)}</h1><div class="lead">{said}</div>',
-                 f"<p>A law of {anchor(f'crates/{crate}.html', crate)}.</p>",
-                 self.pages.contract(call)]
-        parts += [self.pages.definition(it, away=True) for it in places]
-        premises = self.premises(call)
-        if premises:
-            items = "".join(f"<li>{self.premise(it)}</li>" for it in premises)
-            parts.append(f"<h2>Premises</h2><ul>{items}</ul>")
-        parts.append(self.sentences(crate, name))
-        return "".join(parts) + self.cited(name)
-
-    def cited(self, name: str) -> str:
-        """The proofs that cite a law: of calls, and of lemmas."""
-        items = []
-        for path in self.citing.get(name, []):
-            crate, _, *rest = path.relative_to(CRATES).with_suffix("").parts
-            calls = self.atlas.libraries[crate].calls if crate in self.atlas.libraries else {}
-            call = next((it for it in calls if it in rest or it.split("::")[-1] in rest), None)
-            said = (f"{named(call_url(crate, call), f'{crate}::{call}')}, in its proof" if call else
-                    f"<code>{crate}/proofs/{'/'.join(rest)}</code>")
-            items.append(f"<li>{said}</li>")
-        if not items:
-            return "<p>No other proof uses the lemma that proves this law.</p>"
-        return f"<h2>Cited by {count(len(items), 'proof')}</h2><ul>{''.join(items)}</ul>"
-
-    def premises(self, call: Call) -> list[Place]:
-        """The predicates to the left of an arrow in the statement of a law."""
-        here, found = module(call.file), {}
-        texts = [(here, it.text) for it in call.function.clauses]
-        texts += [(module(file), "\n".join(definition_of((file, name)).lines[1:]))
-                  for file, name in self.atlas.in_contract(call)]
-        for there, text in texts:
-            for premise in re.split("→", text)[:-1]:
-                found.update(dict.fromkeys(
-                    it for it in predicates(premise, there.file) if it[0].suffix == ".antt"))
-        return list(found)
-
-    def premise(self, place: Place) -> str:
-        """A premise with the computed cases that meet it."""
-        cases = [self.pages.case(it) for it in self.atlas.cases.get(place, [])]
-        more = f", and {len(cases) - 8} more" if len(cases) > 8 else ""
-        met = f"computed in {', '.join(cases[:8])}{more}" if cases else "no computed case names it"
-        comment = self.pages.comment(crate_of(place[0]), definition_of(place).comment)
-        said = f": {comment}" if comment else ""
-        return f"{named(url_of(place), place[1])}{said} <small>({met})</small>"
-
-    def sentences(self, crate: str, name: str) -> str:
-        """The sentences of PROMISES that name a law."""
-        items = "".join(f"<li>{it}</li>" for it in self.pages.sentences(call_url(crate, name)))
-        return f"<h2>In the documents</h2><ul>{items}</ul>" if items else ""
-
-    def index(self) -> str:
-        """The list of all laws."""
-        said = "A law is the contract of a function that does nothing."
-        parts, last = [f"<h1>Laws</h1><p>{said}</p>"], ""
-        for crate, name, call in self.all():
-            if crate != last:
-                about = self.pages.prose(crate, self.atlas.libraries[crate].about)
-                parts.append(f"<h2>{anchor(f'crates/{crate}.html', crate)}</h2>{about}")
-                last = crate
-            said = self.pages.comment(crate, first_sentence(call.docstring))
-            parts.append(f"<p>{named(call_url(crate, name), name)}: {said}</p>")
-        return "".join(parts)
-
-
-def predicates(text: str, file: Path) -> Iterator[Place]:
-    """The predicates, whose names begin with capitals, that a text applies to something."""
-    bare = re.sub(r"\([\w' ]+ : [^)]*\)", "", text)
-    for found in re.finditer(r"(?:^|[(\s])([A-Z]\w+) (?=[\w(])", bare):
-        meant = meaning_of(module(file), found.group(1))
-        if isinstance(meant, tuple):
-            yield meant
 
 
 def document_of(url: str) -> str:

@@ -17,6 +17,8 @@ HEAD = re.compile(rf"((?:abbrev |unfoldable |pub |record |data )*)({WORD}|◌\S+
 NO_HEAD = ("use ", "--", " ", "pub mod", "pub use", "infix")
 FUNCTION = re.compile(
     r'(?m)^[ \t]*(pub(?:\(\w+\))? )?(?:const |unsafe |extern *"[^"]*" *)*fn (\w+)')
+LEMMA = re.compile(r"((?:pub |abbrev |unfoldable |record |data )*)([^\s:(]+)(?: [({].*[)}])? : (.*)")
+PROOF_WORD = re.compile(r"(\.?)([^\s.:;,(){}\[\]λ∀@]+)")
 CLAUSE = re.compile(r"\s*(ensures|requires)\b\*?\s*(\w+)?\s*\{")
 NO_CODE = re.compile(r"""//[^\n]*|r(#+)".*?"\1|"(?:\\.|[^"\\])*"|'(?:\\[^']+|[^'\\\n])'""", re.S)
 Import = tuple[list[str], Optional[str]]  # a module's name in parts, and the name in it if one is
@@ -37,6 +39,16 @@ class Definition:
         """The fields of a record, each with the comment behind it."""
         found = (re.match(r"  pub (\w+) :(?:.*?-- (.*))?", line) for line in self.lines)
         return {it.group(1): it.group(2) or "" for it in found if it}
+
+
+@dataclass(frozen=True)
+class Lemma:
+    """A lemma or definition of a file of proofs."""
+    name: str
+    kind: str  # abbrev, unfoldable, record, data, or nothing
+    line: int  # of its head, from 1
+    statement: str  # in one line
+    words: frozenset[str]  # of its statement and proof, without those that it binds itself
 
 
 @dataclass(frozen=True)
@@ -64,7 +76,12 @@ class Function:
     code: str  # the head with the contract, as in the file
     clauses: tuple[Clause, ...]
     arguments: int
-    body_lines: int
+    body: str  # what is between its braces, without comments and literals
+
+    @property
+    def body_lines(self) -> int:
+        """The lines between the first of the body and the last."""
+        return max(0, self.body.count("\n") - 1)
 
     @property
     def full_name(self) -> str:
@@ -172,6 +189,19 @@ def imports_of(text: str) -> dict[str, Import]:
     return found
 
 
+def free_words(lines: Iterable[str]) -> frozenset[str]:
+    """The words of lines of a proof, but for comments, for fields behind a dot or before `=`, and
+    for names that the lines bind."""
+    text = "\n".join(line.partition("-- ")[0] for line in lines)
+    bound: set[str] = set()
+    for pattern in (r"[({]((?:[^\s(){}:]+ )+): ", r"λ ([^.()]+)\.", r"\blet (\S+) :",
+                    r"(?m)^[^\s:]+ ([^:=\n]+) =(?: |$)"):
+        for names in re.findall(pattern, text):
+            bound.update(re.findall(r"[^\s(){}]+", names))
+    text = re.sub(r"(?m)(^\s+(?:pub )?|[{;] )[^\s(){};]+ (?=[=:] )", r"\1", text)
+    return frozenset(word for dot, word in PROOF_WORD.findall(text) if not dot) - bound
+
+
 class Module:
     """A file: its imports, its definitions or types, and its functions."""
 
@@ -226,6 +256,22 @@ class Module:
                                      self.comment_above(place))
         return found
 
+    @functools.cached_property
+    def lemmas(self) -> dict[str, Lemma]:
+        """Each lemma and definition of a file of proofs."""
+        heads = [(at, found) for at, line in enumerate(self.lines)
+                 if not line.startswith(NO_HEAD) and (found := LEMMA.match(line))]
+        ends = [at for at, _ in heads[1:]] + [len(self.lines)]
+        found = {}
+        for (start, head), end in zip(heads, ends):
+            last = start + 1
+            while last < end and self.lines[last].startswith(" "):
+                last += 1
+            said = " ".join([head.group(3), *(it.strip() for it in self.lines[start + 1:last])])
+            found[head.group(2)] = Lemma(head.group(2), head.group(1).replace("pub ", "").strip(),
+                                         start + 1, said, free_words(self.lines[start:end]))
+        return found
+
     def types(self) -> dict[str, Definition]:
         """Each public type of a source, with its model behind it."""
         found = {}
@@ -278,17 +324,17 @@ class Module:
         begin, contract = found.start(), head_end(self.bare, found.end())
         owner = next((it for it in self.owners if it[0] < begin < it[1]), None)
         clauses, end = clauses_of(self.text, self.bare, contract)
-        body = re.compile(r"\s*\{").match(self.bare, end)
-        lines = 0
-        if body:
-            lines = self.bare.count("\n", body.end(), block_end(self.bare, body.end() - 1))
+        start = re.compile(r"\s*\{").match(self.bare, end)
+        body = ""
+        if start:
+            body = self.bare[start.end():block_end(self.bare, start.end() - 1) - 1]
         is_test = "#[test]" in self.text[max(0, begin - 40):begin]
         return Function(self.file, owner[2] if owner else None, found.group(2), self.line_at(begin),
                         found.group(1) == "pub ", "extern" in found.group(0),
                         bool(owner and owner[3]), is_test, docstring_before(self.text, begin),
                         textwrap.dedent(self.text[begin:contract].rstrip()),
                         textwrap.dedent(self.text[begin:end].rstrip()), clauses,
-                        count_arguments(self.bare[begin:contract]), max(0, lines - 1))
+                        count_arguments(self.bare[begin:contract]), body)
 
     def rust_uses(self) -> Iterator[tuple[str, str]]:
         """The names that a source uses, each with its crate."""
@@ -315,6 +361,12 @@ def sources_of(crate: str) -> tuple[Path, ...]:
 def definitions_of(crate: str) -> tuple[Path, ...]:
     """The files of definitions of a crate, in order."""
     return tuple(sorted((CRATES / crate / "specs").rglob("*.antt")))
+
+
+@functools.lru_cache(maxsize=None)
+def proofs_of(crate: str) -> tuple[Path, ...]:
+    """The files of proofs of a crate, in order."""
+    return tuple(sorted((CRATES / crate / "proofs").rglob("*.antt")))
 
 
 @functools.lru_cache(maxsize=None)
