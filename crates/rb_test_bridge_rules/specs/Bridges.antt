@@ -1,10 +1,12 @@
 -- The bridges of the worked cases, and what is said of them.
 use Rattle.std.specs.Prelude.{ℕ, ◌+◌, ◌==◌, if◌then◌else◌, Option, Some, None, List, [], ◌∷◌, codes, get_or, replicate, take}
 use Rattle.rb_base.specs.Sizes.{Sizes}
+use Rattle.rb_base.specs.declared.values.Delivery.{Delivery}
+use Rattle.rb_base.specs.declared.values.Heard.TheVariants.{Word}
 use Rattle.rb_rules.specs.declared.message.Version.TheVariants.{One}
 use Rattle.rb_rules.specs.declared.plan.Plan.{Plan}
 use Rattle.rb_rules.specs.Book.{Record}
-use Rattle.rb_rules.specs.Book.Record.{Ended}
+use Rattle.rb_rules.specs.Book.Record.{Ended, Slot}
 use Rattle.rb_rules.specs.Goodness.{Scenario}
 use Rattle.rb_rules.specs.Rounds.{records_of}
 use Rattle.rb_rules_bridge.specs.declared.bank.Pair.{Pair}
@@ -89,6 +91,27 @@ other_slots = broad (triple 10 20 30 None) (triple 50 60 70 None) (pair 0 1 ∷ 
 abbrev pub other_slots_text : List ℕ
 other_slots_text = codes "x 1 left B0 60\nx 1 left B1 60\nx 1 left B2 60\nx 1 right B0 10\nx 1 right B1 10\nx 1 right B2 10\nend 2\n"
 
+-- pairs whose numbers on the two buses are not the same set
+abbrev pub crossed : Bridge
+crossed = broad (triple 10 20 30 None) (triple 50 60 70 None) (pair 0 1 ∷ pair 1 2 ∷ [])
+
+abbrev pub crossed_text : List ℕ
+crossed_text = codes "x 1 left B0 60\nx 1 left B1 60\nx 1 left B2 60\nx 1 right B0 10\nx 1 right B1 10\nx 1 right B2 10\nend 2\n"
+
+-- a pair joins BIUs 0 and 2. BIU 2 of the left bus, which is in no pair, is not good in the carried slot
+abbrev pub crossed_by_few : Bridge
+crossed_by_few = broad (triple 10 20 30 (Some (0, 3))) (triple 50 60 70 None) (pair 0 2 ∷ pair 1 1 ∷ [])
+
+abbrev pub crossed_by_few_text : List ℕ
+crossed_by_few_text = codes "x 1 left B0 60\nx 1 left B1 60\nx 1 right B0 10\nx 1 right B1 10\nx 1 right B2 10\nend 2\n"
+
+-- a bus of one BIU and one of three
+abbrev pub unlike_buses : Bridge
+unlike_buses = narrow (single 1 2 7 None) (triple 50 60 70 None) 0 1
+
+abbrev pub unlike_buses_text : List ℕ
+unlike_buses_text = codes "x 1 left B0 60\nx 1 right B0 7\nx 1 right B1 7\nx 1 right B2 7\nend 2\n"
+
 abbrev pub outvoted : Bridge
 outvoted = broad (triple 10 20 30 (Some (0, 3))) (triple 50 60 70 None) (pair 0 0 ∷ pair 1 1 ∷ pair 2 2 ∷ [])
 
@@ -143,3 +166,18 @@ first_told = take 11 all_told
 
 abbrev pub next_told : Record
 next_told = get_or all_told 11 Ended
+
+-- a bus delivers two values of BIU 0 and, between them, one of BIU 1
+abbrev pub two_of_a_sender : List Delivery
+two_of_a_sender =
+    record { frame = 0; slot = 3; sender = 0; value = Word 10 }
+    ∷ record { frame = 0; slot = 4; sender = 1; value = Word 12 }
+    ∷ record { frame = 0; slot = 5; sender = 0; value = Word 11 }
+    ∷ []
+
+-- of two values of BIU 0 one is delivered at receiver 0, and the other at receiver 1
+abbrev pub one_at_each : List Record
+one_at_each =
+    Slot 0 3 (record { receiver = 0; sender = 0; value = Word 10 } ∷ [])
+    ∷ Slot 0 4 (record { receiver = 1; sender = 0; value = Word 11 } ∷ [])
+    ∷ []

@@ -1,6 +1,6 @@
 -- Lies at the edges of what may be said in the sync slot, a rule of delay, and what lies beyond
 -- each edge.
-use Rattle.std.specs.Prelude.{[], ◌∷◌, replicate, Some, None}
+use Rattle.std.specs.Prelude.{ℕ, [], ◌∷◌, replicate, Some, None}
 use Rattle.rb_rules.specs.declared.link.Pattern.TheVariants.{One, AllBiu, AllRmu}
 use Rattle.rb_rules.specs.declared.link.Rule.{Rule}
 use Rattle.rb_rules.specs.declared.say.Content.TheVariants.{Word, Sync}
@@ -9,9 +9,13 @@ use Rattle.rb_rules.specs.Goodness.{Scenario}
 use Rattle.rb_test_rules.specs.Buses.{b, r, says, raw}
 use Rattle.rb_test_rules.specs.Ordinary.{ordinary_use}
 
--- RMU 1, which is not good in the sync slot, says this
+-- RMU 1, which is not good from this slot on, says this
+abbrev pub saying_from : ℕ → Say → Scenario
+saying_from slot say = record ordinary_use { rmu_onsets = None ∷ Some (0, slot) ∷ None ∷ []; says = say ∷ [] }
+
+-- the same where it is not good in the sync slot alone
 abbrev pub saying : Say → Scenario
-saying say = record ordinary_use { rmu_onsets = None ∷ Some (0, 19) ∷ None ∷ []; says = say ∷ [] }
+saying say = saying_from 19 say
 
 -- a call to all BIUs in the sync slot's stage 2, which has 18 ticks
 abbrev pub call : Say

@@ -5,7 +5,7 @@ ghost use Rattle.std.specs.Prelude.{[], ◌∷◌, None, Some, replicate};
 ghost use Rattle.rb_rules.specs.declared.link.Pattern.TheVariants.{AllBiu, AllRmu, One};
 ghost use Rattle.rb_rules.specs.Lawful.{IsLawful};
 ghost use Rattle.rb_test_rules.specs.Buses.{b, r, raw, steady, ticking};
-ghost use Rattle.rb_test_rules.specs.Lawful.{call, lies_at_the_edge, rule_of_calls, ruled_by, saying};
+ghost use Rattle.rb_test_rules.specs.Lawful.{call, lies_at_the_edge, rule_of_calls, ruled_by, saying, saying_from};
 ghost use Rattle.rb_test_rules.specs.Lies.{two_sided};
 ghost use Rattle.rb_test_rules.specs.Ordinary.{greatest_drift, ordinary_use, smallest_bus};
 ghost use Rattle.rb_test_rules.specs.Resynchronisation.{apart_in_time};
@@ -35,9 +35,9 @@ pub fn beyond_the_edge()
     ensures after_the_window { ¬ IsLawful (saying (record call { offset = 18 })) }
     ensures after_the_tail { ¬ IsLawful (saying (record call { stages = (4, 4); offset = 39 })) }
     ensures early_in_another_slot { ¬ IsLawful
-        (saying (record call { slots = (18, 19); early = 1 })) }
+        (saying_from 18 (record call { slots = (18, 19); early = 1 })) }
     ensures tail_of_another_slot { ¬ IsLawful
-        (saying (record call { slots = (18, 19); stages = (3, 4) })) }
+        (saying_from 18 (record call { slots = (18, 19); stages = (3, 4) })) }
     ensures to_its_own_kind { ¬ IsLawful (saying (record call { to = AllRmu })) }
     ensures no_bytes { ¬ IsLawful (saying (record call { content = raw [] })) }
     ensures by_a_good_node { ¬ IsLawful (saying (record call { from = r 0 })) }

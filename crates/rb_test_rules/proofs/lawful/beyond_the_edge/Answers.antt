@@ -2,12 +2,15 @@ use Rattle.std.proofs.Common.{arith, inl, inr, refl}
 use Rattle.std.proofs.lemmas.Bool.{true≢false}
 use Rattle.rb_rules.specs.Lawful.{IsLawful, IsSayOf}
 use Rattle.rb_rules.specs.declared.say.Say.{Say}
-use Rattle.rb_test_rules.specs.Lawful.{saying}
+use Rattle.rb_test_rules.specs.Lawful.{saying, saying_from}
 use Rattle.rb_test_rules.proofs.lawful.beyond_the_edge.Goals as goal
 
 -- the sole entry of a lawful scenario is one of it
 said : (say : Say) → IsLawful (saying say) → IsSayOf (saying say) say
 said say lawful = lawful.says 0 say (omega arith)
+
+said_from_18 : (say : Say) → IsLawful (saying_from 18 say) → IsSayOf (saying_from 18 say) say
+said_from_18 say lawful = lawful.says 0 say (omega arith)
 
 pub returns-clause-a_tick_early : goal.returns-clause-a_tick_early
 returns-clause-a_tick_early c = λ l. let e = (said _ l).early in omega arith
@@ -19,10 +22,10 @@ pub returns-clause-after_the_tail : goal.returns-clause-after_the_tail
 returns-clause-after_the_tail c = λ l. let e = (said _ l).offset (record { frame = 0; slot = 19; stage = 4 }) refl in omega arith
 
 pub returns-clause-early_in_another_slot : goal.returns-clause-early_in_another_slot
-returns-clause-early_in_another_slot c = λ l. elim ((said _ l).early_in_sync) [ inl e ↦ omega arith | inr e ↦ let first = e.0 in omega arith ]
+returns-clause-early_in_another_slot c = λ l. elim ((said_from_18 _ l).early_in_sync) [ inl e ↦ omega arith | inr e ↦ let first = e.0 in omega arith ]
 
 pub returns-clause-tail_of_another_slot : goal.returns-clause-tail_of_another_slot
-returns-clause-tail_of_another_slot c = λ l. elim ((said _ l).tail) [ inl e ↦ omega arith | inr e ↦ let first = e.0 in omega arith ]
+returns-clause-tail_of_another_slot c = λ l. elim ((said_from_18 _ l).tail) [ inl e ↦ omega arith | inr e ↦ let first = e.0 in omega arith ]
 
 pub returns-clause-to_its_own_kind : goal.returns-clause-to_its_own_kind
 returns-clause-to_its_own_kind c = λ l. let e = (said _ l).unlike_kinds in cc

@@ -1,0 +1,20 @@
+use Rattle.std.proofs.Common.{◌<◌, arith, refl}
+use Rattle.std.proofs.lemmas.Bool.{true≢false}
+use Rattle.rb_rules.specs.Lawful.{IsLawful, IsSayOf}
+use Rattle.rb_rules.specs.declared.say.Say.{Say}
+use Rattle.rb_test_rules.proofs.LawfulTests.{lawful_by_tests}
+use Rattle.rb_test_rules.specs.Lawful.{saying}
+use Rattle.rb_test_rules.specs.Ordinary.{ordinary_use}
+use Rattle.rb_test_rules.proofs.edges.scenarios.Goals as goal
+
+said : (say : Say) → IsLawful (saying say) → IsSayOf (saying say) say
+said say lawful = lawful.says 0 say (omega arith)
+
+pub returns-clause-good_at_first : goal.returns-clause-good_at_first
+returns-clause-good_at_first c = λ l. true≢false (said _ l).faulty
+
+pub returns-clause-no_byte : goal.returns-clause-no_byte
+returns-clause-no_byte c = λ l. let e : 256 < 256 = (said _ l).content.each 0 0 (omega arith) in omega arith
+
+pub returns-clause-most_frames : goal.returns-clause-most_frames
+returns-clause-most_frames c = lawful_by_tests (record ordinary_use { frames = 4096 }) refl
