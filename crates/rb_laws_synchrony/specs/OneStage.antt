@@ -64,8 +64,8 @@ pub record HearsGoodCalls (plan : Plan) (good : ℕ → Bool) (low high : ℕ) (
   pub called : (j : ℕ) → good j ≡ true → IsCalledBetween x.clock low high (x.came j)
   pub most : count_if (λ j. not (good j) && is_some (stamp_taken x j)) (numbers 16) < count_if good (numbers 16)
 
--- the node keeps a middle, whose time is at least `low` and at most a longest tick after `high`; and
--- it accuses none of the good sources
+-- the node keeps a middle, whose time is at least `low` and at most a longest tick after `high`;
+-- and it accuses none of the good sources
 pub record KeepsMiddle (plan : Plan) (good : ℕ → Bool) (low high : ℕ) (x : Listener) : Type 0 where
   pub tick : ℕ
   pub kept : middle_kept x ≡ Some tick

@@ -123,11 +123,11 @@ pub fn evidence()
 
 /// What the fault premise is judged by.
 pub fn sights()
-    // Who calls at one of several receivers was seen unlike.
+    // A node whose call only one of several receivers took was seen unlike.
     ensures call_at_one { (classes_of Biu (call_at_one ∷ [])).asymmetric ≡ 4 }
-    // Of a node that says only Faults something was taken.
+    // Something was accepted from a node that says only Faults.
     ensures fault_at_all { (classes_of Biu (fault_at_all ∷ [])).symmetric ≡ 4 }
-    // With a new frame the stages of the one before are judged no more.
+    // Once a new frame begins, the stages of the one before are no longer judged.
     ensures new_frame { length (with_frame ordinary_use 0 (begun ∷ [])
         (record fresh_book { stages = silence ∷ [] })).stages
         ≡ 0 }
