@@ -1,4 +1,4 @@
-//! What of a scenario tells who is asked.
+//! The parts of a scenario that decide which receivers are reported.
 ghost use Rattle.rb_scenario.specs.Acceptance.{as_scenario};
 ghost use Rattle.rb_group_run.specs.Holding.{IsScopeOf};
 

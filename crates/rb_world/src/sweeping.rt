@@ -197,7 +197,7 @@ fn catch_up_at<K: Kind, T: Observer>(
     sweep_for(setup, node, until, site, agenda, observer);
 }
 
-// All nodes of a kind are.
+// Sweeps every node of one kind.
 fn catch_up_all<K: Kind, T: Observer>(
     setup: &Setup<'_>,
     tick: (NodeName, u64),
