@@ -193,7 +193,7 @@ fn trusts_biu(shape: &Shape, records: &[Sense; 1808], i: u8) -> bool
     i < shape.biu() && most_in(shape, records, u16::from(i))
 }
 
-// Whether RMU `j` is.
+// Whether RMU `j` is trusted.
 fn trusts_rmu(shape: &Shape, records: &[Sense; 1808], j: u8) -> bool
     requires { j < 16 }
     ensures { result ≡ trusts_rmu shape.now records.now j }
@@ -214,7 +214,7 @@ fn trusted_bius(shape: &Shape, records: &[Sense; 1808]) -> NodeSet<Biu>
     trusted
 }
 
-// The RMUs.
+// The RMUs that are trusted.
 fn trusted_rmus(shape: &Shape, records: &[Sense; 1808]) -> NodeSet<Rmu>
     ensures { result ≡ trusted_rmus shape.now records.now }
 {
@@ -273,7 +273,7 @@ fn recorded_value(records: &[Sense; 1808], rmus: NodeSet<Rmu>, slot: u16, j: u8)
     }
 }
 
-// The stamp.
+// The stamp that is recorded of a trusted RMU.
 fn recorded_stamp(records: &[Sense; 1808], rmus: NodeSet<Rmu>, slot: u16, j: u8) -> Option<u64>
     requires slot { slot ≤ 112 }
     requires rmu { j < 16 }
@@ -340,7 +340,7 @@ fn convicted_bius(
     ballot.convicted(rmus, bius)
 }
 
-// The RMUs that they convict.
+// The RMUs that the votes convict.
 fn convicted_rmus(
     shape: &Shape,
     records: &[Sense; 1808],

@@ -36,7 +36,7 @@ pub struct Listener {
     stage: Stage,
     // What it heard before it decided. Its ticks are counted here until it follows.
     search: Search,
-    // What it follows by, once it does.
+    // The follower with which the listener follows, once it does.
     follower: Follower,
 }
 
@@ -56,7 +56,7 @@ impl Model for Listener {
     ghost invariant = { λ l. IsSound l.plan.sizes l.plan.plan l.stage l.search l.follower };
 }
 
-// What a listener tells that tells nothing.
+// What a listener tells if it has nothing to tell.
 fn no_heed() -> Heed
     ensures { result ≡ no_heed }
 {

@@ -80,7 +80,7 @@ fn pass(search: &mut Search, plan: &Feasible, frame: u16)
     }
 }
 
-// There may be one.
+// There may be a pass.
 fn if_pass(search: &mut Search, plan: &Feasible)
     requires { search.old.had ≤ 2 ^ 31 }
     ensures { search.new ≡ passing plan.now.sizes plan.now.plan search.old }
