@@ -48,7 +48,12 @@ class Lemma:
     kind: str  # abbrev, unfoldable, record, data, or nothing
     line: int  # of its head, from 1
     statement: str  # in one line
-    words: frozenset[str]  # of its statement and proof, without those that it binds itself
+    lines: tuple[str, ...]  # with its proof, and with what is below that up to the next
+
+    @functools.cached_property
+    def words(self) -> frozenset[str]:
+        """The words of the statement and the proof, without those that it binds itself."""
+        return free_words(self.lines)
 
 
 @dataclass(frozen=True)
@@ -269,7 +274,7 @@ class Module:
                 last += 1
             said = " ".join([head.group(3), *(it.strip() for it in self.lines[start + 1:last])])
             found[head.group(2)] = Lemma(head.group(2), head.group(1).replace("pub ", "").strip(),
-                                         start + 1, said, free_words(self.lines[start:end]))
+                                         start + 1, said, tuple(self.lines[start:end]))
         return found
 
     def types(self) -> dict[str, Definition]:
