@@ -73,22 +73,30 @@ class Laws:
         """Which cases meet the premises of a law, in words."""
         if not found:
             return f"{NONE}: no case states one of these premises."
-        ways = [" with ".join(self.pages.case(case) for case in it.cases) for it in found]
-        cases = ", or ".join(ways[:MOST_NAMED])
-        if len(ways) > MOST_NAMED:
-            cases += f", or {len(ways) - MOST_NAMED} more"
+        cases = self.in_words(found)
         left = [it for it in premises if it not in found[0].facts]
         own = [it for it in left if not it.within]
         if not left:
-            return f"<b>Computed instance</b>: {cases} states all of them."
+            return f"<b>Computed instance</b>: {cases} all of them."
         lacking = f"No case states {', '.join(map(self.said, own or left))}."
         if not own:
-            return (f"<b>Computed instance</b>: {cases} states the premises of the law. Its "
+            return (f"<b>Computed instance</b>: {cases} the premises of the law. Its "
                     f"conclusion has premises, too. {lacking}")
         if any(it.predicate for it in own) or not any(it.predicate for it in found[0].facts):
-            return (f"{NONE}: {lacking[0].lower()}{lacking[1:]} What else is "
-                    f"asked is in {cases}.")
-        return f"<b>Computed instance</b>: {cases} states the predicates. {lacking}"
+            others = cases.replace("each of", "Each of", 1)
+            return f"{NONE}: {lacking[0].lower()}{lacking[1:]} {others} the others."
+        return f"<b>Computed instance</b>: {cases} the predicates. {lacking}"
+
+    def in_words(self, found: list[Instance]) -> str:
+        """The cases of instances as the subject of a sentence, with the verb `state`."""
+        ways = [[self.pages.case(case) for case in it.cases] for it in found]
+        if len(ways) == 1:
+            together = " together state" if len(ways[0]) > 1 else " states"
+            return " and ".join(ways[0]) + together
+        named_ways = [" with ".join(it) for it in ways]
+        if len(ways) > MOST_NAMED:
+            named_ways[MOST_NAMED:] = [f"{len(ways) - MOST_NAMED} more"]
+        return f"each of {', '.join(named_ways[:-1])} and {named_ways[-1]} states"
 
     def said(self, premise: Premise) -> str:
         """A premise as code."""
@@ -100,7 +108,8 @@ class Laws:
         if premise.predicate and (comment := definition_of(premise.predicate).comment):
             said += f": {self.pages.comment(crate_of(premise.predicate[0]), comment)}"
         if premise.within:
-            said += f" <small>(asked by {named(url_of(premise.within), premise.within[1])})</small>"
+            asking = named(url_of(premise.within), premise.within[1])
+            said += f" <small>(asked by {asking})</small>"
         fact = instance.facts.get(premise)
         if not fact:
             return f"{said}<br>no case states this"
@@ -130,8 +139,8 @@ class Laws:
 
     def index(self) -> str:
         """The list of all laws."""
-        said = ("A law is the contract of a function that does nothing. Behind each is whether a "
-                "case computes an instance of its premises, and how many proofs rest on it.")
+        said = ("A law is the contract of a function that does nothing. The small print says "
+                "whether a case computes an instance of its premises, and what rests on it.")
         parts, last = [f"<h1>Laws</h1><p>{said}</p>"], ""
         for crate, name, call in self.all():
             if crate != last:
