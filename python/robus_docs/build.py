@@ -2,7 +2,6 @@
 from __future__ import annotations
 
 import json
-import re
 import shutil
 import textwrap
 from pathlib import Path
@@ -33,6 +32,7 @@ class Site:
         self.documents = Documents(self.atlas)
         self.pages = Pages(self.atlas, self.documents)
         self.reading = Reading(self.atlas, self.pages)
+        self.pages.promised = self.reading.number
         self.laws = Laws(self.pages, Proofs(self.atlas), Instances(self.atlas))
         self.package = Package(self.documents.renderer())
         self.count = 0

@@ -6,7 +6,7 @@ from pathlib import Path
 from typing import Iterator
 
 from robus_docs.library import Library, libraries
-from robus_docs.source import CRATES, TOP, crates, text_of
+from robus_docs.source import CRATES, TOP, crates, module, text_of
 
 PAGES = ["PROMISES", "PROOF", "RULES", "ARCHITECTURE", "DECISIONS", "CONTRIBUTING", "SCENARIOS",
          "COSIMULATION", "FORMATS", "robus", "robus_bridge", "robus_picture"]
@@ -61,8 +61,7 @@ def cell_faults(cell: str, among: list[str], known: dict[str, Library]) -> Itera
             files = files_named([path.group(1)] if path else here, path.group(2) if path else name)
             if not files:
                 yield f"there is no file `{name}` in {', '.join(here)}"
-        elif not any(re.search(rf"(?m)^(?:\w+ )*{re.escape(name)}\s*:", text_of(it))
-                     for it in files):
+        elif not any(name in module(it).lemmas for it in files):
             if not any(name in library.calls for library in known.values()):
                 yield f"`{name}` is no law, and no lemma of the file that stands before it"
 

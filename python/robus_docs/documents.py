@@ -42,29 +42,30 @@ class Documents:
 
     def renderer(self, folder: Path = TOP) -> Renderer:
         """A renderer of texts whose links are from this folder."""
-        return Renderer(self.name, lambda link: self.follow(folder, link))
+        return Renderer(lambda said: self.name(said, folder),
+                        lambda link: self.follow(folder, link))
 
     def of_crate(self, crate: str) -> Renderer:
         """A renderer of the comments of a crate."""
         return Renderer(lambda said: named(self.atlas.url_within(crate, said), said),
                         lambda link: self.follow(TOP, link))
 
-    def name(self, said: str) -> str:
-        """A name in code font, as a link if it means something."""
+    def name(self, said: str, folder: Path) -> str:
+        """A name in code font in a document of a folder, as a link if it means something."""
         url = self.atlas.url_named(said)
         if not url and "/" in said and " " not in said:
-            url = self.path_url(said)
+            url = self.path_url(said, folder)
         if not url and (found := re.match(r"(tools/\w+|make \w+)", said)):
             word = found.group(1)
             url = self.file_url(TOP / (word if word.startswith("tools/") else "Makefile"))
         return named(url, said)
 
-    def path_url(self, said: str) -> Optional[str]:
-        """The address of a path of the repository or below crates/."""
-        for path in (TOP / said.strip("/"), CRATES / said.strip("/")):
+    def path_url(self, said: str, folder: Path) -> Optional[str]:
+        """The address of a path of the repository, below crates/, or below a folder."""
+        for path in (TOP / said.strip("/"), CRATES / said.strip("/"), folder / said.strip("/")):
             for suffix in ("", ".antt", ".rt"):
                 file = path.with_name(path.name + suffix) if suffix else path
-                if file.is_file() and TOP in file.resolve().parents:
+                if TOP in file.resolve().parents and (file.is_file() or is_kept(file)):
                     return self.file_url(file)
         return None
 
@@ -91,6 +92,8 @@ class Documents:
                 return self.known[path / "README.md"]
             if path == TOP / "docs":
                 return "docs/index.html"
+            if CRATES in path.parents:
+                return f"crates/{path.relative_to(CRATES).parts[0]}.html"
         if path in self.known:
             return self.known[path]
         if path == TOP / "include/robus.h":
@@ -165,6 +168,11 @@ class Documents:
     def header_names(self) -> list[str]:
         """The names of the header's calls and types."""
         return names_declared(text_of(TOP / "include/robus.h"))
+
+
+def is_kept(folder: Path) -> bool:
+    """Whether a folder is one of the repository, and was not made by a build."""
+    return folder.is_dir() and "out" not in folder.parts
 
 
 def with_code(text: str) -> str:

@@ -170,7 +170,7 @@ def matched(said: str, stated: str, values: Values, variables: frozenset[str],
 
 def field_matched(said: str, stated: str, values: Values, variables: frozenset[str],
                   loosely: bool) -> Optional[Values]:
-    """The same of one word that is a field of something."""
+    """The values with which a field of something is what a case states."""
     found = re.fullmatch(r"(\(.*\)|\w+)((?:\.\w+)+)", said)
     if found and stated.endswith(found.group(2)):
         owner = stated.removesuffix(found.group(2))

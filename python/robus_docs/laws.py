@@ -13,6 +13,7 @@ from robus_docs.proofs import Proofs
 from robus_docs.source import CRATES, module
 
 MOST_NAMED = 8  # cases in one sentence
+NONE = "<b>No computed instance</b>"
 
 
 class Laws:
@@ -44,7 +45,7 @@ class Laws:
         title = "<h2>Premises, and a computed instance</h2>"
         if is_instance(call.function):
             return f"{title}<p>This law is a computed instance itself.</p>"
-        premises = tuple(it for place in self.atlas.in_contract(call) for it in premises_of(place))
+        premises = self.premises_in(call)
         if not premises:
             return f"{title}<p>This law has no premises: none need be met.</p>"
         found = self.instances.of_law(premises)
@@ -52,26 +53,50 @@ class Laws:
         items = "".join(f"<li>{self.premise(it, instance)}</li>" for it in premises)
         return f"{title}<p>{self.verdict(premises, found)}</p><ul>{items}</ul>"
 
+    def premises_in(self, call: Call) -> tuple[Premise, ...]:
+        """The premises of a law."""
+        return tuple(it for place in self.atlas.in_contract(call) for it in premises_of(place))
+
+    def standing(self, crate: str, name: str, call: Call) -> str:
+        """Whether a law has a computed instance, and what rests on it, in a few words."""
+        citing = self.proofs.citing((crate, name))
+        resting = [count(len(found), one) for found, one in
+                   ((citing.calls, "public call"), (citing.laws, "other law")) if found]
+        premises = () if is_instance(call.function) else self.premises_in(call)
+        verdict = self.verdict(premises, self.instances.of_law(premises)) if premises else ""
+        kind = ("a computed instance" if is_instance(call.function) else "no premises"
+                if not premises else "no computed instance" if NONE in verdict else "computed")
+        on_it = f"on it {' and '.join(resting)}" if resting else "stands for itself"
+        return f"{kind} · {on_it}"
+
     def verdict(self, premises: tuple[Premise, ...], found: list[Instance]) -> str:
         """Which cases meet the premises of a law, in words."""
         if not found:
-            return "<b>No computed instance</b>: no case states one of these premises."
-        ways = [" with ".join(self.pages.case(case) for case in it.cases) for it in found]
-        cases = ", or ".join(ways[:MOST_NAMED])
-        if len(ways) > MOST_NAMED:
-            cases += f", or {len(ways) - MOST_NAMED} more"
+            return f"{NONE}: no case states one of these premises."
+        cases = self.in_words(found)
         left = [it for it in premises if it not in found[0].facts]
         own = [it for it in left if not it.within]
         if not left:
-            return f"<b>Computed instance</b>: {cases} states all of them."
+            return f"<b>Computed instance</b>: {cases} all of them."
         lacking = f"No case states {', '.join(map(self.said, own or left))}."
         if not own:
-            return (f"<b>Computed instance</b>: {cases} states the premises of the law. Its "
+            return (f"<b>Computed instance</b>: {cases} the premises of the law. Its "
                     f"conclusion has premises, too. {lacking}")
         if any(it.predicate for it in own) or not any(it.predicate for it in found[0].facts):
-            return (f"<b>No computed instance</b>: {lacking[0].lower()}{lacking[1:]} What else is "
-                    f"asked is in {cases}.")
-        return f"<b>Computed instance</b>: {cases} states the predicates. {lacking}"
+            others = cases.replace("each of", "Each of", 1)
+            return f"{NONE}: {lacking[0].lower()}{lacking[1:]} {others} the others."
+        return f"<b>Computed instance</b>: {cases} the predicates. {lacking}"
+
+    def in_words(self, found: list[Instance]) -> str:
+        """The cases of instances as the subject of a sentence, with the verb `state`."""
+        ways = [[self.pages.case(case) for case in it.cases] for it in found]
+        if len(ways) == 1:
+            together = " together state" if len(ways[0]) > 1 else " states"
+            return " and ".join(ways[0]) + together
+        named_ways = [" with ".join(it) for it in ways]
+        if len(ways) > MOST_NAMED:
+            named_ways[MOST_NAMED:] = [f"{len(ways) - MOST_NAMED} more"]
+        return f"each of {', '.join(named_ways[:-1])} and {named_ways[-1]} states"
 
     def said(self, premise: Premise) -> str:
         """A premise as code."""
@@ -83,7 +108,8 @@ class Laws:
         if premise.predicate and (comment := definition_of(premise.predicate).comment):
             said += f": {self.pages.comment(crate_of(premise.predicate[0]), comment)}"
         if premise.within:
-            said += f" <small>(asked by {named(url_of(premise.within), premise.within[1])})</small>"
+            asking = named(url_of(premise.within), premise.within[1])
+            said += f" <small>(asked by {asking})</small>"
         fact = instance.facts.get(premise)
         if not fact:
             return f"{said}<br>no case states this"
@@ -113,7 +139,8 @@ class Laws:
 
     def index(self) -> str:
         """The list of all laws."""
-        said = "A law is the contract of a function that does nothing."
+        said = ("A law is the contract of a function that does nothing. The small print says "
+                "whether a case computes an instance of its premises, and what rests on it.")
         parts, last = [f"<h1>Laws</h1><p>{said}</p>"], ""
         for crate, name, call in self.all():
             if crate != last:
@@ -121,5 +148,6 @@ class Laws:
                 parts.append(f"<h2>{anchor(f'crates/{crate}.html', crate)}</h2>{about}")
                 last = crate
             said = self.pages.comment(crate, first_sentence(call.docstring))
-            parts.append(f"<p>{named(call_url(crate, name), name)}: {said}</p>")
+            parts.append(f"<p>{named(call_url(crate, name), name)}: {said} "
+                         f"<small>{self.standing(crate, name, call)}</small></p>")
         return "".join(parts)

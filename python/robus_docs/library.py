@@ -6,11 +6,10 @@ import textwrap
 from pathlib import Path
 from typing import Iterable, Iterator, Optional
 
-from robus_docs.source import (CRATES, Definition, Function, Place, blanked, crates,
-                               docstring_before, meaning_of, module, sources_of, text_of)
+from robus_docs.source import (CRATES, Definition, Function, Place, crates, meaning_of, module,
+                               sources_of)
 
 NO_LIBRARY = {"rb_test_rules", "rb_test_bridge_rules", "rb_bench", "rb_test_parts"}
-TYPE = re.compile(r"(?m)^pub (?:struct|enum|trait) (\w+)")
 
 
 def libraries() -> list[str]:
@@ -18,28 +17,6 @@ def libraries() -> list[str]:
     no libraries."""
     return [it for it in sorted(crates())
             if (CRATES / it / "src/lib.rt").exists() and it not in NO_LIBRARY]
-
-
-def exports_of(crate: str) -> tuple[set[str], set[str]]:
-    """The modules of a crate that are public as a whole, and the names that it exports from the
-    others."""
-    text = blanked(text_of(CRATES / crate / "src/lib.rt"))
-    names = set(re.findall(r"(?m)^pub (?:struct|enum|trait|fn) (\w+)", text))
-    pattern = r"(?m)^pub use (?:crate::)?[\w:]*?(?:::)?(?:\{([^}]*)\}|(\w+));"
-    for found in re.finditer(pattern, text):
-        names.update(re.findall(r"\w+", found.group(1) or found.group(2)))
-    return {"lib"} | set(re.findall(r"(?m)^pub mod (\w+)", text)), names
-
-
-def seen_in(text: str, bare: str, begin: int, end: int) -> Iterator[str]:
-    """What clauses see of a type: the ghost items of a trait with their docstrings, and of an impl
-    the value that a model gives."""
-    is_trait = bare.startswith("pub trait", begin)
-    kept = r"ghost (?!use\b)(\w+)[^\n]*;" if is_trait else r"ghost (Value) = [^\n]*;"
-    for found in re.finditer(rf"(?m)^    {kept}", bare[begin:end]):
-        said = docstring_before(text, begin + found.start()) if is_trait else ""
-        yield from (f"/// {line}" for line in said.split("\n") if line)
-        yield found.group(0).strip()
 
 
 class Call:
@@ -82,7 +59,7 @@ class Library:
     def __init__(self, crate: str) -> None:
         self.crate, self.types, self.seen, self.calls = crate, {}, {}, {}
         self.about = module(CRATES / crate / "src/lib.rt").about
-        modules, names = exports_of(crate)
+        modules, names = module(CRATES / crate / "src/lib.rt").exports
         for path in sources_of(crate):
             if path.name != "tests.rt" and "tests" not in path.parts:
                 self.read(path, names, path.stem in modules)
@@ -91,15 +68,11 @@ class Library:
         """Adds the contents of a file: of a public module all that is public in it, of another one
         the names that the crate exports."""
         here = module(path)
-        bare = here.bare
-        own = re.findall(r"(?m)^pub (?:struct|enum|trait|fn) (\w+)", bare) if is_public else ()
-        given = names | set(own)
-        for found in TYPE.finditer(bare):
-            if found.group(1) in given:
-                self.types[found.group(1)] = docstring_before(here.text, found.start())
-        for begin, end, name, _ in here.owners:
+        given = names | set(here.public_names if is_public else ())
+        self.types.update({name: said for name, said in here.public_types.items() if name in given})
+        for name, lines in here.seen:
             if name in given:
-                self.seen.setdefault(name, []).extend(seen_in(here.text, bare, begin, end))
+                self.seen.setdefault(name, []).extend(lines)
         for it in here.functions:
             if (it.owner or it.name) in given and not it.is_test:
                 if it.is_public or (it.is_of_trait and it.clauses):

@@ -18,6 +18,7 @@ class Pages:
 
     def __init__(self, atlas: Atlas, documents: Documents) -> None:
         self.atlas, self.renderer, self.documents = atlas, documents.renderer(), documents
+        self.promised: Container[Place] = ()  # the definitions of the promise, read downwards
 
     def prose(self, crate: str, text: str) -> str:
         """A docstring of a crate as HTML, with the names in it as links."""
@@ -35,6 +36,8 @@ class Pages:
         home = anchor(url_of(place), f"{crate_of(place[0])}, {place[0].stem}") + " · "
         size = self.atlas.count_behind(place)
         behind = f"rests on {count(size, 'other')}" if size else "rests on nothing else here"
+        if place in self.promised:
+            behind += " · " + anchor(f"promise.html#{key_of(place)}", "where the promise needs it")
         mark = escape(url_of(place).partition("#")[2])
         return (f'<section class="definition" id="{mark}" data-key="{escape(key_of(place))}">'
                 f'<h3><a href="#{mark}">{escape(it.name)}</a> '

@@ -142,11 +142,11 @@ class Reading:
         for at, ((title, said, _), part) in enumerate(zip(PARTS, self.parts), 1):
             parts.append(f'<h2 id="part.{at}">{at}. {escape(title)}</h2>'
                          f"<p>{self.pages.renderer.inline(said)}</p>")
-            parts += [self.entry(place, among) for place in part]
+            parts += [self.entry(place, among, at) for place in part]
         return "\n".join(parts)
 
-    def entry(self, place: Place, among: int) -> str:
-        """A definition with how much of the whole is behind it."""
+    def entry(self, place: Place, among: int, part: int) -> str:
+        """A definition of a part with how much of the whole is behind it."""
         it, here, key = definition_of(place), module(place[0]), key_of(place)
         size = self.atlas.count_behind(place, among)
         share = round(100 * size / (len(self.number) - 1))
@@ -157,7 +157,8 @@ class Reading:
         users = [named(self.link(it), it[1]) for it in self.atlas.users.get(place, [])
                  if it in self.number]
         return (f'<section class="definition" id="{key}" data-key="{key}">'
-                f'<h3><a href="#{key}">{escape(it.name)}</a> <small>{home} · {behind}</small></h3>'
+                f'<h3><a href="#{key}">{escape(it.name)}</a> <small>{home} · '
+                f'<a href="#part.{part}">part {part}</a> · {behind}</small></h3>'
                 f"{self.way(place)}{said}{code(chr(10).join(it.lines), here, self.link, it.name)}"
                 + details(f"Used by {count(len(users), 'definition')} of this page", users)
                 + "</section>")

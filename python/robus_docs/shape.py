@@ -6,13 +6,11 @@ import re
 from pathlib import Path
 from typing import Iterator
 
-from robus_docs.source import CRATES, Function, crates, module, sources_of, text_of
+from robus_docs.source import CRATES, Function, crates, module, proofs_of, sources_of, text_of
 
 LONG, LONGER = 400, 800  # characters of a contract
 MANY_ARGUMENTS, LONG_BODY, WIDE = 7, 40, 100
-LEMMA = re.compile(r"^(?:pub )?([^\s:(]+) : (.*)$")
 TOKEN = re.compile(r"[\w'\-₀-₉ᶠ]+|\S")
-NO_LEMMA = ("use", "abbrev", "--", "unfoldable")
 Place = tuple[int, str]  # how much, and where
 
 
@@ -31,7 +29,7 @@ def functions() -> Iterator[Function]:
 def proofs() -> Iterator[Path]:
     """The files of proofs."""
     for crate in crates():
-        yield from sorted((CRATES / crate / "proofs").rglob("*.antt"))
+        yield from proofs_of(crate)
 
 
 @functools.lru_cache(maxsize=None)
@@ -43,18 +41,9 @@ def depth_of(crate: str) -> int:
 
 def statements_in(file: Path) -> Iterator[tuple[str, int, str]]:
     """The lemmas of a file: each statement with its bound names numbered, its line and its name."""
-    lines, at = text_of(file).split("\n"), 0
-    while at < len(lines):
-        found = LEMMA.match(lines[at])
-        if not found or lines[at].startswith(NO_LEMMA):
-            at += 1
-            continue
-        said, end = found.group(2), at + 1
-        while end < len(lines) and lines[end].startswith(" "):
-            said, end = f"{said} {lines[end].strip()}", end + 1
-        if "goal." not in said:
-            yield numbered(said), at + 1, found.group(1)
-        at = end
+    for it in module(file).lemmas.values():
+        if not it.kind and "goal." not in it.statement:
+            yield numbered(it.statement), it.line, it.name
 
 
 def numbered(said: str) -> str:

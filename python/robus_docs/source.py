@@ -17,7 +17,8 @@ HEAD = re.compile(rf"((?:abbrev |unfoldable |pub |record |data )*)({WORD}|◌\S+
 NO_HEAD = ("use ", "--", " ", "pub mod", "pub use", "infix")
 FUNCTION = re.compile(
     r'(?m)^[ \t]*(pub(?:\(\w+\))? )?(?:const |unsafe |extern *"[^"]*" *)*fn (\w+)')
-LEMMA = re.compile(r"((?:pub |abbrev |unfoldable |record |data )*)([^\s:(]+)(?: [({].*[)}])? : (.*)")
+LEMMA = re.compile(
+    r"((?:pub |abbrev |unfoldable |record |data )*)([^\s:(]+)(?: [({].*[)}])? : (.*)")
 PROOF_WORD = re.compile(r"(\.?)([^\s.:;,(){}\[\]λ∀@]+)")
 CLAUSE = re.compile(r"\s*(ensures|requires)\b\*?\s*(\w+)?\s*\{")
 NO_CODE = re.compile(r"""//[^\n]*|r(#+)".*?"\1|"(?:\\.|[^"\\])*"|'(?:\\[^']+|[^'\\\n])'""", re.S)
@@ -48,7 +49,12 @@ class Lemma:
     kind: str  # abbrev, unfoldable, record, data, or nothing
     line: int  # of its head, from 1
     statement: str  # in one line
-    words: frozenset[str]  # of its statement and proof, without those that it binds itself
+    lines: tuple[str, ...]  # with its proof, and with what is below that up to the next
+
+    @functools.cached_property
+    def words(self) -> frozenset[str]:
+        """The words of the statement and the proof, without those that it binds itself."""
+        return free_words(self.lines)
 
 
 @dataclass(frozen=True)
@@ -269,7 +275,7 @@ class Module:
                 last += 1
             said = " ".join([head.group(3), *(it.strip() for it in self.lines[start + 1:last])])
             found[head.group(2)] = Lemma(head.group(2), head.group(1).replace("pub ", "").strip(),
-                                         start + 1, said, free_words(self.lines[start:end]))
+                                         start + 1, said, tuple(self.lines[start:end]))
         return found
 
     def types(self) -> dict[str, Definition]:
@@ -312,6 +318,43 @@ class Module:
                 is_of_trait = block.group(1) != "impl" or " for " in head
                 found.append((block.start(), block_end(self.bare, block.end() - 1), name.group(0),
                               is_of_trait))
+        return found
+
+    @functools.cached_property
+    def public_types(self) -> dict[str, str]:
+        """Each public type and trait of a source with its docstring."""
+        return {it.group(1): docstring_before(self.text, it.start())
+                for it in re.finditer(r"(?m)^pub (?:struct|enum|trait) (\w+)", self.bare)}
+
+    @functools.cached_property
+    def public_names(self) -> list[str]:
+        """The public types, traits and functions of a source."""
+        return re.findall(r"(?m)^pub (?:struct|enum|trait|fn) (\w+)", self.bare)
+
+    @functools.cached_property
+    def exports(self) -> tuple[set[str], set[str]]:
+        """The modules of a crate that are public as a whole, and the names that it exports from the
+        others, if this is its first source."""
+        names = set(self.public_names)
+        pattern = r"(?m)^pub use (?:crate::)?[\w:]*?(?:::)?(?:\{([^}]*)\}|(\w+));"
+        for found in re.finditer(pattern, self.bare):
+            names.update(re.findall(r"\w+", found.group(1) or found.group(2)))
+        return {"lib"} | set(re.findall(r"(?m)^pub mod (\w+)", self.bare)), names
+
+    @functools.cached_property
+    def seen(self) -> list[tuple[str, list[str]]]:
+        """By type what clauses see of it: the ghost items of a trait with their docstrings, and of
+        an impl the value that a model gives."""
+        found = []
+        for begin, end, name, _ in self.owners:
+            is_trait = self.bare.startswith("pub trait", begin)
+            kept = r"ghost (?!use\b)(\w+)[^\n]*;" if is_trait else r"ghost (Value) = [^\n]*;"
+            lines = []
+            for it in re.finditer(rf"(?m)^    {kept}", self.bare[begin:end]):
+                said = docstring_before(self.text, begin + it.start()) if is_trait else ""
+                lines += [*(f"/// {line}" for line in said.split("\n") if line),
+                          it.group(0).strip()]
+            found.append((name, lines))
         return found
 
     @functools.cached_property

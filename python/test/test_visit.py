@@ -40,7 +40,8 @@ class Visiting(unittest.TestCase):
 
     def test_clicks_on_visible_links_alone(self):
         deep = ('<p style="height: 4000px">far</p><b id="stated_skew">here</b>', "")
-        for style, faults in (("", []), ("display: none", [f"no click leads to {DEEP}#stated_skew"])):
+        lost = f"no click leads to {DEEP}#stated_skew"
+        for style, faults in (("", []), ("display: none", [lost])):
             link = f'<a style="{style}" href="{DEEP}#stated_skew">on</a>'
             self.assertEqual(self.faults("clicks", {"index.html": (link, ""), DEEP: deep}), faults)
 
