@@ -19,3 +19,5 @@ pub mod CallTicks
 pub mod EpochTicks
 pub mod NextMessages
 pub mod OneStages
+pub mod StageOfFrame
+pub mod OneFrames

@@ -98,7 +98,7 @@ pub record FindsMiddle (x : Listener) (low high : ℕ) : Type 0 where
   pub is : IsMiddle tick (present (map (stamp_taken x) (numbers 16)))
   pub between : IsBetween (stamp_of x.clock low) (stamp_of x.clock high) tick
 
-finds : (plan : Plan) (good : ℕ → Bool) (low high : ℕ) (x : Listener) → HearsGoodCalls plan good low high x → FindsMiddle x low high
+pub finds : (plan : Plan) (good : ℕ → Bool) (low high : ℕ) (x : Listener) → HearsGoodCalls plan good low high x → FindsMiddle x low high
 finds plan good low high x c =
     let some = some_middle (stamp_taken x) good (numbers 16) (λ j g. ap is_some (stamped plan good low high x c j g).is) c.most in
     record {

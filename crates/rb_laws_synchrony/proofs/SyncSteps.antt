@@ -98,7 +98,7 @@ kept_found sc hands n m s q me c first last own low high i st here k =
     ((tick_some sc hands n m s q c.stage).tick me st) k.found
 
 -- the offset of the sync slot is not 0
-f0-some : (bius rmus slots l : ℕ) → 1 ≤ bius → 1 ≤ l → 1 ≤ 3 * (2 * bius + rmus + slots) * l
+pub f0-some : (bius rmus slots l : ℕ) → 1 ≤ bius → 1 ≤ l → 1 ≤ 3 * (2 * bius + rmus + slots) * l
 f0-some bius rmus slots (suc l) some some_l =
     let e : 3 * (2 * bius + rmus + slots) * suc l ≡ 3 * (2 * bius + rmus + slots) + 3 * (2 * bius + rmus + slots) * l = omega arith in
     omega (arith, e)

@@ -28,7 +28,7 @@ pub record Steady (u d : ℕ) (clock : Timeline) : Type 0 where
   pub not_late : (tick n : ℕ) → time_of clock (tick + n) ≤ time_of clock tick + n * (u + d)
   pub stamped : (time tick : ℕ) → IsStamp clock time (suc tick) → time_of clock (suc tick) < time + (u + d)
 
-steady-clock : (plan : Plan) (f : ℕ) (clock : Timeline) → Fits plan (shortest_of plan) (drift_of plan) f → HasLengths (shortest_of plan) (longest_of plan) clock
+pub steady-clock : (plan : Plan) (f : ℕ) (clock : Timeline) → Fits plan (shortest_of plan) (drift_of plan) f → HasLengths (shortest_of plan) (longest_of plan) clock
     → Steady (shortest_of plan) (drift_of plan) clock
 steady-clock plan f clock fit lengths =
     let u : ℕ = shortest_of plan in

@@ -3,6 +3,7 @@
 #![tactic(auto)]
 
 ghost use Rattle.rb_laws_synchrony.specs.Laws.{EpochsStayNear, SlotsBeginNear, WindowsAreTimely};
+ghost use Rattle.rb_laws_synchrony.specs.OneFrame.{OneFrameKeepsTime};
 ghost use Rattle.rb_laws_synchrony.specs.OneStage.{MiddlesAreNear, MiddlesLieAmongGoodCalls};
 
 /// In one stage of the sync slot, whatever nodes that are not good do: if good sources call a good
@@ -17,6 +18,15 @@ pub fn middles_lie_among_good_calls()
 /// - dmin` and a longest tick.
 pub fn middles_are_near()
     ensures { MiddlesAreNear }
+{}
+
+/// One frame, from p to p, in a feasible plan, from any states before its sync slot, and whatever
+/// comes of the nodes that are not good. Good nodes begin the frame within `p`, trust each other,
+/// and none directly accuses another. In each stage of the sync slot they outnumber the others from
+/// which something is taken, and of one kind no node is asymmetric. Then every window is timely,
+/// good nodes begin the next frame within `p`, and still none directly accuses another.
+pub fn one_frame_keeps_time()
+    ensures { OneFrameKeepsTime }
 {}
 
 /// Good nodes begin each frame at most `p` reference units apart. A frame takes a good node all
