@@ -1,6 +1,6 @@
--- One frame, from any states before its sync slot, and whatever comes of nodes that are not good.
--- The plan is feasible, and good nodes begin the frame within p. Then all their windows are timely,
--- and they begin the next frame within p.
+-- One frame, from any states before its sync slot, and whatever nodes that are not good do. If the
+-- plan is feasible and good nodes begin the frame within p, all their windows are timely, and they
+-- begin the next frame within p.
 use Rattle.std.specs.Prelude.{ℕ, zero, suc, ◌≡◌, ◌+◌, ◌-◌, ◌*◌, ◌<◌, ◌≤◌, ◌⊎◌, not, ◌&&◌, Bool, true, false, Some, is_some}
 use Rattle.rb_base.specs.Counting.{count_if, numbers}
 use Rattle.rb_base.specs.Nodes.{Side, other}
@@ -33,17 +33,18 @@ pub record Frame : Type 0 where
   pub good : Side → ℕ → Bool
   pub clock : Side → ℕ → Timeline
   pub before : Side → ℕ → NodeState
-  pub came : ℕ → Side → ℕ → ℕ → Sense  -- in a stage, to node i of a kind, of the other's source j
+  -- in a stage, to node i of a kind, from source j of the other kind
+  pub came : ℕ → Side → ℕ → ℕ → Sense
 
 -- the number of the window of the sync slot's stage after q stages
 abbrev pub sync_window : Frame → ℕ → ℕ
 sync_window x q = 3 * sync_slot_of x.sizes + q
 
--- the window of a number, which is one before the tail
+-- the window of a number at node i of a kind; the tail is not among these windows
 abbrev pub window_in : Frame → ℕ → Side → ℕ → Window
 window_in x n me i = window_numbered x.sizes x.plan me (x.before me i) n
 
--- its first and last tick at node i of a kind
+-- the window of a number at node i of a kind, with its first and last tick
 abbrev pub span_in : Frame → ℕ → Side → ℕ → Span
 span_in x n me i = span_of (x.before me i) (window_in x n me i)
 
@@ -73,7 +74,7 @@ pub record MayArrive (plan : Plan) (clock : Timeline) (tick time : ℕ) : Type 0
   pub not_late : time ≤ time_of clock tick + plan.dmax
 
 -- a call that good source j sends at a tick arrives in time. If its stamp is a tick of the window
--- of node i, it is all that comes of j in the stage after q stages
+-- of node i, it is all that comes from j in the stage after q stages
 pub record BringsTheCall (x : Frame) (q : ℕ) (me : Side) (i j tick : ℕ) : Type 0 where
   pub time : ℕ
   pub message : Message
@@ -81,7 +82,7 @@ pub record BringsTheCall (x : Frame) (q : ℕ) (me : Side) (i j tick : ℕ) : Ty
   pub came : IsTickOf (span_in x (sync_window x q) me i) (stamp_of (x.clock me i) time)
       → x.came (q + 1) me i j ≡ One (stamp_of (x.clock me i) time) message
 
--- of a good source comes its call in a stage in which the node listens, and nothing in the others
+-- from good source j its call comes in a stage in which the node listens, and nothing in the others
 pub record HearsGoodNodes (x : Frame) (q : ℕ) (me : Side) (i j : ℕ) : Type 0 where
   pub calls : listens me Sync (q + 1) ≡ true → (tick : ℕ)
       → call_tick_of x.sizes x.plan (state_through x q (other me) j) (q + 1) ≡ Some tick
@@ -91,7 +92,8 @@ pub record HearsGoodNodes (x : Frame) (q : ℕ) (me : Side) (i j : ℕ) : Type 0
 -- What holds before.
 
 -- good nodes have good clocks, begin the frame from `low` on and within p, trust each other, accuse
--- none of each other directly, and hear each other in the sync slot. Of others anything may come
+-- none of each other directly, and hear each other in the sync slot. From other nodes anything may
+-- come
 pub record IsFrame (x : Frame) (low : ℕ) : Type 0 where
   pub shape : IsShape x.sizes
   pub plan : IsPlan x.plan
@@ -107,16 +109,16 @@ pub record IsFrame (x : Frame) (low : ℕ) : Type 0 where
   pub hears : (q : ℕ) (me : Side) (i j : ℕ) → q < 3 → x.good me i ≡ true → x.good (other me) j ≡ true
       → HearsGoodNodes x q me i j
 
--- no node of the kind is asymmetric: of each that is not good any two good nodes take near calls,
--- or none, in each stage in which they listen
+-- no node of the kind is asymmetric: from each that is not good any two good nodes accept near
+-- calls, or none, in each stage in which they listen
 abbrev pub NoneCallsUnlike : Frame → Side → Type 0
 NoneCallsUnlike x kind =
     (q a b j : ℕ) → q < 3 → listens (other kind) Sync (q + 1) ≡ true
     → x.good (other kind) a ≡ true → x.good (other kind) b ≡ true → j < 16 → x.good kind j ≡ false
     → TakeNear (x.plan.dmax - x.plan.dmin) (listener x q (other kind) a) (listener x q (other kind) b) j
 
--- the premise on faults: in each stage in which a good node listens good sources outnumber the
--- others of which it takes something, and of one kind no node is asymmetric
+-- the fault premise: in each stage in which a good node listens good sources outnumber the others
+-- from which it accepts something, and no node of one of the kinds is asymmetric
 pub record KeepsPremise (x : Frame) : Type 0 where
   pub most : (q : ℕ) (me : Side) (i : ℕ) → q < 3 → listens me Sync (q + 1) ≡ true → x.good me i ≡ true
       → count_if (λ j. not (x.good (other me) j) && is_some (stamp_taken (listener x q me i) j)) (numbers 16)
@@ -138,8 +140,8 @@ pub record IsTimelyMessage (x : Frame) (n : ℕ) (me : Side) (i j : ℕ) : Type 
   pub heard : (time : ℕ) → MayArrive x.plan (x.clock (other me) j) tick time
       → IsTickOf (span_in x n me i) (stamp_of (x.clock me i) time)
 
--- every window of the frame is timely: in each in which a good node listens each good node of the
--- other kind sends in time
+-- every window of the frame is timely: if a good node listens in it, each good node of the other
+-- kind sends in time
 abbrev pub EachMessageIsTimely : Frame → Type 0
 EachMessageIsTimely x =
     (n : ℕ) → n < 3 * sync_slot_of x.sizes + 3
@@ -157,10 +159,10 @@ pub record KeepsTime (x : Frame) : Type 0 where
   pub timely : EachMessageIsTimely x
   pub later : ℕ
   pub next : (me : Side) (i : ℕ) → x.good me i ≡ true → BeginsNext x me i later
-  -- and good nodes still trust each other, and accuse none of each other
+  -- good nodes still trust each other, and accuse none of each other directly
   pub eligible : (me : Side) (i j : ℕ) → x.good me i ≡ true → x.good (other me) j ≡ true
       → is_eligible (state_through x 3 me i).far j ≡ true
 
--- from p to p
+-- a frame that good nodes begin within p is timely, and they begin the next one within p
 abbrev pub OneFrameKeepsTime : Type 0
 OneFrameKeepsTime = (x : Frame) (low : ℕ) → IsFrame x low → KeepsPremise x → KeepsTime x

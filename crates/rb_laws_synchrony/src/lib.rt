@@ -20,11 +20,12 @@ pub fn middles_are_near()
     ensures { MiddlesAreNear }
 {}
 
-/// One frame, from p to p, in a feasible plan, from any states before its sync slot, and whatever
-/// comes of the nodes that are not good. Good nodes begin the frame within `p`, trust each other,
-/// and none directly accuses another. In each stage of the sync slot they outnumber the others from
-/// which something is taken, and of one kind no node is asymmetric. Then every window is timely,
-/// good nodes begin the next frame within `p`, and still none directly accuses another.
+/// One frame, from `p` to `p`, in a feasible plan, from any states before its sync slot, and
+/// whatever nodes that are not good do. If good nodes begin the frame within `p`, trust each other
+/// and do not accuse each other directly, if in each stage of the sync slot they outnumber the
+/// others from which something is accepted, and if no node of one of the kinds is asymmetric, then
+/// every window is timely, good nodes begin the next frame within `p`, and they still do not accuse
+/// each other directly.
 pub fn one_frame_keeps_time()
     ensures { OneFrameKeepsTime }
 {}
