@@ -94,6 +94,10 @@ class Premises(unittest.TestCase):
         self.assertEqual(cases(found), [["a_faulty_replica"]])
         self.assertEqual(set(found[0].facts), set(premises))
 
+    def test_two_nodes_are_two_if_they_may_be(self):
+        _, found = law("rb_laws_groups", "Laws", "GroupsAgree")
+        self.assertEqual({found[0].values[it] for it in ("i", "j")}, {"0", "1"})
+
     def test_two_cases_speak_of_one_scenario(self):
         _, found = law("rb_laws_events", "OwnMoments", "CoresAreThoseOfTheRounds")
         self.assertEqual(cases(found), [["alike_ports", "running_nodes"]])

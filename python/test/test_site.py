@@ -103,7 +103,8 @@ class Words(unittest.TestCase):
                          "<code>crates/robus/out</code>")
 
     def test_names_in_a_comment_become_code(self):
-        self.assertEqual(with_code("rb_top::run, docs/A.md, `rb_top::run`, in crates/robus_c/specs."),
+        said = "rb_top::run, docs/A.md, `rb_top::run`, in crates/robus_c/specs."
+        self.assertEqual(with_code(said),
                          "`rb_top::run`, `docs/A.md`, `rb_top::run`, in `crates/robus_c/specs`.")
 
 
