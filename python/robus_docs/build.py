@@ -34,6 +34,7 @@ class Site:
         self.reading = Reading(self.atlas, self.pages)
         self.pages.promised = self.reading.number
         self.laws = Laws(self.pages, Proofs(self.atlas), Instances(self.atlas))
+        self.pages.met = self.laws.met
         self.package = Package(self.documents.renderer())
         self.count = 0
 
