@@ -14,7 +14,7 @@ from types import TracebackType
 from typing import Any, Optional
 
 
-PATIENCE = 20.0  # seconds that the browser has for an answer
+PATIENCE = 60.0  # seconds that the browser has for an answer
 NAMES = ("chromium", "chromium-browser", "google-chrome")
 # The middle of the first visible element that suits, once it is in view and nothing covers it
 FIND = """(() => {
