@@ -14,7 +14,7 @@ from types import TracebackType
 from typing import Any, Optional
 
 
-PATIENCE = 20.0  # seconds that the browser has for an answer
+PATIENCE = 60.0  # seconds that the browser has for an answer
 NAMES = ("chromium", "chromium-browser", "google-chrome")
 # The middle of the first visible element that suits, once it is in view and nothing covers it
 FIND = """(() => {
@@ -60,11 +60,19 @@ class Browser:
             file_actions=[*null, (os.POSIX_SPAWN_DUP2, theirs, 3), (os.POSIX_SPAWN_DUP2, there, 4)])
         os.close(theirs)
         os.close(there)
+        try:
+            self.begin()
+        except BrowserFails:
+            self.__exit__(None, None, None)
+            raise
+        return self
+
+    def begin(self) -> None:
+        """Opens an empty page, whose texts are heard from now on."""
         target = self.ask("Target.createTarget", url="about:blank")["targetId"]
         self.session = self.ask("Target.attachToTarget", targetId=target, flatten=True)["sessionId"]
         for it in ("Page", "Runtime", "Log"):
             self.ask(f"{it}.enable")
-        return self
 
     def __exit__(self, kind: Optional[type[BaseException]], value: Optional[BaseException],
                  trace: Optional[TracebackType]) -> None:

@@ -11,7 +11,7 @@ from robus.errors import BadArgument
 from robus_docs.atlas import (Atlas, call_anchor, call_url, crate_of, definition_of, is_law,
                               mutant_url, mutants_of, url_of)
 from robus_docs.documents import Documents, Package
-from robus_docs.front import front
+from robus_docs.front import front, phrases
 from robus_docs.markup import page
 from robus_docs.instances import Instances
 from robus_docs.laws import Laws
@@ -34,6 +34,7 @@ class Site:
         self.reading = Reading(self.atlas, self.pages)
         self.pages.promised = self.reading.number
         self.laws = Laws(self.pages, Proofs(self.atlas), Instances(self.atlas))
+        self.pages.met = self.laws.met
         self.package = Package(self.documents.renderer())
         self.count = 0
 
@@ -116,11 +117,21 @@ class Site:
                 yield it.name, "mutant", mutant_url(crate, it.name), crate
         for path, url in self.documents.known.items():
             yield path.stem, "document", url, text_of(path).split("\n", 1)[0].lstrip("# ")
+        yield from self.words()
         yield from ((name, "Python", f"python.html#{name}", short(said))
                     for name, said in self.package.names())
         yield from ((name, "C", f"header.html#{name}", "")
                     for name in self.documents.header_names())
         yield from self.cases()
+
+    def words(self) -> Iterator[Name]:
+        """Words of the glossary, sections of the documents, and phrases of the promise."""
+        for word, url, said in self.documents.terms():
+            yield word, "word of the glossary", url, short(said)
+        for title, name, url in self.documents.sections():
+            yield title, f"section of {name}", url, ""
+        for phrase, url in phrases(self.reading, self.atlas).items():
+            yield phrase.replace("\n", " "), "phrase of the promise", url, ""
 
     def calls(self):
         """Each public call once, by its name."""

@@ -98,6 +98,8 @@ class Documents:
             return self.known[path]
         if path == TOP / "include/robus.h":
             return "header.html"
+        if path == TOP / "site/index.html":
+            return "index.html"
         if path.suffix == ".antt" and path.parent.name == "specs" and module(path).blocks:
             return f"definitions/{path.parent.parent.name}/{path.stem}.html"
         if not path.exists():
@@ -119,6 +121,21 @@ class Documents:
             rows.append(f"<li>{anchor(url, self.renderer().inline(title))} "
                         f"<small>{path.relative_to(TOP)}</small></li>")
         return f"<h1>Documents</h1><ul>{''.join(rows)}</ul>"
+
+    def sections(self) -> Iterator[tuple[str, str, str]]:
+        """Each section of a document: its title, the document's name, and its address."""
+        for path, url in self.known.items():
+            for title in re.findall(r"(?m)^##+ (.*)", text_of(path)):
+                yield title.replace("`", ""), path.stem, f"{url}#{anchor_of(title)}"
+
+    def terms(self) -> Iterator[tuple[str, str, str]]:
+        """Each word of the glossary: the address of its section, and its meaning."""
+        url, mark = self.known[TOP / "docs/GLOSSARY.md"], ""
+        for line in text_of(TOP / "docs/GLOSSARY.md").split("\n"):
+            if line.startswith("## "):
+                mark = anchor_of(line[3:])
+            elif found := re.fullmatch(r"\| (?!word \|)([^|]+) \| (.*) \|", line):
+                yield found.group(1), f"{url}#{mark}", found.group(2)
 
     def file_page(self, path: Path) -> str:
         """A file of the repository as it is, or the names in a folder."""
@@ -176,8 +193,9 @@ def is_kept(folder: Path) -> bool:
 
 
 def with_code(text: str) -> str:
-    """A comment with the calls and documents that it names in code font."""
-    return re.sub(r"(?<![`\w])((?:rb_\w+|robus_c)::\w+(?:::\w+)?|docs/\w+\.md)(?!`)", r"`\1`", text)
+    """A comment with the calls, documents and folders that it names in code font."""
+    names = r"(?:rb_\w+|robus_c)::\w+(?:::\w+)?|docs/\w+\.md|crates/\w+(?:/\w+)*"
+    return re.sub(rf"(?<![`\w/])({names})(?![`/])", r"`\1`", text)
 
 
 def names_declared(text: str) -> list[str]:
@@ -220,7 +238,9 @@ class Package:
 
     def said(self, node: ast.AST) -> str:
         """A docstring."""
-        return self.renderer.render(ast.get_docstring(node) or "")
+        text = ast.get_docstring(node) or ""
+        return self.renderer.render(re.sub(r"(?m)^(?!    ).+$", lambda it: with_code(it.group(0)),
+                                           text))
 
     def item(self, owner: str, node: ast.AST) -> str:
         """A class or function."""

@@ -31,6 +31,7 @@ clock, hold what the rounds hold."""
 PREMISE = """The [fault premise|rb_rules.Judging.cause_of]: in each stage, the good nodes of each
 kind outnumber the faulty trusted ones that were heard in this frame, and faulty nodes of at most
 one kind say different things to different receivers."""
+PHRASE = re.compile(r"\[([^|\]]+)\|([^\]]+)\]")
 ABOUT = """ROBUS is a fault-tolerant broadcast bus: protocol, simulator, library and node core,
 proved from the bytes of a scenario to the bytes of its report. Processors are attached to bus
 interface units (BIUs), which are linked only with redundancy management units (RMUs). While enough
@@ -38,15 +39,17 @@ nodes are good, all good BIUs deliver the same words at nearly the same time, wh
 say."""
 
 
+def phrases(reading: Reading, atlas: Atlas) -> dict[str, str]:
+    """The phrases of the promise, each with its address."""
+    places = {key_of(place): place for place in atlas.places}
+    return {text: key if "/" in key else reading.link(places[key])
+            for text, key in PHRASE.findall(PROMISE + PREMISE)}
+
+
 def front(reading: Reading, atlas: Atlas) -> str:
     """The front page."""
-    places = {key_of(place): place for place in atlas.places}
-
-    def phrase(found: re.Match[str]) -> str:
-        text, key = found.groups()
-        return anchor(key if "/" in key else reading.link(places[key]), escape(text))
-
-    promise, premise = (re.sub(r"\[([^|\]]+)\|([^\]]+)\]", phrase, it)
+    places = phrases(reading, atlas)
+    promise, premise = (PHRASE.sub(lambda it: anchor(places[it.group(1)], escape(it.group(1))), it)
                         for it in (PROMISE, PREMISE))
     size = count(len(reading.places()), "definition")
     laws = sum(1 for crate, _, _ in atlas.calls() if is_law(crate))

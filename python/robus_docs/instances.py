@@ -249,11 +249,11 @@ class Instances:
         return found
 
     def of_law(self, premises: tuple[Premise, ...]) -> list[Instance]:
-        """The instances that state the most premises, with the fewest cases, one for the same
-        cases."""
+        """The instances that state the most premises, with the fewest cases and the most facts, one
+        for the same cases."""
         found = [self.filled(it, premises) for it in self.extended(Instance(), premises)]
         order = [(-sum(1 for premise in it.facts if not premise.within), -len(it.facts),
-                  len(it.cases)) for it in found]
+                  len(it.cases), -len(set(it.facts.values()))) for it in found]
         best: dict[tuple[str, ...], Instance] = {}
         for it, size in zip(found, order):
             if size == min(order) and it.facts:

@@ -2,6 +2,8 @@
 computed instance meets its premises, and which proofs rest on it."""
 from __future__ import annotations
 
+import functools
+from pathlib import Path
 from typing import Iterator
 
 from robus_docs.atlas import call_url, crate_of, definition_of, is_instance, is_law, url_of
@@ -27,6 +29,21 @@ class Laws:
         """Each law with its crate and name, those of the promise first."""
         laws = [it for it in self.atlas.calls() if is_law(it[0])]
         yield from sorted(laws, key=lambda it: it[0] != "rb_laws_promise")
+
+    @functools.cached_property
+    def met(self) -> dict[tuple[Path, str], list[str]]:
+        """For each computed case the laws that have it as an instance, as links."""
+        found: dict[tuple[Path, str], list[str]] = {}
+        for crate, name, call in self.all():
+            premises = () if is_instance(call.function) else self.premises_in(call)
+            for instance in self.instances.of_law(premises):
+                for it in instance.cases:
+                    laws = found.setdefault((it.file, it.name), [])
+                    link = named(call_url(crate, name), name)
+                    if all(premise in instance.facts for premise in premises if premise.predicate
+                           and not premise.within) and link not in laws:
+                        laws.append(link)
+        return found
 
     def page(self, crate: str, name: str, call: Call) -> str:
         """The page of a law: statement, premises, instances, and who cites it."""

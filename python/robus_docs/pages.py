@@ -1,9 +1,10 @@
-"""The pages of crates, modules of definitions and laws."""
+"""The pages of crates and of modules of definitions."""
 from __future__ import annotations
 
 import re
 import textwrap
 from pathlib import Path
+from typing import Container, Mapping
 
 from robus_docs.atlas import (COMPUTED, Atlas, call_anchor, call_url, crate_of, definition_of,
                               is_law, key_of, mutant_url, mutants_of, url_of)
@@ -18,6 +19,7 @@ class Pages:
 
     def __init__(self, atlas: Atlas, documents: Documents) -> None:
         self.atlas, self.renderer, self.documents = atlas, documents.renderer(), documents
+        self.met: Mapping[tuple[Path, str], list[str]] = {}  # by case the laws it is an instance of
         self.promised: Container[Place] = ()  # the definitions of the promise, read downwards
 
     def prose(self, crate: str, text: str) -> str:
@@ -157,8 +159,13 @@ class Pages:
                 call = Call(it)
                 parts.append(f'<section class="call" id="{call_anchor(it.name)}">'
                              f"<h3>{escape(it.name)}</h3>{self.prose(crate, it.docstring)}"
-                             f"{self.contract(call)}</section>")
+                             f"{self.contract(call)}{self.laws_of(it)}</section>")
         return "".join(parts)
+
+    def laws_of(self, case: Function) -> str:
+        """The laws of whose premises a case is an instance."""
+        laws = self.met.get((case.file, case.name), [])
+        return details(f"An instance of the premises of {count(len(laws), 'law')}", laws)
 
     def types_of(self, crate: str) -> str:
         """The types of a crate, as in its sources."""

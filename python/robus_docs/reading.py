@@ -156,9 +156,11 @@ class Reading:
         said = f"<p>{comment}</p>" if comment else ""
         users = [named(self.link(it), it[1]) for it in self.atlas.users.get(place, [])
                  if it in self.number]
+        sentences = self.pages.sentences(url_of(place))
         return (f'<section class="definition" id="{key}" data-key="{key}">'
                 f'<h3><a href="#{key}">{escape(it.name)}</a> <small>{home} · '
                 f'<a href="#part.{part}">part {part}</a> · {behind}</small></h3>'
                 f"{self.way(place)}{said}{code(chr(10).join(it.lines), here, self.link, it.name)}"
+                + details(f"In {count(len(sentences), 'sentence')} of the documents", sentences)
                 + details(f"Used by {count(len(users), 'definition')} of this page", users)
                 + "</section>")

@@ -18,7 +18,7 @@ NO_HEAD = ("use ", "--", " ", "pub mod", "pub use", "infix")
 FUNCTION = re.compile(
     r'(?m)^[ \t]*(pub(?:\(\w+\))? )?(?:const |unsafe |extern *"[^"]*" *)*fn (\w+)')
 LEMMA = re.compile(
-    r"((?:pub |abbrev |unfoldable |record |data )*)([^\s:(]+)(?: [({].*[)}])? : (.*)")
+    r"((?:pub |abbrev |unfoldable |record |data )*)([^\s:(]+)(?: [({].*[)}])? :(?: (.*)|$)")
 PROOF_WORD = re.compile(r"(\.?)([^\s.:;,(){}\[\]λ∀@]+)")
 CLAUSE = re.compile(r"\s*(ensures|requires)\b\*?\s*(\w+)?\s*\{")
 NO_CODE = re.compile(r"""//[^\n]*|r(#+)".*?"\1|"(?:\\.|[^"\\])*"|'(?:\\[^']+|[^'\\\n])'""", re.S)
@@ -273,7 +273,8 @@ class Module:
             last = start + 1
             while last < end and self.lines[last].startswith(" "):
                 last += 1
-            said = " ".join([head.group(3), *(it.strip() for it in self.lines[start + 1:last])])
+            said = " ".join([head.group(3) or "",
+                             *(it.strip() for it in self.lines[start + 1:last])]).strip()
             found[head.group(2)] = Lemma(head.group(2), head.group(1).replace("pub ", "").strip(),
                                          start + 1, said, tuple(self.lines[start:end]))
         return found

@@ -24,7 +24,8 @@ one-step n below = two-steps n (first-step n)  -- last-step
     kept-here = x.has-set_of
 pub record Kept (kept : ℕ) : Type 0 where
   pub one-step : ℕ
-two-steps : ℕ
+two-steps :
+    ℕ
 two-steps = record { has-set_of = 2; other = one-step 1 }
 """
 
@@ -46,6 +47,7 @@ class Lemmas(unittest.TestCase):
         self.assertEqual([(it.name, it.kind, it.line) for it in found.values()],
                          [("one-step", "", 2), ("Kept", "record", 8), ("two-steps", "", 10)])
         self.assertEqual(found["one-step"].statement, "(n : ℕ) → n < 2 → P n → Q n")
+        self.assertEqual(found["two-steps"].statement, "ℕ")
         words = found["one-step"].words
         self.assertTrue({"two-steps", "first-step", "P", "Q"} <= words)
         self.assertFalse({"n", "below", "last-step", "has-set_of", "kept-here"} & words)
@@ -93,6 +95,10 @@ class Premises(unittest.TestCase):
                          ["", *["FindsTheirWord"] * 4])
         self.assertEqual(cases(found), [["a_faulty_replica"]])
         self.assertEqual(set(found[0].facts), set(premises))
+
+    def test_two_nodes_are_two_if_they_may_be(self):
+        _, found = law("rb_laws_groups", "Laws", "GroupsAgree")
+        self.assertEqual({found[0].values[it] for it in ("i", "j")}, {"0", "1"})
 
     def test_two_cases_speak_of_one_scenario(self):
         _, found = law("rb_laws_events", "OwnMoments", "CoresAreThoseOfTheRounds")

@@ -6,11 +6,11 @@ import tempfile
 import unittest
 from pathlib import Path
 
-from helpers import script
+from helpers import TOP, script
 from robus.errors import BadArgument
 from robus_docs.atlas import Atlas
 from robus_docs.build import Site
-from robus_docs.documents import Documents
+from robus_docs.documents import Documents, with_code
 from robus_docs.links import clicks_to, link_faults, place_faults, read_pages
 from robus_docs.markdown import Renderer
 from robus_docs.pages import Pages
@@ -78,6 +78,34 @@ class Folders(unittest.TestCase):
             with self.assertRaisesRegex(BadArgument, "other files than the pages"):
                 Site(Path(room)).build()
             self.assertEqual(kept.read_text(encoding="utf-8"), "mine")
+
+
+class Words(unittest.TestCase):
+    documents = Documents(Atlas())
+
+    def test_words_and_sections_have_their_places(self):
+        terms = {word: (url, said) for word, url, said in self.documents.terms()}
+        self.assertEqual(terms["faulty"], ("docs/GLOSSARY.html#faults", "Not good."))
+        self.assertNotIn("word", terms)
+        self.assertIn(("Judging: the fault premise", "RULES",
+                       "docs/RULES.html#judging-the-fault-premise"), self.documents.sections())
+
+    def test_paths_in_code_font_are_links(self):
+        for said, url in (("site/index.html", "index.html"),
+                          ("crates/rb_bus/specs", "crates/rb_bus.html"),
+                          ("rb_rules/specs/Judging", "definitions/rb_rules/Judging.html"),
+                          ("tools/site", "files/tools/site.html")):
+            self.assertEqual(self.documents.name(said, TOP),
+                             f'<a href="~/{url}"><code>{said}</code></a>')
+        example = self.documents.name("python/flight_control.py", TOP / "examples")
+        self.assertIn("files/examples/python/flight_control.py.html", example)
+        self.assertEqual(self.documents.name("crates/robus/out", TOP),
+                         "<code>crates/robus/out</code>")
+
+    def test_names_in_a_comment_become_code(self):
+        said = "rb_top::run, docs/A.md, `rb_top::run`, in crates/robus_c/specs."
+        self.assertEqual(with_code(said),
+                         "`rb_top::run`, `docs/A.md`, `rb_top::run`, in `crates/robus_c/specs`.")
 
 
 class Promise(unittest.TestCase):
