@@ -8,3 +8,4 @@ pub mod Opened
 pub mod Reported
 pub mod Counted
 pub mod Plain
+pub mod Histories

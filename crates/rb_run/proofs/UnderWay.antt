@@ -112,7 +112,7 @@ not-over k begun = by begun.world.book.ended refl
         let gave = reached-gave k.bus begun.world begun.stands.reached some.0 some.1 in
         absurd (no-record some.0 gave.0 (sym begun.given ∙ gave.1))
 
-pub begins : (k : KeptWorld) (is_plain : Bool) (told : Option (List Turn)) → HasGivenNothing k → IsUnderWay k.bus is_plain told told k [] false
+unfoldable pub begins : (k : KeptWorld) (is_plain : Bool) (told : Option (List Turn)) → HasGivenNothing k → IsUnderWay k.bus is_plain told told k [] false
 begins k is_plain told begun = record {
   world = begun.world;
   stands = begun.stands;
@@ -130,7 +130,7 @@ pub same-record : (xs : List Record) (n : ℕ) (a b : Record) → slice_get xs n
 same-record xs n a b x y = let both : Some a ≡ Some b = sym x ∙ y in cc
 
 -- what the next call gives
-pub goes : (sc : Scenario) (is_plain now : Bool) (told mid since : Option (List Turn)) (k after : KeptWorld) (turns : List Turn) (t : Turn) → IsUnderWay sc is_plain told mid k turns false
+unfoldable pub goes : (sc : Scenario) (is_plain now : Bool) (told mid since : Option (List Turn)) (k after : KeptWorld) (turns : List Turn) (t : Turn) → IsUnderWay sc is_plain told mid k turns false
     → now ≡ is_plain → (now ≡ true → (w : World) → Stands k w → GoesToNext First k after t w) → ((w : World) → Stands k w → GoesAlike k after t w)
     → after.bus ≡ k.bus → Tells mid since t → IsUnderWay sc is_plain told since after (turns ++ t ∷ []) (is_last (record_of t))
 goes sc is_plain now told mid since k after turns t is stays plain alike bus tells =
@@ -163,7 +163,7 @@ goes sc is_plain now told mid since k after turns t is stays plain alike bus tel
 
 -- What is known of it.
 
-first-given : (sc : Scenario) (is_plain : Bool) (told since : Option (List Turn)) (k : KeptWorld) (turns : List Turn) (over : Bool) → (is : IsUnderWay sc is_plain told since k turns over)
+pub first-given : (sc : Scenario) (is_plain : Bool) (told since : Option (List Turn)) (k : KeptWorld) (turns : List Turn) (over : Bool) → (is : IsUnderWay sc is_plain told since k turns over)
     → IsPrefix is.world.book.given (records_of sc [])
 first-given sc is_plain told since k turns over is =
     let rounds = events-hold k.bus is.stands.lawful in
@@ -198,7 +198,7 @@ few-turns sc is_plain told since k turns over is =
     let few = few-records sc [] (subst IsLawful is.bus is.stands.lawful) in
     omega (arith, many, all, few)
 
-whole-given : (sc : Scenario) (is_plain : Bool) (told since : Option (List Turn)) (k : KeptWorld) (turns : List Turn) → (is : IsUnderWay sc is_plain told since k turns true)
+pub whole-given : (sc : Scenario) (is_plain : Bool) (told since : Option (List Turn)) (k : KeptWorld) (turns : List Turn) → (is : IsUnderWay sc is_plain told since k turns true)
     → is.world.book.given ≡ records_of sc []
 whole-given sc is_plain told since k turns is =
     let reached = is.stands.reached in

@@ -2,3 +2,4 @@ pub mod Turns
 pub mod Reports
 pub mod Tallies
 pub mod Runs
+pub mod Histories

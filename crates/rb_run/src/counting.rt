@@ -2,6 +2,7 @@
 ghost use Rattle.std.specs.Prelude.{◌≡◌, ◌+◌, ◌^◌, ◌<◌, ◌≤◌};
 ghost use Rattle.rb_base.specs.Nodes.{size};
 ghost use Rattle.rb_world_book.specs.Records.{record_of};
+ghost use Rattle.rb_run.specs.Histories.{HasDriven};
 ghost use Rattle.rb_run.specs.Runs.{EndsWith, HasGivenNothing, TalliesAll};
 ghost use Rattle.rb_run.specs.Tallies.{convicted_in_first, counted, differences_in, greatest};
 
@@ -74,6 +75,7 @@ pub fn tally<D: Drive>(world: &mut World, apps: &Apps, drive: &mut D) -> (Ending
     ensures totals { TalliesAll world.old.bus (D.is_plain drive.old) (D.told drive.old)
         (D.told drive.new) result.1 }
     ensures ending { EndsWith world.old.bus result.0 }
+    ensures driven { HasDriven world.old.bus D.gives D.keeps drive.old drive.new }
     ensures bus { world.new.bus ≡ world.old.bus }
     ensures stays { D.is_plain drive.new ≡ D.is_plain drive.old }
 {

@@ -2,6 +2,8 @@
 //! numbers.
 #![tactic(auto)]
 
+ghost use Rattle.rb_run.specs.Histories.{MemDrivesKeepTheRun};
+
 mod counting;
 pub mod ending;
 mod report;
@@ -11,3 +13,9 @@ pub use counting::tally;
 pub use ending::Ending;
 pub use report::write_run;
 pub use totals::Totals;
+
+/// A drive that keeps its turns (`MemDrive`), and has room for all of a run, has kept exactly these
+/// after the run: with a mask those with Fault in place of each value. It still tells if it did.
+pub fn mem_drives_keep_the_run()
+    ensures { MemDrivesKeepTheRun }
+{}

@@ -4,6 +4,7 @@ ghost use Rattle.rb_world_book.specs.Records.{record_of};
 ghost use Rattle.rb_outside.specs.Causes.{HasCause};
 ghost use Rattle.rb_outside.specs.Writing.{Writes};
 ghost use Rattle.rb_report.specs.Texts.{block_text, deliveries_text};
+ghost use Rattle.rb_run.specs.Histories.{HasDriven, HasDrivenSome};
 ghost use Rattle.rb_run.specs.Reports.{convictions_text, epochs_text, newest_with, ports_text, turn_text};
 ghost use Rattle.rb_run.specs.Runs.{EndsWith, HasGivenNothing, WritesAll, WritesPart};
 
@@ -122,6 +123,9 @@ pub fn write_run<K: Sink, D: Drive>(
     ensures part { OnErr result (WritesPart world.old.bus (D.is_plain drive.old)
         (D.told drive.old) (D.told drive.new) (K.held output.old) (K.held output.new)) }
     ensures ending { IfOk result (EndsWith world.old.bus) }
+    ensures driven { OnOk result (HasDriven world.old.bus D.gives D.keeps drive.old drive.new) }
+    ensures driven_in_part { OnErr result
+        (HasDrivenSome world.old.bus D.gives D.keeps drive.old drive.new) }
     ensures cause { HasCause (K.faults output.old) (K.faults output.new) result }
     ensures bus { world.new.bus ≡ world.old.bus }
     ensures stays { D.is_plain drive.new ≡ D.is_plain drive.old }

@@ -2,12 +2,14 @@ use Rattle.std.proofs.Common.{◌≡◌, None, Some, refl, sym, ◌∙◌, arith
 use Rattle.rb_world_book.specs.Records.{record_of}
 use Rattle.rb_run.specs.Runs.{end_at}
 use Rattle.rb_run.proofs.Counted.{all-counted, none-counted, one-counted}
+use Rattle.rb_run.proofs.Histories.{has-driven, moves-on, sets-out, still-on}
 use Rattle.rb_run.proofs.UnderWay.{ends-so, few-turns, goes}
 use Rattle.rb_run.proofs.counting.tally.Goals as goal
 
 pub loop-passed-init : goal.loop-passed-init
 loop-passed-init g c = record {
   counted = none-counted c.args.world.now (g.D.Drive.is_plain c.args.drive.now) (g.D.Drive.told c.args.drive.now) _ refl c.requires;
+  way = sets-out g.D.Drive.gives g.D.Drive.keeps c.args.world.now (g.D.Drive.is_plain c.args.drive.now) (g.D.Drive.told c.args.drive.now) c.args.drive.now c.requires;
   few = omega arith;
   bus = refl;
   stays = refl;
@@ -39,6 +41,9 @@ loop-passed-preserved g c =
       counted = one-counted _ _ _ _ _ _ _ _ _ _ c.next-turn.result is (goes c.args.world.now.bus (g.D.Drive.is_plain c.args.drive.now) (g.D.Drive.is_plain c.loop-passed.drive) (g.D.Drive.told c.args.drive.now) (g.D.Drive.told c.loop-passed.drive)
           (g.D.Drive.told c.next-turn.new.self) c.loop-passed.world c.next-turn.new.world is.turns c.next-turn.result is.given c.loop-passed.invariant.stays
           c.next-turn.ensures.plain c.next-turn.ensures.alike c.next-turn.ensures.bus c.next-turn.ensures.told) c.count-totals.ensures.counted going;
+      way = still-on _ _ _ _ _ _ _ _ _ c.next-turn.result (moves-on g.D.Drive.gives g.D.Drive.keeps c.args.world.now.bus (g.D.Drive.is_plain c.args.drive.now) _ (g.D.Drive.told c.args.drive.now) _
+          _ c.args.drive.now c.loop-passed.drive c.next-turn.new.self c.loop-passed.world c.next-turn.new.world c.next-turn.result c.loop-passed.invariant.way c.loop-passed.invariant.stays
+          c.next-turn.ensures.plain c.next-turn.ensures.alike c.next-turn.ensures.bus c.next-turn.ensures.told c.next-turn.ensures.gives c.next-turn.ensures.keeps) going;
       few = omega (arith, more, few);
       bus = c.next-turn.ensures.bus ∙ c.loop-passed.invariant.bus;
       stays = c.next-turn.ensures.stays ∙ c.loop-passed.invariant.stays;
@@ -51,3 +56,10 @@ unreachable-requires g c =
     let many = is.many in
     let past = c.loop-passed-test.false in
     absurd (omega (arith, few, many, past))
+
+pub returns-in-Some-clause-driven : goal.returns-in-Some-clause-driven
+returns-in-Some-clause-driven g c =
+    let ends : end_at (record_of c.next-turn.result) ≡ Some c.in-Some.ending = sym c.ending_at.ensures ∙ c.in-Some.is in
+    has-driven _ _ _ _ _ _ _ _ _ c.next-turn.result c.in-Some.ending (moves-on g.D.Drive.gives g.D.Drive.keeps c.args.world.now.bus (g.D.Drive.is_plain c.args.drive.now) _ (g.D.Drive.told c.args.drive.now) _
+    _ c.args.drive.now c.loop-passed.drive c.next-turn.new.self c.loop-passed.world c.next-turn.new.world c.next-turn.result c.loop-passed.invariant.way c.loop-passed.invariant.stays
+    c.next-turn.ensures.plain c.next-turn.ensures.alike c.next-turn.ensures.bus c.next-turn.ensures.told c.next-turn.ensures.gives c.next-turn.ensures.keeps) ends

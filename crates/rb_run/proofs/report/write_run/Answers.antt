@@ -3,12 +3,14 @@ use Rattle.rb_base.proofs.Plain.{on_err}
 use Rattle.rb_world_book.specs.Records.{record_of}
 use Rattle.rb_run.specs.Runs.{end_at}
 use Rattle.rb_run.proofs.Reported.{all-written, none-written, one-written, part-written}
+use Rattle.rb_run.proofs.Histories.{has-driven, has-driven-some, moves-on, sets-out, still-on}
 use Rattle.rb_run.proofs.UnderWay.{ends-so, few-turns, goes}
 use Rattle.rb_run.proofs.report.write_run.Goals as goal
 
 pub loop-passed-init : goal.loop-passed-init
 loop-passed-init g c = record {
   written = none-written c.args.world.now (g.D.Drive.is_plain c.args.drive.now) (g.D.Drive.told c.args.drive.now) (g.K.Sink.held c.args.output.now) c.requires;
+  way = sets-out g.D.Drive.gives g.D.Drive.keeps c.args.world.now (g.D.Drive.is_plain c.args.drive.now) (g.D.Drive.told c.args.drive.now) c.args.drive.now c.requires;
   later = omega arith;
   bus = refl;
   stays = refl;
@@ -45,6 +47,9 @@ loop-passed-preserved g c =
       written = one-written _ _ _ _ _ _ _ _ _ _ _ _ _ c.next-turn.result is (goes c.args.world.now.bus (g.D.Drive.is_plain c.args.drive.now) _ (g.D.Drive.told c.args.drive.now) _
           _ c.loop-passed.world c.next-turn.new.world is.turns c.next-turn.result is.given c.loop-passed.invariant.stays
           c.next-turn.ensures.plain c.next-turn.ensures.alike c.next-turn.ensures.bus c.next-turn.ensures.told) c.in_ok-write_turn.ensures.all c.newest_block-newest.ensures going;
+      way = still-on _ _ _ _ _ _ _ _ _ c.next-turn.result (moves-on g.D.Drive.gives g.D.Drive.keeps c.args.world.now.bus (g.D.Drive.is_plain c.args.drive.now) _ (g.D.Drive.told c.args.drive.now) _
+          _ c.args.drive.now c.loop-passed.drive c.next-turn.new.self c.loop-passed.world c.next-turn.new.world c.next-turn.result c.loop-passed.invariant.way c.loop-passed.invariant.stays
+          c.next-turn.ensures.plain c.next-turn.ensures.alike c.next-turn.ensures.bus c.next-turn.ensures.told c.next-turn.ensures.gives c.next-turn.ensures.keeps) going;
       later = search rules;
       bus = c.next-turn.ensures.bus ∙ c.loop-passed.invariant.bus;
       stays = c.next-turn.ensures.stays ∙ c.loop-passed.invariant.stays;
@@ -57,3 +62,16 @@ unreachable-requires g c =
     let many = is.many in
     let past = c.loop-passed-test.false in
     absurd (omega (arith, few, many, past))
+
+pub returns-in-Some-clause-driven : goal.returns-in-Some-clause-driven
+returns-in-Some-clause-driven g c =
+    let ends : end_at (record_of c.next-turn.result) ≡ Some c.in-Some.ending = sym c.ending_at.ensures ∙ c.in-Some.is in
+    has-driven _ _ _ _ _ _ _ _ _ c.next-turn.result c.in-Some.ending (moves-on g.D.Drive.gives g.D.Drive.keeps c.args.world.now.bus (g.D.Drive.is_plain c.args.drive.now) _ (g.D.Drive.told c.args.drive.now) _
+    _ c.args.drive.now c.loop-passed.drive c.next-turn.new.self c.loop-passed.world c.next-turn.new.world c.next-turn.result c.loop-passed.invariant.way c.loop-passed.invariant.stays
+    c.next-turn.ensures.plain c.next-turn.ensures.alike c.next-turn.ensures.bus c.next-turn.ensures.told c.next-turn.ensures.gives c.next-turn.ensures.keeps) ends
+
+pub returns-in_err-write_turn-clause-driven_in_part : goal.returns-in_err-write_turn-clause-driven_in_part
+returns-in_err-write_turn-clause-driven_in_part g c =
+    on_err _ (has-driven-some _ _ _ _ _ _ _ _ _ _ (moves-on g.D.Drive.gives g.D.Drive.keeps c.args.world.now.bus (g.D.Drive.is_plain c.args.drive.now) _ (g.D.Drive.told c.args.drive.now) _
+    _ c.args.drive.now c.loop-passed.drive c.next-turn.new.self c.loop-passed.world c.next-turn.new.world c.next-turn.result c.loop-passed.invariant.way c.loop-passed.invariant.stays
+    c.next-turn.ensures.plain c.next-turn.ensures.alike c.next-turn.ensures.bus c.next-turn.ensures.told c.next-turn.ensures.gives c.next-turn.ensures.keeps))
