@@ -8,14 +8,16 @@ from dataclasses import replace
 from pathlib import Path
 from typing import List, NoReturn, Optional, TextIO
 
+from robus.arguments import number_in
 from robus.campaign_faults import summary_of_faults
 from robus.campaign_plan import BusFaults, Plan, new_plan, plan_of, text_of
 from robus.campaign_rows import HEAD, MORE, put, rows_in, settle
 from robus.campaign_summary import histogram_of, summary_of
-from robus.campaign_words import BUS_DEFAULTS, Asked, asked_in, jobs_in, number_in, unit_in
+from robus.campaign_words import BUS_DEFAULTS, Asked, asked_in, jobs_in, unit_in
 from robus.campaign_workers import is_gnu_parallel, run_parallel, run_workers
 from robus.engines import TOP, Engine, choose
 from robus.errors import BadArgument, NoEngine
+from robus.lint import refusal_of
 from robus.tool import input_of
 
 HELP = """Runs many scenarios, and keeps a row of each.
@@ -50,6 +52,8 @@ build. The first line and the summary say if what runs them is not proved.
 
 Written are rows.csv, summary.txt, spread.svg, and plan.json for the next run. `scenario` prints the
 scenario of a row. docs/CAMPAIGNS.md has more."""
+
+
 def fail(why: str) -> NoReturn:
     """Ends the tool with status 1 and a line on standard error."""
     sys.exit("tools/campaign: " + why)
@@ -79,6 +83,9 @@ def bus_of(asked: Asked) -> Optional[BusFaults]:
     except UnicodeDecodeError:
         raise BadArgument(f"--bus: {file} is no text in UTF-8") from None
     found = BusFaults(text, *[asked.values.get(it, BUS_DEFAULTS[it]) for it in BUS_DEFAULTS])
+    refusal = refusal_of(text.encode())
+    if refusal:
+        raise BadArgument(f"--bus: {file}: {refusal}; tools/lint says where and why")
     found.generator()
     return found
 
@@ -178,19 +185,22 @@ def main(words: List[str]) -> int:
     unit_in(asked.get("--unit"))
     jobs_in(asked)
     if len(asked.words) < 2:
-        raise BadArgument("FOLDER and COUNT SEED, summary or scenario NUMBER are wanted; --help "
-                          "says more")
+        name = "COUNT (or summary, or scenario)" if asked.words else "FOLDER"
+        raise BadArgument(f"{name} is missing; --help says more")
     folder, *rest = Path(asked.words[0]), *asked.words[1:]
     if folder.exists() and not folder.is_dir():
         raise BadArgument(f"FOLDER: {folder} is no folder")
+    known = {"summary": 1, "scenario": 2}.get(rest[0])
+    if known and len(rest) > known:
+        raise BadArgument(f"{rest[known]} is one word too many behind {' '.join(rest[:known])}")
     if rest == ["summary"]:
         plan = plan_of(folder)
         return tell(folder, replace(plan, unit=asked.get("--unit") or plan.unit))
     if rest[:1] == ["scenario"]:
         if not rest[1:]:
-            raise BadArgument("NUMBER: that of a row is wanted behind scenario")
+            raise BadArgument("NUMBER is missing: which row's scenario is to be printed")
         return print_scenario(folder, rest[1])
     count = number_in("COUNT", rest[0], 1)
     if not rest[1:]:
-        raise BadArgument("SEED: a number is wanted behind COUNT")
+        raise BadArgument("SEED is missing behind COUNT")
     return campaign(folder, count, number_in("SEED", rest[1], 0), asked)

@@ -145,7 +145,7 @@ def table(bus: model.Bus, found: list[SlotRow], unit: Unit | None) -> list[str]:
 def main(words: list[str]) -> int:
     """tools/layout with these words; its status."""
     parser = Parser("tools/layout", HELP)
-    parser.add_argument("scenario", help="a file, or - for standard input")
+    parser.add_argument("scenario", metavar="SCENARIO", help="a file, or - for standard input")
     parser.add_argument("--frame", type=int, help="the owners of this frame of the run")
     parser.add_argument("--unit", type=Unit.of, help="the time of a reference unit, as 1ps")
     asked = parser.parse_args(words)

@@ -129,7 +129,7 @@ def line_for(name: str, it: Finding) -> str:
 def main(words: list[str]) -> int:
     """tools/lint with these words; its status."""
     parser = Parser("tools/lint", HELP)
-    parser.add_argument("scenario", help="a file, or - for standard input")
+    parser.add_argument("scenario", metavar="SCENARIO", help="a file, or - for standard input")
     parser.add_argument("--json", action="store_true", help="a line of JSON for each finding")
     asked = parser.parse_args(words)
     try:

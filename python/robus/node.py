@@ -150,7 +150,7 @@ class Node:
         found = choose(["run"], engine)
         self._calls = calls_of(found.path) if isinstance(found, Library) else None
         if self._calls is None:
-            raise NoEngine("a node core is in librobus.so: make library builds it")
+            raise NoEngine("engine: a node core wants librobus.so, which make library builds")
         number = self._calls.robus_node_new(self._handle, seat)
         if number:
             raise NoNode(name, number)

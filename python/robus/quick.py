@@ -227,8 +227,11 @@ def main(words: List[str]) -> int:
         print(HELP + "\n" + __doc__)
         return 0
     keeps, words = words[:1] == ["--keep"], words[words[:1] == ["--keep"]:]
-    if not words or words[0] not in TRIALS or keeps and len(words) > 1:
-        raise BadArgument("PROGRAM is to be one of %s; --help says more" % ", ".join(TRIALS))
+    if not words or words[0] not in TRIALS:
+        why = f"{words[0]} is none" if words else "it is missing"
+        raise BadArgument(f"PROGRAM: {why}; there are {', '.join(TRIALS)}")
+    if keeps and len(words) > 1:
+        raise BadArgument(f"{words[1]} is one word too many: --keep takes PROGRAM alone")
     if keeps:
         print(program_of(words[0]) or "")
         return 0

@@ -200,7 +200,7 @@ def add_options(parser: Parser) -> None:
 def main(words: List[str]) -> int:
     """tools/simulate with these words; its status."""
     parser = Parser("tools/simulate", HELP)
-    parser.add_argument("scenario", help="a file, or - for standard input")
+    parser.add_argument("scenario", metavar="SCENARIO", help="a file, or - for standard input")
     add_options(parser)
     parser.add_argument("--engine", help=ENGINE_HELP)
     asked = parser.parse_args(words)
