@@ -149,7 +149,7 @@ class Writer:
             return
         self._slots += 1
         if self._slots > 1:
-            raise BadArgument(f"letter: {self.node} has more than one data slot in a frame, and "
+            raise BadArgument(f"letters: {self.node} has more than one data slot in a frame, and "
                               "says its word in each; let it ask for one (requests)")
         words = self._letters[0][1]
         del words[0]

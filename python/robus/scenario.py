@@ -74,7 +74,7 @@ def put(document: Any, parts: List[Key], value: Any, at: int = 0) -> None:
         return
     if is_array and part > len(document):
         raise NoPlace(f"{path_of(tuple(parts))!r} is no place in this scenario, which has "
-                      f"{len(document)} of {path_of(tuple(parts[:at]))!r}")
+                      f"{len(document)} of {path_of(tuple(parts[:at]))!r}", is_beyond=True)
     if is_array and part == len(document):
         document.append(None)
     if is_last:
@@ -88,8 +88,17 @@ def put(document: Any, parts: List[Key], value: Any, at: int = 0) -> None:
 MISSING: Any = object()
 
 
-class NoPlace(LookupError):
-    """A document has no such place, and none can be added there."""
+class NoPlace(Exception):
+    """A document has no such place, and none can be added there. `is_beyond` says that it is an
+    entry of an array that has not the one before it either."""
+
+    def __init__(self, why: str, is_beyond: bool = False):
+        super().__init__(why)
+        self.is_beyond = is_beyond
+
+
+class NoEntry(BadArgument, IndexError):
+    """An array has no such entry, and not the one before it either."""
 
 
 def written(name: str, document: Any) -> bytes:
@@ -186,7 +195,8 @@ class Scenario:
             try:
                 put(document, parts_of(path, path_name), plain(value))
             except NoPlace as fault:
-                raise BadArgument(f"{path_name}: {fault}") from None
+                kind = NoEntry if fault.is_beyond else BadArgument
+                raise kind(f"{path_name}: {fault}") from None
         return Scenario(written(value_name, document))
 
     def without(self, path: str) -> Scenario:

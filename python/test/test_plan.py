@@ -115,7 +115,7 @@ class Plans(unittest.TestCase):
         self.assertGreater(found, 100)
 
     def test_sizes_out_of_range(self):
-        self.assertEqual(output_of("plan", ["--biu", "17", "--rmu", "1", "--slots", "1"])[0], 3)
+        self.assertEqual(output_of("plan", ["--biu", "17", "--rmu", "1", "--slots", "1"])[0], 2)
         self.assertEqual(output_of("plan", ["--biu", "1"])[0], 2)
 
 

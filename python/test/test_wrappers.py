@@ -82,9 +82,14 @@ class Words(unittest.TestCase):
         self.assertIn("is a bridge of two buses: make bridge", ending_of("run", [bridge])[2])
         self.assertIn("is a scenario of one bus: make run", ending_of("bridge", [LATE])[2])
 
-    def test_a_file_behind_the_words_is_to_be_standard_input(self):
-        said = call("tools/robus", "record", "B0", "README.md")[2]
-        self.assertIn(" It reads standard input: tools/robus record B0 < README.md\n", said)
+    def test_a_file_behind_the_words_is_read(self):
+        given = LATE.read_bytes()
+        for words in (["run"], ["check"], ["record", "B0"]):
+            read = call("tools/robus", *words, data=given)
+            self.assertEqual(read[0], 0, read)
+            for file, data in ((LATE, b""), ("-", given)):
+                self.assertEqual(call("tools/robus", *words, file, data=data)[:2], read[:2])
+        self.assertEqual(call("tools/model", "run", LATE)[:2], call("tools/model", "run", data=given)[:2])
 
     def test_words_of_the_package(self):
         env = dict(PYTHONPATH=str(TOP / "python"))
