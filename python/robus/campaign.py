@@ -6,11 +6,11 @@ import os
 import sys
 from dataclasses import replace
 from pathlib import Path
-from typing import List, NoReturn, Optional, TextIO
+from typing import List, Optional, TextIO
 
 from robus.arguments import number_in
 from robus.campaign_faults import summary_of_faults
-from robus.campaign_plan import BusFaults, Plan, new_plan, plan_of, text_of
+from robus.campaign_plan import BusFaults, NoScenario, Plan, new_plan, plan_of, text_of
 from robus.campaign_rows import HEAD, MORE, put, rows_in, settle
 from robus.campaign_summary import histogram_of, summary_of
 from robus.campaign_words import BUS_DEFAULTS, Asked, asked_in, jobs_in, unit_in
@@ -51,12 +51,9 @@ tools/model, a second model of the bus in Python, which is not proved and slower
 build. The first line and the summary say if what runs them is not proved.
 
 Written are rows.csv, summary.txt, spread.svg, and plan.json for the next run. `scenario` prints the
-scenario of a row. docs/CAMPAIGNS.md has more."""
+scenario of a row. docs/CAMPAIGNS.md has more.
 
-
-def fail(why: str) -> NoReturn:
-    """Ends the tool with status 1 and a line on standard error."""
-    sys.exit("tools/campaign: " + why)
+status: 0 done, 2 wrong words or no such file, 70 some scenarios have no row, 130 interrupted"""
 
 
 def engine_of(name: Optional[str]) -> Engine:
@@ -108,8 +105,8 @@ def kept_plan(folder: Path, plan: Plan, asked: Asked) -> Plan:
     return old if asked.get("--unit") is None else replace(old, unit=plan.unit)
 
 
-def run(folder: Path, plan: Plan, count: int, engine: Engine, asked: Asked, lock: TextIO) -> None:
-    """Runs what has no row yet."""
+def run(folder: Path, plan: Plan, count: int, engine: Engine, asked: Asked, lock: TextIO) -> bool:
+    """Runs what has no row yet. The result says whether it was interrupted."""
     found = rows_in(folder)
     numbers = [number for number in range(1, count + 1) if number not in found]
     items = [plan.item(folder, number) for number in numbers]
@@ -118,10 +115,9 @@ def run(folder: Path, plan: Plan, count: int, engine: Engine, asked: Asked, lock
     with open(folder / "rows.csv", "ab") as rows:
         if asked.options:
             words = [str(TOP / "tools/campaign_row"), name]
-            run_parallel(words, items, jobs, asked.options, rows, lock)
-        else:
-            words = [sys.executable, "-m", "robus", "campaign_rows", name]
-            run_workers(words, items, jobs or os.cpu_count() or 1, rows)
+            return run_parallel(words, items, jobs, asked.options, rows, lock)
+        words = [sys.executable, "-m", "robus", "campaign_rows", name]
+        return run_workers(words, items, jobs or os.cpu_count() or 1, rows)
 
 
 def tell(folder: Path, plan: Plan) -> int:
@@ -144,26 +140,29 @@ def campaign(folder: Path, count: int, seed: int, asked: Asked) -> int:
     """Runs a campaign, or goes on with it, and tells what its rows say."""
     bus, engine = bus_of(asked), engine_of(asked.get("--engine"))
     if asked.options and not is_gnu_parallel():
-        fail(f"{asked.options[0]} is for GNU parallel, which is not there: apt-get install "
-             "parallel, or the like")
+        raise NoEngine(f"{asked.options[0]} is for GNU parallel, which is not there: apt-get install "
+                       "parallel, or the like")
     print(f"tools/campaign: run by {engine}", file=sys.stderr)
     folder.mkdir(parents=True, exist_ok=True)
     with open(folder / "lock", "w") as lock:
         try:
             fcntl.flock(lock, fcntl.LOCK_EX | fcntl.LOCK_NB)
         except BlockingIOError:
-            fail(f"another run works in {folder}")
+            raise BadArgument(f"FOLDER: another run works in {folder}") from None
         plan = new_plan(folder, seed, engine.name, asked.get("--generator"), bus,
                         asked.get("--unit"))
         plan = kept_plan(folder, plan, asked)
         count = min(count, len(plan.files)) if plan.files else count
         head = HEAD + (MORE if plan.bus else [])
         settle(folder, head)
-        run(folder, plan, count, engine, asked, lock)
+        is_interrupted = run(folder, plan, count, engine, asked, lock)
         rows = settle(folder, head)
         missing = sum(1 for number in range(1, count + 1) if number not in rows)
+        left = f"{missing} of {count} scenarios have no row yet: the same line again goes on"
+        if is_interrupted:
+            raise KeyboardInterrupt(f"interrupted; {left}")
         if missing:
-            fail(f"{missing} of {count} scenarios have no row yet: the same line again goes on")
+            raise NoScenario(left)
         return tell(folder, plan)
 
 

@@ -78,7 +78,7 @@ def main(words: List[str]) -> int:
             return 1
         try:
             row = row_text(engine, item)
-        except (NoScenario, OSError, RobusError) as fault:
+        except (OSError, RobusError) as fault:
             print(f"tools/campaign_row: no row {item.split(' ')[0]}: {fault}", file=sys.stderr)
             row, status = "\n", 1
         os.write(sys.stdout.fileno(), row.encode())

@@ -12,7 +12,7 @@ import sys
 import threading
 from contextlib import contextmanager
 from dataclasses import dataclass
-from typing import Iterator, List, Optional
+from typing import Iterator, List, Optional, Tuple
 
 from robus import engines, quick
 from robus.answers import fault_in, tail_of
@@ -127,10 +127,12 @@ def patience(tool: str, engine: Engine) -> Iterator[None]:
         timer.cancel()
 
 
-def run(call: Call, asked: Which = None) -> int:
-    """Runs a call, writes its output, and tells how it ended; its status."""
+def run(call: Call, asked: Which = None, known: Optional[Engine] = None) -> int:
+    """Runs a call, writes its output, and tells how it ended; its status. `known` is the engine
+    that was named already."""
     engine = engine_for(call.words, call.program, asked)
-    say(call.tool, f"run by {engine}")
+    if engine != known:
+        say(call.tool, f"run by {engine}")
     output = Output()
     data = call.data if reads(call.word) else b""
     try:
@@ -213,14 +215,14 @@ def robus(words: List[str]) -> int:
     return run(Call("tools/robus", own[0], own, data, None if file == "-" else file))
 
 
-def report_of(file: str, data: bytes, asked: Which) -> bytes:
-    """The report of a scenario's run; Refused, or Failed, if there is none."""
+def report_of(file: str, data: bytes, asked: Which) -> Tuple[bytes, Engine]:
+    """The report of a scenario's run, and what ran it; Refused, or Failed, if there is none."""
     name = "standard input" if file == "-" else file
     refuse_other_kind("run", data, name)
     engine = engine_for(["run"], "robus", asked)
     say("tools/picture", f"run by {engine}")
     with patience("tools/picture", engine):
-        return answer(engine, ["run"], data, scenario=Scenario(data, name)).output
+        return answer(engine, ["run"], data, scenario=Scenario(data, name)).output, engine
 
 
 def frames_in(words: List[str], report: bytes) -> List[str]:
@@ -242,6 +244,6 @@ def draw(words: List[str]) -> int:
         raise BadArgument("LAST is missing: FIRST and LAST are the numbers of two frames")
     if len(asked.frames) > 2:
         raise BadArgument(f"{asked.frames[2]} is one word too many behind FIRST and LAST")
-    report = report_of(asked.scenario, input_of(asked.scenario), asked.engine)
+    report, engine = report_of(asked.scenario, input_of(asked.scenario), asked.engine)
     frames = frames_in(asked.frames, report) if asked.frames else []
-    return run(Call("tools/picture", "picture", frames, report), asked.engine)
+    return run(Call("tools/picture", "picture", frames, report), asked.engine, engine)

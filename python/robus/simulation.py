@@ -209,5 +209,6 @@ def main(words: List[str]) -> int:
     found = simulate(scenario, words=asked.words, letters=asked.letter, engine=asked.engine)
     say("tools/simulate", f"run by {found.engine}")
     sys.stdout.buffer.write(found.output)
+    sys.stdout.buffer.flush()
     say("tools/simulate", f"status {found.status}: {meaning('run', found.status, file)}")
     return found.status

@@ -24,7 +24,10 @@ def loads(text: bytes) -> Dict[str, Any]:
 
     from robus.model import model
 
-    return tomllib.loads(model.older_toml(text.decode("utf-8")))
+    characters = text.decode("utf-8")
+    if model.too_deep_at(characters) is not None:
+        raise ValueError("a value or a key is nested too deeply")
+    return tomllib.loads(model.older_toml(characters))
 
 
 def value_text(value: Any) -> str:

@@ -12,6 +12,7 @@ from __future__ import annotations
 
 import argparse
 import os
+import signal
 import sys
 import time
 import unittest
@@ -120,6 +121,8 @@ def main(words: list[str]) -> int:
     parser.add_argument("--jobs", type=int, default=len(os.sched_getaffinity(0)),
                         help="how many processes")
     asked = parser.parse_args(words)
+    # Where SIGINT is ignored, as in the background of a shell, the tools under test would ignore it
+    signal.signal(signal.SIGINT, signal.default_int_handler)
     start = time.monotonic()
     classes = classes_of([Path(it).name.removesuffix(".py") for it in asked.names])
     jobs = max(1, min(asked.jobs, len(classes)))

@@ -109,7 +109,7 @@ class Campaigns(unittest.TestCase):
 
     def test_a_scenario_that_cannot_be_had_has_no_row(self):
         status, _, said = self.campaign(2, 1, "--model", "--generator", "exit 3 #")
-        self.assertEqual((status, self.rows()), (1, self.rows()[:1]))
+        self.assertEqual((status, self.rows()), (70, self.rows()[:1]))
         self.assertIn("2 of 2 scenarios have no row yet: the same line again goes on", said)
 
     def test_it_goes_on_with_what_it_began_with(self):
@@ -124,7 +124,7 @@ class Campaigns(unittest.TestCase):
         path.write_text("#!/bin/sh\necho another program of this name\n")
         path.chmod(path.stat().st_mode | stat.S_IXUSR)
         status, _, said = self.campaign(3, 1, "--model", "--retries", 3, path=str(path.parent) + os.pathsep)
-        self.assertEqual((status, said.startswith("tools/campaign: --retries is for GNU parallel")), (1, True))
+        self.assertEqual((status, said.startswith("tools/campaign: --retries is for GNU parallel")), (70, True))
         path.write_text(PARALLEL)
         status, _, said = self.campaign(3, 1, "--model", "--retries", 3, path=str(path.parent) + os.pathsep)
         self.assertEqual((status, len(self.rows())), (0, 4), said)
