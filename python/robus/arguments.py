@@ -42,7 +42,7 @@ def number_in(name: str, text: str, least: int, most: Optional[int] = None) -> i
 def one_of(name: str, value: Any, choices: Sequence[str]) -> str:
     """One of some words."""
     if not isinstance(value, str) or value not in choices:
-        raise BadArgument("%s: %s is none of %s" % (name, shown(value), ", ".join(choices)))
+        raise BadArgument(f'{name}: {shown(value)} is none of {", ".join(choices)}')
     return value
 
 

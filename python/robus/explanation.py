@@ -23,8 +23,8 @@ after it. With --unit U, the time of a reference unit, as 1ps, it prints times b
 --words and --letter hand words to BIUs, as tools/simulate does. It runs the scenario on
 tools/model, a second model of the bus, and not on the proved program. It is not proved."""
 
-FEW_GOOD = "the good {}s do not outnumber the other trusted ones that were heard in this frame"
-CAUSES = {"FewGoodBiu": FEW_GOOD.format("BIU"), "FewGoodRmu": FEW_GOOD.format("RMU"),
+OUTNUMBER = "do not outnumber the other trusted ones that were heard in this frame"
+CAUSES = {"FewGoodBiu": f"the good BIUs {OUTNUMBER}", "FewGoodRmu": f"the good RMUs {OUTNUMBER}",
           "TwoSided": "of both kinds a trusted node was heard differently by different receivers"}
 KINDS = "BIUs", "RMUs"
 CLASSES = "good", "symmetric", "asymmetric", "benign", "convicted"

@@ -36,7 +36,7 @@ def spelt(place: Place) -> str:
     if not place:
         return ""
     is_entry = len(place) > 1 and isinstance(place[1], int) and place[0] in model.ENTRY_FIELDS
-    head, rest = ("%s %d" % (place[0], place[1] + 1), place[2:]) if is_entry else (str(place[0]), place[1:])
+    head, rest = (f"{place[0]} {place[1] + 1}", place[2:]) if is_entry else (str(place[0]), place[1:])
     return head + "".join(f"[{it}]" if isinstance(it, int) else f".{it}" for it in rest)
 
 
@@ -140,6 +140,7 @@ def main(words: list[str]) -> int:
     for it in found:
         print(json.dumps(asdict(it)) if asked.json else line_for(asked.scenario, it))
     if not asked.json:
-        count = "%d %s%s" % (len(found), "warning" if refusal is None else "finding", "" if len(found) == 1 else "s")
-        print("%s: %s, %s" % (asked.scenario, refusal or "accepted", count))
+        kind = "warning" if refusal is None else "finding"
+        count = f"{len(found)} {kind}{'' if len(found) == 1 else 's'}"
+        print(f'{asked.scenario}: {refusal or "accepted"}, {count}')
     return 3 if refusal else 0

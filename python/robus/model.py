@@ -12,7 +12,8 @@ from robus.tool import input_of
 from robus.words import misused, with_file
 
 if sys.version_info < (3, 11):
-    raise ImportError("needs Python 3.11 or newer, and this is %d.%d" % sys.version_info[:2])
+    raise ImportError("needs Python 3.11 or newer, and this is "
+                      f"{sys.version_info[0]}.{sys.version_info[1]}")
 from robus import second_model as model  # noqa: E402
 
 BIU, RMU, TAIL = model.BIU, model.RMU, model.TAIL

@@ -18,7 +18,7 @@ proved.
 kinds and their columns (times in reference units, ticks of the node's clock; a word that is `none`
 is empty, in JSON null):
 
-%s
+KINDS
 
     robus run < bus.toml | tools/table deliveries > deliveries.csv
     robus run < bus.toml | tools/table --json | jq -c 'select(.kind == "deliveries")'
@@ -39,7 +39,7 @@ def main(words: list[str]) -> int:
     """tools/table with these words; its status."""
     listed = "\n".join(f"    {kind:<13} {', '.join(columns(kind))}" for kind in LINES)
     usage = "tools/table KIND [FILE], tools/table --json [FILE]"
-    parser = Parser("tools/table", HELP % listed, usage)
+    parser = Parser("tools/table", HELP.replace("KINDS", listed), usage)
     parser.add_argument("words", nargs="*", help=argparse.SUPPRESS)
     parser.add_argument("--json", action="store_true", help="JSON of all lines, a line for each")
     asked = parser.parse_args(words)

@@ -102,7 +102,7 @@ class Campaigns(unittest.TestCase):
         self.assertEqual([row.split(",")[1] for row in self.rows()[1:]], ["40", "41"])
 
     def test_a_generator(self):
-        command = "cat '%s' #" % (EXAMPLES / "two_sided.toml")
+        command = f"cat '{EXAMPLES / 'two_sided.toml'}' #"
         self.assertEqual(self.campaign(2, 7, "--model", "--generator", command)[0], 0)
         self.assertEqual(self.rows()[1:], ["1,7,1,0,6,2,TwoSided,,0,7,0", "2,8,1,0,6,2,TwoSided,,0,7,0"])
         self.assertIn("is another campaign", self.campaign(2, 8, "--model")[2])

@@ -69,7 +69,7 @@ class Choice(unittest.TestCase):
             path.chmod(path.stat().st_mode | stat.S_IXUSR)
             report = robus.run(b"breach 0 0 2 TwoSided\n", engine=str(path))
             self.assertEqual((report.status, report.text), (1, "end 1\nbreach 0 0 2 TwoSided\n"))
-            self.assertEqual(str(report.engine), "program %s" % path)
+            self.assertEqual(str(report.engine), f"program {path}")
 
     def test_an_engine_that_is_none(self):
         """What is no program and no library, or answers as no program of ROBUS does, has no result."""
@@ -155,7 +155,7 @@ class SharedLibrary(unittest.TestCase):
     def test_a_buffer_that_is_too_small_is_made_greater(self):
         more = 2 * engines.FIRST_LENGTH
         found = self.engine.raw(["stress", str(more)], b"")
-        self.assertEqual((found.status, len(found.output)), (0, len("stress|%d" % more) + more))
+        self.assertEqual((found.status, len(found.output)), (0, len(f"stress|{more}") + more))
 
     def test_it_has_no_bridge(self):
         self.assertFalse(self.engine.has(["run"], "robus_bridge"))
@@ -168,15 +168,15 @@ class Installed(unittest.TestCase):
             self.assertEqual((done.returncode, done.stderr), (0, ""))
             env = {"PATH": os.environ["PATH"], "PYTHONPATH": prefix + "/lib/python3/dist-packages", "ROBUS_ENGINE": "model",
                    "PYTHONDONTWRITEBYTECODE": "1"}
-            words = "import robus; print(robus.__file__, robus.run('%s').convicted)" % (EXAMPLES / "one_silent_rmu.toml")
+            words = f"import robus; print(robus.__file__, robus.run('{EXAMPLES / 'one_silent_rmu.toml'}').convicted)"
             done = subprocess.run([sys.executable, "-c", words], cwd=prefix, env=env, capture_output=True, text=True)
-            self.assertEqual(done.stdout, "%s/lib/python3/dist-packages/robus/__init__.py ('R2',)\n" % prefix)
+            self.assertEqual(done.stdout, f"{prefix}/lib/python3/dist-packages/robus/__init__.py ('R2',)\n")
             program = Path(prefix, "bin/robus")
             program.parent.mkdir()
             program.write_text(PROGRAM)
             words = "from robus import engines; print(engines.program())"
             done = subprocess.run([sys.executable, "-c", words], cwd=prefix, env=env, capture_output=True, text=True)
-            self.assertEqual(done.stdout, "program %s\n" % program)
+            self.assertEqual(done.stdout, f"program {program}\n")
 
 
 if __name__ == "__main__":

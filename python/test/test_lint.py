@@ -70,7 +70,7 @@ class Spoilt(unittest.TestCase):
         for name, keys in TABLES.items():
             self.assertEqual(set(keys), set(FIELDS[name]))
             for key in keys:
-                self.assertIn("`%s`" % key, page)
+                self.assertIn(f"`{key}`", page)
 
 
 class Warnings(unittest.TestCase):
@@ -111,7 +111,7 @@ class Depth(unittest.TestCase):
                     found = text % tuple(it * levels for it in ends)
                 else:
                     found = text % ".".join(["x"] * levels)
-                data = ("biu = 1\nrmu = 1\nslots = 1\nframes = 1\n%s\n" % found).encode()
+                data = (f"biu = 1\nrmu = 1\nslots = 1\nframes = 1\n{found}\n").encode()
                 self.assertEqual(int(lint(data)[0].split()[1]), code, found)
 
     def test_what_is_far_deeper(self):
