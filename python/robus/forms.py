@@ -1,4 +1,5 @@
-"""Refusals of a scenario for its keys and forms: a key that is missing, one that there is not, a value of another form."""
+"""Refusals of a scenario for its keys and forms: a key that is missing, one that there is not, a
+value of another form."""
 from __future__ import annotations
 
 import difflib

@@ -11,8 +11,8 @@ from robus.model import TooLong, model, read
 from robus.scenario import path_of
 from robus.tool import Parser, input_of
 
-HELP = """Says where and why a scenario is refused: every finding with its line, what stands there and
-what may stand there. It agrees with robus on what is refused, and names first the rule for which robus
+HELP = """Says where and why a scenario is refused: every finding with its line, what is there and
+what may be there. It agrees with robus on what is refused, and names first the rule for which robus
 refuses it. Of an accepted scenario it says what can have no effect, for which it runs the scenario
 on tools/model. It is not proved.
 
@@ -52,7 +52,8 @@ def short(text: str) -> str:
 
 
 def another_kind(data: bytes) -> str | None:
-    """What the bytes are where they are no scenario, but something else that robus reads or writes."""
+    """What the bytes are where they are no scenario, but something else that robus reads or
+    writes."""
     if data.startswith((b"RBL1", b"RBL2")):
         return "this is a log, which robus replay and robus listen read"
     if re.match(rb"e \d+ [BR]\d+ \d+ \d+$", data, re.MULTILINE):
@@ -72,7 +73,8 @@ def refusal_of(data: bytes) -> str | None:
 
 
 def findings_in(data: bytes) -> list[Finding]:
-    """All that is wrong with a document, in the order of its lines; nothing where it is accepted."""
+    """All that is wrong with a document, in the order of its lines; nothing where it is
+    accepted."""
     fault = syntax.fault_of(data)
     if fault:
         line, column, why = fault

@@ -39,9 +39,11 @@ def nodes_in(mask: int, kind: int) -> list[str]:
     return names_in(mask, "BR"[kind])
 
 
-HELP = """tools/model WORDS.. [FILE]: the second model of the bus, which is not proved. It writes what
-robus writes, with the same status, for run, check, record NODE, replay, gen SEED FRAMES and stress
-SEED FRAMES, as tools/model run examples/one_silent_rmu.toml. Without FILE it reads standard input."""
+HELP = """tools/model WORDS.. [FILE]: the second model of the bus, which is not proved. For the
+words run, check, record NODE, replay, gen SEED FRAMES and stress SEED FRAMES it writes what robus
+writes, with the same status. Without FILE it reads standard input.
+
+    tools/model run examples/one_silent_rmu.toml"""
 
 
 def main(words: list[str]) -> int:

@@ -213,9 +213,10 @@ def run_once(name: str, words: List[str], data: bytes) -> Tuple[int, bytes]:
     raise NoEngine(f"the quick build of {name} did not run")
 
 
-HELP = """tools/quick PROGRAM WORDS..: runs PROGRAM (robus, robus_bridge or robus_picture) with these
-words as an unproved build. tools/quick --keep PROGRAM: builds PROGRAM if it is not kept, and prints its
-path. It ends with the program's status, and with 70 if the build or the run gives no answer.
+HELP = """tools/quick PROGRAM WORDS..: runs PROGRAM (robus, robus_bridge or robus_picture) with
+these words as an unproved build. tools/quick --keep PROGRAM: builds PROGRAM if it is not kept, and
+prints its path. It ends with the program's status, and with 70 if the build or the run gives no
+answer.
 """
 
 

@@ -1,4 +1,5 @@
-"""Refusals of a scenario for values out of their range: numbers, names, pairs, lengths, entries that stand twice."""
+"""Refusals of a scenario for values out of their range: numbers, names, pairs, lengths, entries
+that stand twice."""
 from __future__ import annotations
 
 import re
@@ -14,7 +15,8 @@ LETTERS = "BR"
 
 
 class Values:
-    """A document's values, asked for by place: nothing where a value is missing or of another form."""
+    """A document's values, asked for by place: nothing where a value is missing or of another
+    form."""
 
     def __init__(self, document: model.Document) -> None:
         self.document = document
@@ -25,7 +27,8 @@ class Values:
         self.plan = self.whole_plan()
 
     def get(self, place: Place, key: str, default: Any = None) -> Any:
-        """The value at a key of the table at this place, or the default where it is missing or of another form."""
+        """The value at a key of the table at this place, or the default where it is missing or of
+        another form."""
         name, table = self.tables.get(place, ("root", {}))
         return table[key] if key in table and FIELDS[name][key][1](table[key]) else default
 

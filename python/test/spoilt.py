@@ -1,4 +1,5 @@
-"""Forty spoilt documents: what is written in place of what, with which line the scenario is refused, and line and words of the finding.
+"""Forty spoilt documents: what is written in place of what, with which line the scenario is
+refused, and line and words of the finding.
 
 The refusals are those that docs/SCENARIOS.md gives."""
 

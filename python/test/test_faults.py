@@ -1,4 +1,5 @@
-"""What tools/faults writes: a node whose lies are no lies is as good as a good one, and the run of the entries is the liar's run."""
+"""What tools/faults writes: a node whose lies are no lies is as good as a good one, and the run of
+the entries is the liar's run."""
 import random
 import unittest
 
@@ -24,7 +25,8 @@ def lines_without(report: str, node: str) -> list:
 
 
 def scenarios(count: int):
-    """Random scenarios that the maker of tools/compare_models writes, with a node that is good in all of the run."""
+    """Random scenarios that the maker of tools/compare_models writes, with a node that is good in
+    all of the run."""
     rng, found = random.Random(3), 0
     while found < count:
         data = maker.toml_text(maker.random_scenario(rng))

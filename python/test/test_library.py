@@ -1,4 +1,5 @@
-"""The package's calls: the worked examples of docs/robus.md, all of examples/, random scenarios against tools/model, and errors."""
+"""The package's calls: the worked examples of docs/robus.md, all of examples/, random scenarios
+against tools/model, and errors."""
 import json
 import multiprocessing
 import random
@@ -130,7 +131,8 @@ class Examples(unittest.TestCase):
 
 
 class Promises(unittest.TestCase):
-    """Reports of random scenarios: the library, the program and tools/model give the same, and they have what README.md promises."""
+    """Reports of random scenarios: the library, the program and tools/model give the same, and they
+    have what README.md promises."""
 
     def test_random_scenarios(self):
         with multiprocessing.Pool() as pool:

@@ -1,4 +1,5 @@
-"""What tools/lint says of spoilt documents, of whole ones, and of those that say what can have no effect."""
+"""What tools/lint says of spoilt documents, of whole ones, and of those that say what can have no
+effect."""
 import pathlib
 import random
 import unittest
@@ -101,7 +102,8 @@ class Places(unittest.TestCase):
 
 
 class Depth(unittest.TestCase):
-    """docs/SCENARIOS.md: arrays and inline tables are nested at most 80 deep, and a key has at most 80 parts."""
+    """docs/SCENARIOS.md: arrays and inline tables are nested at most 80 deep, and a key has at most
+    80 parts."""
 
     def test_the_limit(self):
         for text in ("x = %s%s", "x = %s1%s", "[%s]", "%s = 1", "x = { %s = 1.5 }"):

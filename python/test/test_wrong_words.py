@@ -3,12 +3,13 @@ colon, and what is wrong, with the name of the argument or the wrong word itself
 import os
 import re
 import shlex
+import subprocess
 import tempfile
 import unittest
 from pathlib import Path
 from unittest import mock
 
-from helpers import EXAMPLES, ending_of, program_for
+from helpers import EXAMPLES, TOP, ending_of, program_for
 from robus.__main__ import TOOLS
 
 LATE = str(EXAMPLES / "late_onset.toml")
@@ -310,6 +311,32 @@ nosuch                 gen 7 1 --engine nosuch
 nosuch                 campaign PLACE/new 3 1 --engine nosuch
 nosuch                 campaign_rows nosuch
 """}
+# Scripts of tools/ that are no tools of the package, with the status 2
+SCRIPTS = """
+SEED                   scenario
+SEED                   scenario wrong
+COUNT                  scenario FOLDER wrong 1
+FOLDER                 scenario 1 2
+CALL                   trusted rb_top
+nosuch                 trusted rb_top nosuch
+rb_nosuch              trusted rb_nosuch run
+surplus                trusted rb_top run surplus
+PAGE                   manual
+NAME                   manual FILE
+SECTION                manual FILE robus
+nosuch.md              manual nosuch.md robus 1
+surplus                manual FILE robus 1 what surplus
+rb_nosuch              promises rb_nosuch
+nosuch.md              prose nosuch.md
+wrong                  shape wrong
+COUNT                  compare_models
+SEED                   compare_models 1
+COUNT                  compare_models wrong 1
+nosuch                 compare_models 1 1 nosuch
+CRATE                  wrong_bodies wrong
+nosuch.md              tutorial nosuch.md
+surplus                tutorial FILE surplus
+"""
 # The words that the second model does not have
 LACKING = {"letters", "group", "listen", "spell", "picture", "bridge", "draw"}
 
@@ -340,8 +367,10 @@ class Tools(unittest.TestCase):
         """Tries the words of a line. Beside the message, standard error may say what runs."""
         # FILE in a message is the word where none is among those of the line, as for `run`
         name = self.put(name) if name in words or "/" in name else name
-        found, out, said = ending_of(tool, list(map(self.put, words)))
-        speaker = TOOLS[tool][2]
+        self.ends(name, TOOLS[tool][2], status, *ending_of(tool, list(map(self.put, words))))
+
+    def ends(self, name: str, speaker: str, status: int, found: int, out: str, said: str) -> None:
+        """Whether a tool ended with the status and said one line with the name."""
         told = [it for it in said.splitlines() if not it.startswith(f"{speaker}: run by ")]
         self.assertEqual(len(told), 1, said)
         self.assertTrue(told[0].startswith(f"{speaker}: "), said)
@@ -355,6 +384,15 @@ class Tools(unittest.TestCase):
     def test_each_tool_is_tried(self):
         tried = {tool for has_model in (True, False) for _, _, tool, _ in lines(has_model)}
         self.assertEqual(tried, set(TOOLS))
+
+    def test_words_of_scripts(self):
+        for line in SCRIPTS.strip().splitlines():
+            name, tool, *words = shlex.split(line)
+            command = [str(TOP / "tools" / tool), *map(self.put, words)]
+            with self.subTest(line):
+                done = subprocess.run(command, capture_output=True, text=True,
+                                      stdin=subprocess.DEVNULL)
+                self.ends(name, f"tools/{tool}", 2, done.returncode, done.stdout, done.stderr)
 
     def test_words_of_the_second_model(self):
         with mock.patch.dict(os.environ, ROBUS_ENGINE="model"):
