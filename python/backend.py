@@ -1,4 +1,5 @@
-"""Builds the package for pip, with the standard library alone: `pip install ./python` fetches nothing.
+"""Builds the package for pip, with the standard library alone: `pip install ./python` fetches
+nothing.
 
 It has the hooks of PEP 517 that pip calls. A wheel is a zip file of the package and of a folder
 `.dist-info` with METADATA, WHEEL and RECORD."""

@@ -9,7 +9,7 @@ try:
 except KeyboardInterrupt:
     sys.exit(130)
 except BaseException as fault:
-    sys.stderr.write("robus: the tools cannot be loaded: %r\n" % fault)
+    sys.stderr.write(f"robus: the tools cannot be loaded: {fault!r}\n")
     sys.exit(70)
 if __name__ == "__main__":
     sys.exit(main())

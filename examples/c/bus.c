@@ -1,5 +1,6 @@
-/* bus: four BIUs and three RMUs, each a node core, driven by a loop with clocks and delays of its own. R2 is silent: what its core says
- * goes nowhere. Prints what the BIUs deliver in the first frame, line by line as `robus run` does for examples/one_silent_rmu.toml. */
+/* bus: four BIUs and three RMUs, each a node core, driven by a loop with clocks and delays of its
+ * own. R2 is silent: what its core says goes nowhere. Prints what the BIUs deliver in the first
+ * frame, line by line as `robus run` does for examples/one_silent_rmu.toml. */
 #include <robus.h>
 #include <stdio.h>
 
@@ -30,7 +31,8 @@ static uint64_t time_of(const struct site *site, uint64_t tick)
     return site->start + tick * site->length;
 }
 
-/* Quiet ticks pass up to this one. None of them is busy: the loop takes what happens by its time. */
+/* Quiet ticks pass up to this one. None of them is busy: the loop takes what happens by its time.
+ * */
 static void pass_to(struct site *site, uint64_t tick)
 {
     if (site->had < tick)
@@ -52,7 +54,8 @@ static void send(int from, uint64_t time, const robus_act *act)
     int first = from < BIUS ? BIUS : 0, last = from < BIUS ? NODES : BIUS;
     for (int to = first; to < last && flying_count < FLYING; to++) {
         struct message *m = &flying[flying_count++];
-        *m = (struct message){time + 6000 + 1000 * (uint64_t)((3 * from + 5 * to) % 9), from, to, {0}, act->length};
+        uint64_t delay = 6000 + 1000 * (uint64_t)((3 * from + 5 * to) % 9);
+        *m = (struct message){time + delay, from, to, {0}, act->length};
         for (int i = 0; i < act->length; i++)
             m->bytes[i] = act->message[i];
     }
@@ -89,7 +92,8 @@ int main(void)
             return 1;
         }
     }
-    /* What comes first is taken first: an arrival before a tick at the same time. The loop ends once all have begun frame 1. */
+    /* What comes first is taken first: an arrival before a tick at the same time. The loop ends
+     * once all have begun frame 1. */
     for (int begun = 0; begun < NODES;) {
         int next = -1, first = -1;
         for (int i = 0; i < flying_count; i++)

@@ -1,4 +1,5 @@
-/* report FILE: runs the scenario in the file and prints the report. Ends with the status of the call. */
+/* report FILE: runs the scenario in the file and prints the report. Ends with the status of the
+ * call. */
 #include <robus.h>
 #include <stdio.h>
 #include <stdlib.h>
@@ -42,7 +43,8 @@ int main(int argc, char **argv)
         fprintf(stderr, "usage: report FILE, where FILE is a scenario that can be read\n");
         return 2;
     }
-    /* The first call is made with room for 64 KiB. One that needs more says how much, and is made again. */
+    /* The first call is made with room for 64 KiB. One that needs more says how much, and is made
+     * again. */
     size_t room = 1 << 16;
     uint8_t *report = malloc(room);
     robus_answer answer = {ROBUS_NO_MEMORY, 0};

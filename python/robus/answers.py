@@ -33,7 +33,7 @@ def tail_of(before: bytes, more: bytes) -> bytes:
 def fault_in(words: Sequence[str], program: str, status: int, tail: bytes) -> Optional[str]:
     """Why a status and the end of an output are no answer of a program; None if they are one."""
     if status < 0:
-        return "killed by signal %d" % -status
+        return f"killed by signal {-status}"
     if status > MOST_STATUS:
         return "which no program of ROBUS has"
     word = "picture" if program == "robus_picture" else (list(words) or [""])[0]

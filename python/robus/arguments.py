@@ -30,10 +30,19 @@ def integer(name: str, value: Any, low: int, high: int) -> int:
     return found
 
 
+def number_in(name: str, text: str, least: int, most: Optional[int] = None) -> int:
+    """A number within a range; BadArgument with its name if it is none."""
+    is_number = text.isascii() and text.isdigit() and len(text) < 19
+    if not is_number or not least <= int(text) <= (int(text) if most is None else most):
+        upper = "on" if most is None else f"to {most}"
+        raise BadArgument(f"{name}: {text} is no number from {least} {upper}")
+    return int(text)
+
+
 def one_of(name: str, value: Any, choices: Sequence[str]) -> str:
     """One of some words."""
     if not isinstance(value, str) or value not in choices:
-        raise BadArgument("%s: %s is none of %s" % (name, shown(value), ", ".join(choices)))
+        raise BadArgument(f'{name}: {shown(value)} is none of {", ".join(choices)}')
     return value
 
 

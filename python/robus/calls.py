@@ -109,8 +109,9 @@ def record(scenario: Source, node: str, *, engine: Which = None) -> Log:
 
 def replay(log: LogSource, *, engine: Which = None) -> Replay:
     """What the node of a log makes of it, without the rest of the bus."""
+    data = bytes_of(log)
     by = choose(["replay"], engine)
-    found = answer(by, ["replay"], bytes_of(log))
+    found = answer(by, ["replay"], data)
     return Replay(by, found.status, found.output)
 
 
@@ -118,15 +119,17 @@ def listen(log: LogSource, skip: int = 0, *, engine: Which = None) -> Replay:
     """What a passive listener makes of the log of a BIU from tick `skip` of the log on, which is
     tick 0 of its own."""
     words = ["listen", str(arguments.integer("skip", skip, 0, MOST_SKIP))]
+    data = bytes_of(log)
     by = choose(words, engine)
-    found = answer(by, words, bytes_of(log))
+    found = answer(by, words, data)
     return Replay(by, found.status, found.output)
 
 
 def bridge(document: Source, *, engine: Which = None) -> BridgeReport:
     """Runs the two buses of a bridge (docs/robus_bridge.md); the words that cross between them."""
+    given = scenario_of(document, "document")
     by = choose(["run"], engine, "robus_bridge")
-    found = answer(by, ["run"], scenario_of(document).text, program="robus_bridge")
+    found = answer(by, ["run"], given.text, program="robus_bridge")
     return BridgeReport(by, found.status, found.output)
 
 
@@ -178,8 +181,4 @@ def explain(scenario: Source, frame: Optional[int] = None, slot: Optional[int] =
         raise Refused(refusal_in(str(refusal)), given.text, given.file) from None
     except TooLong:
         raise Failed(("explain",), 4) from None
-    hands = hands_of(given, words, letters)
-    try:
-        return explanation_of(found, frame, slot, hands=hands)
-    except ValueError as fault:
-        raise BadArgument(f"frame, slot: {fault}") from None
+    return explanation_of(found, frame, slot, hands=hands_of(given, words, letters))

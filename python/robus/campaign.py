@@ -6,16 +6,18 @@ import os
 import sys
 from dataclasses import replace
 from pathlib import Path
-from typing import List, NoReturn, Optional, TextIO
+from typing import List, Optional, TextIO
 
+from robus.arguments import number_in
 from robus.campaign_faults import summary_of_faults
-from robus.campaign_plan import BusFaults, Plan, new_plan, plan_of, text_of
+from robus.campaign_plan import BusFaults, NoScenario, Plan, new_plan, plan_of, text_of
 from robus.campaign_rows import HEAD, MORE, put, rows_in, settle
 from robus.campaign_summary import histogram_of, summary_of
-from robus.campaign_words import BUS_DEFAULTS, Asked, asked_in, jobs_in, number_in, unit_in
+from robus.campaign_words import BUS_DEFAULTS, Asked, asked_in, jobs_in, unit_in
 from robus.campaign_workers import is_gnu_parallel, run_parallel, run_workers
 from robus.engines import TOP, Engine, choose
 from robus.errors import BadArgument, NoEngine
+from robus.lint import refusal_of
 from robus.tool import input_of
 
 HELP = """Runs many scenarios, and keeps a row of each.
@@ -49,10 +51,9 @@ tools/model, a second model of the bus in Python, which is not proved and slower
 build. The first line and the summary say if what runs them is not proved.
 
 Written are rows.csv, summary.txt, spread.svg, and plan.json for the next run. `scenario` prints the
-scenario of a row. docs/CAMPAIGNS.md has more."""
-def fail(why: str) -> NoReturn:
-    """Ends the tool with status 1 and a line on standard error."""
-    sys.exit("tools/campaign: " + why)
+scenario of a row. docs/CAMPAIGNS.md has more.
+
+status: 0 done, 2 wrong words or no such file, 70 some scenarios have no row, 130 interrupted"""
 
 
 def engine_of(name: Optional[str]) -> Engine:
@@ -79,6 +80,9 @@ def bus_of(asked: Asked) -> Optional[BusFaults]:
     except UnicodeDecodeError:
         raise BadArgument(f"--bus: {file} is no text in UTF-8") from None
     found = BusFaults(text, *[asked.values.get(it, BUS_DEFAULTS[it]) for it in BUS_DEFAULTS])
+    refusal = refusal_of(text.encode())
+    if refusal:
+        raise BadArgument(f"--bus: {file}: {refusal}; tools/lint says where and why")
     found.generator()
     return found
 
@@ -101,8 +105,8 @@ def kept_plan(folder: Path, plan: Plan, asked: Asked) -> Plan:
     return old if asked.get("--unit") is None else replace(old, unit=plan.unit)
 
 
-def run(folder: Path, plan: Plan, count: int, engine: Engine, asked: Asked, lock: TextIO) -> None:
-    """Runs what has no row yet."""
+def run(folder: Path, plan: Plan, count: int, engine: Engine, asked: Asked, lock: TextIO) -> bool:
+    """Runs what has no row yet. The result says whether it was interrupted."""
     found = rows_in(folder)
     numbers = [number for number in range(1, count + 1) if number not in found]
     items = [plan.item(folder, number) for number in numbers]
@@ -111,10 +115,9 @@ def run(folder: Path, plan: Plan, count: int, engine: Engine, asked: Asked, lock
     with open(folder / "rows.csv", "ab") as rows:
         if asked.options:
             words = [str(TOP / "tools/campaign_row"), name]
-            run_parallel(words, items, jobs, asked.options, rows, lock)
-        else:
-            words = [sys.executable, "-m", "robus", "campaign_rows", name]
-            run_workers(words, items, jobs or os.cpu_count() or 1, rows)
+            return run_parallel(words, items, jobs, asked.options, rows, lock)
+        words = [sys.executable, "-m", "robus", "campaign_rows", name]
+        return run_workers(words, items, jobs or os.cpu_count() or 1, rows)
 
 
 def tell(folder: Path, plan: Plan) -> int:
@@ -137,26 +140,29 @@ def campaign(folder: Path, count: int, seed: int, asked: Asked) -> int:
     """Runs a campaign, or goes on with it, and tells what its rows say."""
     bus, engine = bus_of(asked), engine_of(asked.get("--engine"))
     if asked.options and not is_gnu_parallel():
-        fail(f"{asked.options[0]} is for GNU parallel, which is not there: apt-get install "
-             "parallel, or the like")
+        raise NoEngine(f"{asked.options[0]} is for GNU parallel, which is not there: apt-get install "
+                       "parallel, or the like")
     print(f"tools/campaign: run by {engine}", file=sys.stderr)
     folder.mkdir(parents=True, exist_ok=True)
     with open(folder / "lock", "w") as lock:
         try:
             fcntl.flock(lock, fcntl.LOCK_EX | fcntl.LOCK_NB)
         except BlockingIOError:
-            fail(f"another run works in {folder}")
+            raise BadArgument(f"FOLDER: another run works in {folder}") from None
         plan = new_plan(folder, seed, engine.name, asked.get("--generator"), bus,
                         asked.get("--unit"))
         plan = kept_plan(folder, plan, asked)
         count = min(count, len(plan.files)) if plan.files else count
         head = HEAD + (MORE if plan.bus else [])
         settle(folder, head)
-        run(folder, plan, count, engine, asked, lock)
+        is_interrupted = run(folder, plan, count, engine, asked, lock)
         rows = settle(folder, head)
         missing = sum(1 for number in range(1, count + 1) if number not in rows)
+        left = f"{missing} of {count} scenarios have no row yet: the same line again goes on"
+        if is_interrupted:
+            raise KeyboardInterrupt(f"interrupted; {left}")
         if missing:
-            fail(f"{missing} of {count} scenarios have no row yet: the same line again goes on")
+            raise NoScenario(left)
         return tell(folder, plan)
 
 
@@ -178,19 +184,22 @@ def main(words: List[str]) -> int:
     unit_in(asked.get("--unit"))
     jobs_in(asked)
     if len(asked.words) < 2:
-        raise BadArgument("FOLDER and COUNT SEED, summary or scenario NUMBER are wanted; --help "
-                          "says more")
+        name = "COUNT (or summary, or scenario)" if asked.words else "FOLDER"
+        raise BadArgument(f"{name} is missing; --help says more")
     folder, *rest = Path(asked.words[0]), *asked.words[1:]
     if folder.exists() and not folder.is_dir():
         raise BadArgument(f"FOLDER: {folder} is no folder")
+    known = {"summary": 1, "scenario": 2}.get(rest[0])
+    if known and len(rest) > known:
+        raise BadArgument(f"{rest[known]} is one word too many behind {' '.join(rest[:known])}")
     if rest == ["summary"]:
         plan = plan_of(folder)
         return tell(folder, replace(plan, unit=asked.get("--unit") or plan.unit))
     if rest[:1] == ["scenario"]:
         if not rest[1:]:
-            raise BadArgument("NUMBER: that of a row is wanted behind scenario")
+            raise BadArgument("NUMBER is missing: which row's scenario is to be printed")
         return print_scenario(folder, rest[1])
     count = number_in("COUNT", rest[0], 1)
     if not rest[1:]:
-        raise BadArgument("SEED: a number is wanted behind COUNT")
+        raise BadArgument("SEED is missing behind COUNT")
     return campaign(folder, count, number_in("SEED", rest[1], 0), asked)

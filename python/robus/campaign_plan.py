@@ -14,7 +14,7 @@ from types import ModuleType
 from typing import TYPE_CHECKING, Any, Dict, List, Optional
 
 from robus.engines import TOP
-from robus.errors import BadArgument
+from robus.errors import BadArgument, RobusError
 
 if TYPE_CHECKING:
     from robus.generator import Generator
@@ -23,7 +23,7 @@ MAKER = TOP / "tools/scenario"
 UNPROVED = {"model": "tools/model, which is not proved", "quick": "an unproved build"}
 
 
-class NoScenario(Exception):
+class NoScenario(RobusError):
     """The scenario of an item can't be had, or its run gave nothing."""
 
 

@@ -20,7 +20,7 @@ from typing import Dict, List
 
 from robus.campaign_plan import NoScenario, columns_of, text_of
 from robus.engines import Engine, named
-from robus.errors import RobusError
+from robus.errors import BadArgument, RobusError
 from robus.rows import cell, rows_of
 from robus.summary import summary_of
 from robus.sweep import COLUMNS
@@ -28,6 +28,7 @@ from robus.sweep import COLUMNS
 HEAD = ["number", "scenario", *COLUMNS]
 # What a row of a bus with faults has beside these
 MORE = ["faults", "latency_least", "latency_greatest", "lost_of_good"]
+KINDS = "file", "seed", "bus", "command"  # of an item
 NUMBERS = "number", "deliveries", "none"  # what each whole row has as a number
 
 
@@ -36,9 +37,17 @@ def name_of(kind: str, source: str) -> str:
     return Path(source).name if kind == "file" else source.partition(" ")[0]
 
 
+def parts_of(item: str) -> List[str]:
+    """The number, the kind and the source of an item; BadArgument if it is none."""
+    parts = item.split(" ", 2)
+    if len(parts) < 3 or not parts[0].isdecimal() or parts[1] not in KINDS:
+        raise BadArgument(f"{item} is no item; one is as '1 seed 7' or '1 file bus.toml'")
+    return parts
+
+
 def row_text(engine: Engine, item: str) -> str:
     """The row of an item, as a line of CSV."""
-    number, kind, source = item.split(" ", 2)
+    number, kind, source = parts_of(item)
     text = text_of(kind, source)
     found = engine.call(["run"], text)
     if found.status < 0:
@@ -54,10 +63,14 @@ def row_text(engine: Engine, item: str) -> str:
 
 def main(words: List[str]) -> int:
     """Runs the items and writes their rows, each at once and whole."""
-    if not words or words[0] in ("--help", "-h"):
+    if words[:1] in (["--help"], ["-h"]):
         print(__doc__)
-        return 0 if words else 2
+        return 0
+    if not words:
+        raise BadArgument("ENGINE is missing; --help says more")
     engine, stopped, status = named(words[0]), [], 0
+    for item in words[1:]:
+        parts_of(item)
     for it in (signal.SIGINT, signal.SIGTERM):
         signal.signal(it, lambda *_: stopped.append(True))
     for item in words[1:] or (line.rstrip("\n") for line in sys.stdin):
@@ -65,8 +78,8 @@ def main(words: List[str]) -> int:
             return 1
         try:
             row = row_text(engine, item)
-        except (NoScenario, OSError, RobusError) as fault:
-            print(f"campaign: no row {item.split(' ')[0]}: {fault}", file=sys.stderr)
+        except (OSError, RobusError) as fault:
+            print(f"tools/campaign_row: no row {item.split(' ')[0]}: {fault}", file=sys.stderr)
             row, status = "\n", 1
         os.write(sys.stdout.fileno(), row.encode())
     return status

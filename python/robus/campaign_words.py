@@ -4,6 +4,7 @@ from __future__ import annotations
 from dataclasses import dataclass, field
 from typing import Dict, List, Optional
 
+from robus.arguments import number_in
 from robus.errors import BadArgument
 from robus.units import NoQuantity, Unit
 
@@ -45,15 +46,6 @@ def asked_in(words: List[str]) -> Asked:
         else:
             asked.words.append(it)
     return asked
-
-
-def number_in(name: str, text: str, least: int, most: Optional[int] = None) -> int:
-    """A number within a range; BadArgument with its name if it is none."""
-    is_number = text.isascii() and text.isdigit() and len(text) < 19
-    if not is_number or not least <= int(text) <= (int(text) if most is None else most):
-        upper = "on" if most is None else f"to {most}"
-        raise BadArgument(f"{name}: {text} is no number from {least} {upper}")
-    return int(text)
 
 
 def unit_in(text: Optional[str]) -> Optional[Unit]:

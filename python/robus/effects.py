@@ -117,8 +117,9 @@ def of_run(run: Watched, places: list[Place]) -> Iterator[Warned]:
     for place, say in zip(places, scenario.says):
         frame, slot = say.frames[0], say.slots[0]
         if run.breach and (frame, slot, say.stages[0]) > run.place:
-            yield place, "the run ends before, with the breach in frame %d, slot %d, stage %d" % (
-                run.place)
+            last_frame, last_slot, stage = run.place
+            yield place, (f"the run ends before, with the breach in frame {last_frame}, "
+                          f"slot {last_slot}, stage {stage}")
             continue
         since = convicted_since(run, say.source)
         slots = [(at, it) for at in range(say.frames[0], say.frames[1] + 1)

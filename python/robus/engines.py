@@ -140,7 +140,7 @@ class Program(Engine):
         """A program that was built or installed with robus."""
         here = Path(self.path)
         beside = here.parents[2] / program / "out" / program if here.parent.name == "out" else None
-        found = beside or here.with_name(program)
+        found = beside or quick_builds.beside(here, program)
         return found if os.access(found, os.X_OK) else None
 
     def has(self, words: Sequence[str], program: str = "robus") -> bool:
@@ -165,7 +165,7 @@ class Program(Engine):
                                      stdin=None if data is None else subprocess.PIPE)
         except (OSError, ValueError) as fault:
             why = getattr(fault, "strerror", None) or fault
-            raise NoEngine(f"{self.path} cannot be run: {why}") from None
+            raise NoEngine(f"engine: {self.path} cannot be run: {why}") from None
         if data is not None:
             threading.Thread(target=feed, args=(child.stdin, data), daemon=True).start()
         try:
@@ -292,17 +292,18 @@ def at_path(choice: str) -> Engine:
     """The library or the program at a path; NoEngine if there is none."""
     path = os.path.abspath(choice)
     if not os.path.isfile(path):
-        raise NoEngine("%s is no engine (%s) and no file" % (choice, ", ".join(ENGINES)))
+        raise NoEngine(f"engine: {choice or repr(choice)} is none of {', '.join(ENGINES)}, and no "
+                       "file")
     if not path.endswith(".so"):
         if not os.access(path, os.X_OK):
-            raise NoEngine(f"{choice} is no program: it may not be executed")
+            raise NoEngine(f"engine: {choice} is no program: it may not be executed")
         return Program(path)
     try:
         has_call = function_of(path, "robus") is not None
     except OSError as fault:
-        raise NoEngine(f"{choice} is no library: {fault}") from None
+        raise NoEngine(f"engine: {choice} is no library: {fault}") from None
     if not has_call:
-        raise NoEngine(f"{choice} has no robus_call")
+        raise NoEngine(f"engine: {choice} has no robus_call")
     return Library(path)
 
 
@@ -312,7 +313,7 @@ def named(choice: str) -> Engine:
         return at_path(choice)
     found = ENGINES[choice]()
     if found is None:
-        raise NoEngine(f"the engine {choice} is not there; docs/LIBRARY.md says how to have it")
+        raise NoEngine(f"engine: {choice} is not there; docs/LIBRARY.md says how to have it")
     return found
 
 
@@ -320,15 +321,15 @@ def choose(words: Sequence[str], engine: Which = None, program: str = "robus") -
     """The engine for these words: the one that is asked for, or the first that has them."""
     wanted = (os.environ.get("ROBUS_ENGINE") or None) if engine is None else engine
     if wanted is not None and not isinstance(wanted, (str, os.PathLike, Engine)):
-        raise BadArgument("engine: %s is no name (%s), no path and no Engine"
-                          % (shown(wanted), ", ".join(ENGINES)))
-    deed = "give a bus to your own software" if program == BUS else (
-        "do '%s'" % " ".join([program, *words[:1]]))
+        raise BadArgument(f"engine: {shown(wanted)} is no name ({', '.join(ENGINES)}), no path and "
+                          "no Engine")
+    deed = ("give a bus to your own software" if program == BUS else
+            f"do '{' '.join([program, *words[:1]])}'")
     if wanted is not None:
         found = wanted if isinstance(wanted, Engine) else named(os.fspath(wanted))
         if found.has(words, program):
             return found
-        raise NoEngine(f"the engine that is asked for, {found}, cannot {deed}")
+        raise NoEngine(f"engine: the one that is asked for, {found}, cannot {deed}")
     for find in ENGINES.values():
         it = find()
         if it is not None and it.has(words, program):

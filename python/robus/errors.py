@@ -37,7 +37,7 @@ class Failed(RobusError):
     def __init__(self, words: Tuple[str, ...], status: int, why: str = ""):
         self.words, self.status = words, status
         meaning = why or MEANINGS.get(status, "which docs/robus.md does not name")
-        super().__init__("robus %s: status %d, %s" % (" ".join(words), status, meaning))
+        super().__init__(f'robus {" ".join(words)}: status {status}, {meaning}')
 
 
 NO_BUS = {7: "no memory was left", 10: "the bus is closed",
@@ -111,4 +111,4 @@ class Refused(RobusError):
         refused = f"refused {self.code} {self.name}{number}"
         if self.finding is None:
             return refused
-        return "%s: %s:%d: %s" % (refused, self.file or "scenario", self.line, self.finding.why)
+        return f'{refused}: {self.file or "scenario"}:{self.line}: {self.finding.why}'

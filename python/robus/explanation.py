@@ -23,8 +23,8 @@ after it. With --unit U, the time of a reference unit, as 1ps, it prints times b
 --words and --letter hand words to BIUs, as tools/simulate does. It runs the scenario on
 tools/model, a second model of the bus, and not on the proved program. It is not proved."""
 
-FEW_GOOD = "the good {}s do not outnumber the other trusted ones that were heard in this frame"
-CAUSES = {"FewGoodBiu": FEW_GOOD.format("BIU"), "FewGoodRmu": FEW_GOOD.format("RMU"),
+OUTNUMBER = "do not outnumber the other trusted ones that were heard in this frame"
+CAUSES = {"FewGoodBiu": f"the good BIUs {OUTNUMBER}", "FewGoodRmu": f"the good RMUs {OUTNUMBER}",
           "TwoSided": "of both kinds a trusted node was heard differently by different receivers"}
 KINDS = "BIUs", "RMUs"
 CLASSES = "good", "symmetric", "asymmetric", "benign", "convicted"
@@ -154,25 +154,30 @@ def told(run: Watched, unit: Unit | None) -> list[str]:
 
 
 def explanation_of(scenario: model.Scenario, frame: int | None = None, slot: int | None = None,
-                   unit: Unit | None = None, hands: Iterable[model.HandIn] = ()) -> str:
+                   unit: Unit | None = None, hands: Iterable[model.HandIn] = (),
+                   names: tuple[str, str] = ("frame", "slot")) -> str:
     """What is told of a scenario's run with these words handed in, or of a slot of it; BadArgument
-    if the run has no such slot."""
+    if the run has no such slot, with one of the names of the two arguments."""
     if (frame is None) != (slot is None):
-        raise BadArgument("FRAME and SLOT are wanted together")
+        raise BadArgument(f"{names[frame is not None]}: it is missing; {' and '.join(names)} are "
+                          "wanted together")
     if frame is None:
         return "\n".join(told(watch(scenario, hands=hands), unit))
     run = watch(scenario, (frame, slot), hands)
     if (frame, slot) not in run.reached:
-        raise BadArgument(f"FRAME, SLOT: the run has no slot {slot} in frame {frame}")
+        slots = [number for of, number in run.reached if of == frame]
+        most = max(slots, default=max(of for of, _ in run.reached))
+        what = f"slot {slot} in frame {frame}" if slots else f"frame {frame}"
+        raise BadArgument(f"{names[bool(slots)]}: the run has no {what}; the last is {most}")
     return "\n".join(slot_table(run, frame, slot, unit))
 
 
 def main(words: list[str]) -> int:
     """tools/explain with these words; its status."""
     parser = Parser("tools/explain", HELP)
-    parser.add_argument("scenario", help="a file, or - for standard input")
-    parser.add_argument("frame", type=int, nargs="?")
-    parser.add_argument("slot", type=int, nargs="?")
+    parser.add_argument("scenario", metavar="SCENARIO", help="a file, or - for standard input")
+    parser.add_argument("frame", type=int, nargs="?", metavar="FRAME", help="a frame of the run")
+    parser.add_argument("slot", type=int, nargs="?", metavar="SLOT", help="a slot of that frame")
     parser.add_argument("--unit", type=Unit.of, help="the time of a reference unit, as 1ps")
     add_options(parser)
     asked = parser.parse_args(words)
@@ -181,7 +186,7 @@ def main(words: list[str]) -> int:
     if isinstance(scenario, int):
         return scenario
     hands = hands_of(data, asked.words, asked.letter)
-    text = explanation_of(scenario, asked.frame, asked.slot, asked.unit, hands)
+    text = explanation_of(scenario, asked.frame, asked.slot, asked.unit, hands, ("FRAME", "SLOT"))
     print("(by tools/model, a second model of the bus, not by the proved program)\n")
     print(text)
     return 0

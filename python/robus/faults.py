@@ -188,14 +188,14 @@ def liars_in(words: list[str], scenario: model.Scenario, is_aware: bool) -> list
             raise BadArgument(f"{word} has {why}")
         liars.append(Liar(node, [], is_aware))
     for name in (name_of(liar.node) for liar in liars if not liar.lies):
-        raise BadArgument(f"{name} has no lie: one is as 0/4/1=7@R0 or 0/5=silent")
+        raise BadArgument(f"LIE is missing behind {name}; one is as 0/4/1=7@R0 or 0/5=silent")
     return liars
 
 
 def main(words: list[str]) -> int:
     """tools/faults with these words; its status."""
     parser = Parser("tools/faults", HELP, SUPPRESS)
-    parser.add_argument("scenario", help="a file, or - for standard input")
+    parser.add_argument("scenario", metavar="SCENARIO", help="a file, or - for standard input")
     parser.add_argument("lies", nargs="+", metavar="NODE LIE..",
                         help="a node, as B1 or R2, and its lies; then the next node")
     parser.add_argument("--unaware", action="store_true",

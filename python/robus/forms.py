@@ -1,4 +1,5 @@
-"""Refusals of a scenario for its keys and forms: a key that is missing, one that there is not, a value of another form."""
+"""Refusals of a scenario for its keys and forms: a key that is missing, one that there is not, a
+value of another form."""
 from __future__ import annotations
 
 import difflib
@@ -27,7 +28,7 @@ def tables_of(document: model.Document) -> Iterator[tuple[Place, str, model.Docu
 
 def title(place: Place) -> str:
     """A table's name for a reader: `say 3` is the third [[say]]."""
-    return "the document" if not place else "plan" if place == ("plan",) else "%s %d" % (place[0], place[1] + 1)
+    return "the document" if not place else "plan" if place == ("plan",) else f"{place[0]} {place[1] + 1}"
 
 
 def near(key: str, keys: Iterable[str]) -> str | None:
@@ -39,7 +40,7 @@ def near(key: str, keys: Iterable[str]) -> str | None:
 def elsewhere(key: str, table: str) -> str:
     """In which other tables a key stands, in words."""
     there = [name for name, keys in TABLES.items() if name != table and key in keys]
-    return ", ".join("at the root" if name == "root" else "in " + ("plan" if name == "plan" else "[[%s]]" % name) for name in there)
+    return ", ".join("at the root" if name == "root" else "in " + ("plan" if name == "plan" else f"[[{name}]]") for name in there)
 
 
 def missing(place: Place, name: str, table: model.Document) -> Iterator[Broken]:
@@ -48,9 +49,9 @@ def missing(place: Place, name: str, table: model.Document) -> Iterator[Broken]:
         if is_required and key not in table:
             typo = next((it for it in table if it not in FIELDS[name] and near(it, FIELDS[name]) == key), None)
             why = f"{title(place)} has no {key}: {may_stand(name, key)}"
-            yield 2, place + ((typo,) if typo else ()), why + ("; is it what is spelt %s here?" % typo if typo else "")
+            yield 2, place + ((typo,) if typo else ()), why + (f"; is it what is spelt {typo} here?" if typo else "")
     if name == "say" and not any(key in table for key in SAYINGS):
-        yield 2, place, "%s says nothing: one of word, fault, sync and raw is to stand there" % title(place)
+        yield 2, place, f"{title(place)} says nothing: one of word, fault, sync and raw is to stand there"
 
 
 def unknown(place: Place, name: str, table: model.Document) -> Iterator[Broken]:
@@ -58,7 +59,7 @@ def unknown(place: Place, name: str, table: model.Document) -> Iterator[Broken]:
     for key in table:
         if key not in FIELDS[name]:
             like, other = near(key, [it for it in FIELDS[name] if it not in table] or FIELDS[name]), elsewhere(key, name)
-            hint = "did you mean %s?" % like if like else "it stands " + other if other else "there are " + ", ".join(FIELDS[name])
+            hint = f"did you mean {like}?" if like else "it stands " + other if other else "there are " + ", ".join(FIELDS[name])
             yield 3, place + (key,), f"{title(place)} has no key {key}: {hint}"
 
 

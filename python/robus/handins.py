@@ -106,14 +106,14 @@ def letter_of(source: LetterSource) -> Tuple[int, str, bytes]:
         frame, node, letter = source.split(":") if isinstance(source, str) else source
         letter = bytes.fromhex(letter) if isinstance(source, str) else letter
     except (TypeError, ValueError):
-        raise BadArgument(f"letter: {shown(source)} is not {form}") from None
+        raise BadArgument(f"letters: {shown(source)} is not {form}") from None
     frame = number_of(frame) if isinstance(frame, str) else frame
     try:
         arguments.node("node", node, "B")
         return (arguments.integer("frame", frame, 0, MOST_FRAME), node,
                 arguments.some_bytes("bytes", letter, 1, 255))
     except BadArgument as fault:
-        raise BadArgument(f"letter: {shown(source)}: {fault}") from None
+        raise BadArgument(f"letters: {shown(source)}: {fault}") from None
 
 
 class Writer:
@@ -149,7 +149,7 @@ class Writer:
             return
         self._slots += 1
         if self._slots > 1:
-            raise BadArgument(f"letter: {self.node} has more than one data slot in a frame, and "
+            raise BadArgument(f"letters: {self.node} has more than one data slot in a frame, and "
                               "says its word in each; let it ask for one (requests)")
         words = self._letters[0][1]
         del words[0]

@@ -1,4 +1,5 @@
-"""The keys of a scenario in words, table by table: what may stand at each, and what it is. docs/SCENARIOS.md is where they come from."""
+"""The keys of a scenario in words, table by table: what may stand at each, and what it is.
+docs/SCENARIOS.md is where they come from."""
 
 NODE = 'a node name, as "B0" or "R2"'
 ENDS = 'a node name, or "B" for all BIUs, "R" for all RMUs'

@@ -54,7 +54,7 @@ def listens(bus: model.Bus, slot: int, stage: int, kind: int) -> bool:
 
 def range_of(first: int, count: int) -> str:
     """The range of `count` numbers from the first on, as text."""
-    return "%d" % first if count == 1 else "%d..%d" % (first, first + count - 1)
+    return f"{first}" if count == 1 else f"{first}..{first + count - 1}"
 
 
 def drawing(bus: model.Bus) -> str:
@@ -67,7 +67,7 @@ def drawing(bus: model.Bus) -> str:
         wide = max(len(name), len(number))
         cells.append((name.ljust(wide), number.ljust(wide)))
         first += count
-    return "| %s |\n| %s |" % (" | ".join(it[0] for it in cells), " | ".join(it[1] for it in cells))
+    return f'| {" | ".join(it[0] for it in cells)} |\n| {" | ".join(it[1] for it in cells)} |'
 
 
 def owners_by_requests(scenario: model.Scenario) -> list[int | None]:
@@ -145,7 +145,7 @@ def table(bus: model.Bus, found: list[SlotRow], unit: Unit | None) -> list[str]:
 def main(words: list[str]) -> int:
     """tools/layout with these words; its status."""
     parser = Parser("tools/layout", HELP)
-    parser.add_argument("scenario", help="a file, or - for standard input")
+    parser.add_argument("scenario", metavar="SCENARIO", help="a file, or - for standard input")
     parser.add_argument("--frame", type=int, help="the owners of this frame of the run")
     parser.add_argument("--unit", type=Unit.of, help="the time of a reference unit, as 1ps")
     asked = parser.parse_args(words)

@@ -11,8 +11,8 @@ from robus.model import TooLong, model, read
 from robus.scenario import path_of
 from robus.tool import Parser, input_of
 
-HELP = """Says where and why a scenario is refused: every finding with its line, what stands there and
-what may stand there. It agrees with robus on what is refused, and names first the rule for which robus
+HELP = """Says where and why a scenario is refused: every finding with its line, what is there and
+what may be there. It agrees with robus on what is refused, and names first the rule for which robus
 refuses it. Of an accepted scenario it says what can have no effect, for which it runs the scenario
 on tools/model. It is not proved.
 
@@ -36,7 +36,7 @@ def spelt(place: Place) -> str:
     if not place:
         return ""
     is_entry = len(place) > 1 and isinstance(place[1], int) and place[0] in model.ENTRY_FIELDS
-    head, rest = ("%s %d" % (place[0], place[1] + 1), place[2:]) if is_entry else (str(place[0]), place[1:])
+    head, rest = (f"{place[0]} {place[1] + 1}", place[2:]) if is_entry else (str(place[0]), place[1:])
     return head + "".join(f"[{it}]" if isinstance(it, int) else f".{it}" for it in rest)
 
 
@@ -52,7 +52,8 @@ def short(text: str) -> str:
 
 
 def another_kind(data: bytes) -> str | None:
-    """What the bytes are where they are no scenario, but something else that robus reads or writes."""
+    """What the bytes are where they are no scenario, but something else that robus reads or
+    writes."""
     if data.startswith((b"RBL1", b"RBL2")):
         return "this is a log, which robus replay and robus listen read"
     if re.match(rb"e \d+ [BR]\d+ \d+ \d+$", data, re.MULTILINE):
@@ -72,7 +73,8 @@ def refusal_of(data: bytes) -> str | None:
 
 
 def findings_in(data: bytes) -> list[Finding]:
-    """All that is wrong with a document, in the order of its lines; nothing where it is accepted."""
+    """All that is wrong with a document, in the order of its lines; nothing where it is
+    accepted."""
     fault = syntax.fault_of(data)
     if fault:
         line, column, why = fault
@@ -129,7 +131,7 @@ def line_for(name: str, it: Finding) -> str:
 def main(words: list[str]) -> int:
     """tools/lint with these words; its status."""
     parser = Parser("tools/lint", HELP)
-    parser.add_argument("scenario", help="a file, or - for standard input")
+    parser.add_argument("scenario", metavar="SCENARIO", help="a file, or - for standard input")
     parser.add_argument("--json", action="store_true", help="a line of JSON for each finding")
     asked = parser.parse_args(words)
     try:
@@ -140,6 +142,7 @@ def main(words: list[str]) -> int:
     for it in found:
         print(json.dumps(asdict(it)) if asked.json else line_for(asked.scenario, it))
     if not asked.json:
-        count = "%d %s%s" % (len(found), "warning" if refusal is None else "finding", "" if len(found) == 1 else "s")
-        print("%s: %s, %s" % (asked.scenario, refusal or "accepted", count))
+        kind = "warning" if refusal is None else "finding"
+        count = f"{len(found)} {kind}{'' if len(found) == 1 else 's'}"
+        print(f'{asked.scenario}: {refusal or "accepted"}, {count}')
     return 3 if refusal else 0

@@ -1,7 +1,7 @@
 """Where things stand in a TOML document: for each key, entry and element its line and its text.
 
-A place is a tuple of keys and numbers, as ("say", 2, "slots", 0) for the first number of `slots` in the third `[[say]]`. The document
-must be one that a TOML reader has accepted."""
+A place is a tuple of keys and numbers, as ("say", 2, "slots", 0) for the first number of `slots` in
+the third `[[say]]`. The document must be one that a TOML reader has accepted."""
 from __future__ import annotations
 
 import re
@@ -42,7 +42,8 @@ class Locator:
             self.skip(BLANK)
 
     def skip(self, pattern: re.Pattern[str]) -> str:
-        """Goes behind what the pattern finds here; the text of it, which is empty where it finds nothing."""
+        """Goes behind what the pattern finds here; the text of it, which is empty where it finds
+        nothing."""
         found = pattern.match(self.text, self.at)
         self.at = found.end() if found and found.end() > self.at else self.at
         return found[0] if found else ""
@@ -56,7 +57,8 @@ class Locator:
         return low + 1
 
     def note(self, place: Place, begin: int) -> None:
-        """Keeps that a place stands from a character on up to here, where it has not been met before."""
+        """Keeps that a place stands from a character on up to here, where it has not been met
+        before."""
         self.lines.setdefault(place, self.line_at(begin))
         self.texts.setdefault(place, self.text[begin : self.at].strip())
 

@@ -2,15 +2,18 @@
 the package, and tools/model. It wants Python 3.11."""
 from __future__ import annotations
 
+import io
 import os
 import sys
 
 from robus.errors import BadArgument
 from robus.rows import names_in
-from robus.words import misused
+from robus.tool import input_of
+from robus.words import misused, with_file
 
 if sys.version_info < (3, 11):
-    raise ImportError("needs Python 3.11 or newer, and this is %d.%d" % sys.version_info[:2])
+    raise ImportError("needs Python 3.11 or newer, and this is "
+                      f"{sys.version_info[0]}.{sys.version_info[1]}")
 from robus import second_model as model  # noqa: E402
 
 BIU, RMU, TAIL = model.BIU, model.RMU, model.TAIL
@@ -36,9 +39,11 @@ def nodes_in(mask: int, kind: int) -> list[str]:
     return names_in(mask, "BR"[kind])
 
 
-HELP = """tools/model WORDS.. < INPUT: the second model of the bus, which is not proved. It writes
-what robus writes, with the same status, for run, check, record NODE, replay, gen SEED FRAMES and
-stress SEED FRAMES, as tools/model run < examples/one_silent_rmu.toml."""
+HELP = """tools/model WORDS.. [FILE]: the second model of the bus, which is not proved. For the
+words run, check, record NODE, replay, gen SEED FRAMES and stress SEED FRAMES it writes what robus
+writes, with the same status. Without FILE it reads standard input.
+
+    tools/model run examples/one_silent_rmu.toml"""
 
 
 def main(words: list[str]) -> int:
@@ -47,8 +52,11 @@ def main(words: list[str]) -> int:
         print(HELP)
         return 0
     if not words:
-        raise BadArgument("usage: tools/model run < SCENARIO (tools/model --help says more)")
-    status, text = model.answer(words, sys.stdin.buffer)
+        raise BadArgument("WORDS are missing, as in tools/model run SCENARIO; "
+                          "tools/model --help says more")
+    own, file = with_file(words)
+    data = sys.stdin.buffer if file is None else io.BytesIO(input_of(file))
+    status, text = model.answer(own, data)
     if status == 2:
         raise BadArgument(misused("tools/model", words, os.path.isfile(words[-1])))
     sys.stdout.buffer.write(text)

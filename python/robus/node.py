@@ -29,9 +29,9 @@ class Epoch:
 
 @dataclass(frozen=True)
 class Act:
-    """What a node gives at a tick: the bytes that it sends to all nodes of the other kind, 11 or 12,
-    or None; whether a window ended with the tick; the frame that begins, or None; and what it
-    delivers of that window, or None."""
+    """What a node gives at a tick: the bytes that it sends to all nodes of the other kind, 11 or
+    12, or None; whether a window ended with the tick; the frame of which this is the first tick, or
+    None; and what it delivers of that window, or None."""
 
     message: Optional[bytes]
     closes: bool
@@ -137,12 +137,12 @@ class Node:
         node.pass_(node.next_tick() - node.had)
         act = node.tick()
 
-    Ticks are counted from 0 by the node's own clock; what time they take is the caller's. What comes
-    before a tick is handed over by `arrive` before it. Ticks at which nothing happens may be left to
-    `pass_`. Of the scenario only sizes, plan, version, bus and probation are read. The node stays in
-    the thread that made it. Refused is raised if a key is missing, unknown or of another form,
-    NoNode if the plan is not feasible or the bus has no such node, and NoEngine if librobus.so is
-    not there."""
+    Ticks are counted from 0 by the node's own clock; what time they take is the caller's. What
+    comes before a tick is handed over by `arrive` before it. Ticks at which nothing happens may be
+    left to `pass_`. Of the scenario only sizes, plan, version, bus and probation are read. The node
+    stays in the thread that made it. Refused is raised if a key is missing, unknown or of another
+    form, NoNode if the plan is not feasible or the bus has no such node, and NoEngine if
+    librobus.so is not there."""
 
     def __init__(self, scenario: Source, name: str, *, engine: Which = None):
         self.name, self.had = name, 0
@@ -150,7 +150,7 @@ class Node:
         found = choose(["run"], engine)
         self._calls = calls_of(found.path) if isinstance(found, Library) else None
         if self._calls is None:
-            raise NoEngine("a node core is in librobus.so: make library builds it")
+            raise NoEngine("engine: a node core wants librobus.so, which make library builds")
         number = self._calls.robus_node_new(self._handle, seat)
         if number:
             raise NoNode(name, number)
@@ -167,8 +167,8 @@ class Node:
         self._calls.robus_node_arrive(self._handle, number, text, len(text))
 
     def wants(self) -> Union[None, str, int]:
-        """What the node wants to be handed for its next tick: None, "request" for the number of data
-        slots that it asks for, or the number of the data slot in which it says a word."""
+        """What the node wants to be handed for its next tick: None, "request" for the number of
+        data slots that it asks for, or the number of the data slot in which it says a word."""
         found = self._calls.robus_node_wants(self._handle)
         return (None, "request", found.slot)[found.what]
 

@@ -2,6 +2,7 @@
 from __future__ import annotations
 
 import argparse
+import re
 from dataclasses import fields, replace
 
 from robus import forms, ranges, syntax
@@ -41,6 +42,8 @@ MOST = 1000
 SIZES = "biu", "rmu", "slots"
 NUMBERS = "u", "r", "dmin", "dmax", "c"
 SHEET = "tick", "drift", "delay"
+# What is an option here, where it is a key of a scenario elsewhere
+OPTION = re.compile(rf"\b(?:{'|'.join(SIZES + NUMBERS)})\b")
 
 
 def up(top: int, below: int) -> int:
@@ -121,21 +124,22 @@ def bus_of(path: str) -> model.Bus | None:
     return model.Bus(values.biu, values.rmu, values.slots, values.plan)
 
 
-def sizes_in(asked: argparse.Namespace) -> model.Bus | list[str]:
-    """The bus of the sizes and numbers that are asked for, or all that is wrong with them."""
+def sizes_in(asked: argparse.Namespace) -> model.Bus:
+    """The bus of the sizes and numbers that are asked for; BadArgument if there is none."""
     given = {key: getattr(asked, key) for key in NUMBERS if getattr(asked, key) is not None}
     plan = replace(model.Plan(), **given)
     document = {"biu": asked.biu, "rmu": asked.rmu, "slots": asked.slots, "frames": 1,
                 "plan": {it.name: getattr(plan, it.name) for it in fields(plan)}}
     values = ranges.Values(document)
-    wrong = [why for _, _, why in ranges.findings(values)]
-    return wrong if wrong else model.Bus(asked.biu, asked.rmu, asked.slots, plan)
+    for _, _, why in ranges.findings(values):
+        raise BadArgument(OPTION.sub(r"--\g<0>", why))
+    return model.Bus(asked.biu, asked.rmu, asked.slots, plan)
 
 
 def parser_of_words() -> argparse.ArgumentParser:
     """What reads the words of tools/plan."""
     parser = Parser("tools/plan", HELP, argparse.SUPPRESS)
-    parser.add_argument("scenario", nargs="?", help="a file, or - for standard input")
+    parser.add_argument("scenario", nargs="?", metavar="SCENARIO", help="a file, or - for standard input")
     for key in SIZES:
         parser.add_argument("--" + key, type=int, help=forms.TABLES["root"][key][1])
     for key in NUMBERS:
@@ -157,12 +161,16 @@ def why_wrong(asked: argparse.Namespace) -> str | None:
     if asked.scenario is not None and numbers + sheet:
         return f"a scenario has its own sizes and plan, and --{(numbers + sheet)[0]} is for none"
     if asked.scenario is None and None in (asked.biu, asked.rmu, asked.slots):
-        return "a scenario is wanted, or --biu, --rmu and --slots; --help says more"
+        if not numbers + sheet:
+            return "SCENARIO is missing, or --biu, --rmu and --slots; --help says more"
+        missing = next(key for key in SIZES if getattr(asked, key) is None)
+        return f"--{missing} is missing; --biu, --rmu and --slots are wanted together"
     beside = [key for key in ("u", "r", "dmin", "dmax", "unit") if getattr(asked, key) is not None]
     if sheet and beside:
         return f"--{sheet[0]} chooses u, r, dmin, dmax and the unit, and --{beside[0]} fixes one"
     if sheet and len(sheet) < len(SHEET):
-        return "--tick or --rate, --drift and --delay are wanted together"
+        missing = next(key for key in SHEET if key not in sheet)
+        return f"--{missing} is missing; --tick or --rate, --drift and --delay are wanted together"
     return None
 
 
@@ -180,10 +188,7 @@ def main(words: list[str]) -> int:
         vars(asked).update(sheet.numbers(), unit=sheet.unit())
         print(f"the reference unit is {asked.unit}: {asked.u} units are a tick of "
               f"{time_text(sheet.tick)}")
-    bus = sizes_in(asked)
-    if isinstance(bus, list):
-        parser.exit(3, "".join(f"tools/plan: {why}\n" for why in bus))
-    return tell(bus, None, asked.unit)
+    return tell(sizes_in(asked), None, asked.unit)
 
 
 def of_scenario(parser: argparse.ArgumentParser, path: str, unit: Unit | None) -> int:

@@ -213,9 +213,10 @@ def run_once(name: str, words: List[str], data: bytes) -> Tuple[int, bytes]:
     raise NoEngine(f"the quick build of {name} did not run")
 
 
-HELP = """tools/quick PROGRAM WORDS..: runs PROGRAM (robus, robus_bridge or robus_picture) with these
-words as an unproved build. tools/quick --keep PROGRAM: builds PROGRAM if it is not kept, and prints its
-path. It ends with the program's status, and with 70 if the build or the run gives no answer.
+HELP = """tools/quick PROGRAM WORDS..: runs PROGRAM (robus, robus_bridge or robus_picture) with
+these words as an unproved build. tools/quick --keep PROGRAM: builds PROGRAM if it is not kept, and
+prints its path. It ends with the program's status, and with 70 if the build or the run gives no
+answer.
 """
 
 
@@ -227,8 +228,11 @@ def main(words: List[str]) -> int:
         print(HELP + "\n" + __doc__)
         return 0
     keeps, words = words[:1] == ["--keep"], words[words[:1] == ["--keep"]:]
-    if not words or words[0] not in TRIALS or keeps and len(words) > 1:
-        raise BadArgument("PROGRAM is to be one of %s; --help says more" % ", ".join(TRIALS))
+    if not words or words[0] not in TRIALS:
+        why = f"{words[0]} is none" if words else "it is missing"
+        raise BadArgument(f"PROGRAM: {why}; there are {', '.join(TRIALS)}")
+    if keeps and len(words) > 1:
+        raise BadArgument(f"{words[1]} is one word too many: --keep takes PROGRAM alone")
     if keeps:
         print(program_of(words[0]) or "")
         return 0

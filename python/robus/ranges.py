@@ -1,4 +1,5 @@
-"""Refusals of a scenario for values out of their range: numbers, names, pairs, lengths, entries that stand twice."""
+"""Refusals of a scenario for values out of their range: numbers, names, pairs, lengths, entries
+that stand twice."""
 from __future__ import annotations
 
 import re
@@ -14,7 +15,8 @@ LETTERS = "BR"
 
 
 class Values:
-    """A document's values, asked for by place: nothing where a value is missing or of another form."""
+    """A document's values, asked for by place: nothing where a value is missing or of another
+    form."""
 
     def __init__(self, document: model.Document) -> None:
         self.document = document
@@ -25,7 +27,8 @@ class Values:
         self.plan = self.whole_plan()
 
     def get(self, place: Place, key: str, default: Any = None) -> Any:
-        """The value at a key of the table at this place, or the default where it is missing or of another form."""
+        """The value at a key of the table at this place, or the default where it is missing or of
+        another form."""
         name, table = self.tables.get(place, ("root", {}))
         return table[key] if key in table and FIELDS[name][key][1](table[key]) else default
 
@@ -73,7 +76,7 @@ def number(values: Values, place: Place, key: str, low: int, high: int | None, w
     """A number that is out of its range; nothing where the range is not known."""
     value = values.get(place, key)
     if value is not None and high is not None and not low <= value <= high:
-        yield 5, place + (key,), "%s is to be %s%s" % (key, "%d to %d" % (low, high) if low < high else str(low), why)
+        yield 5, place + (key,), f"{key} is to be {low}{f' to {high}' if low < high else ''}{why}"
 
 
 def pair(values: Values, place: Place, key: str, low: int, high: int | None, why: str = "") -> Iterator[Broken]:
@@ -97,7 +100,7 @@ def node_name(values: Values, place: Place, key: str, find: Callable[[str], mode
     elif text[:1] in ("B", "R") and text[1:].isdigit() and (text[1:] == "0" or text[1:2] != "0"):
         kind = LETTERS.index(text[0])
         size = values.size(kind)
-        why = "the bus has %s0 to %s%d" % (text[0], text[0], size - 1) if size else "there are at most 16 of a kind"
+        why = f"the bus has {text[0]}0 to {text[0]}{size - 1}" if size else "there are at most 16 of a kind"
     else:
         why = 'names are as "B0" and "R2"' + (', or "B" and "R" for all' if find == values.end else "")
     yield 5, place + (key,), f"{key} names no node: {why}"
@@ -121,7 +124,7 @@ def of_root(values: Values) -> Iterator[Broken]:
     for key in ("requests", "words", "apps"):
         found = values.get((), key)
         if found is not None and values.biu is not None and len(found) != values.biu:
-            yield 5, (key,), "%s is to have one for each of the %d BIUs, and has %d" % (key, values.biu, len(found))
+            yield 5, (key,), f"{key} is to have one for each of the {values.biu} BIUs, and has {len(found)}"
 
 
 def of_plan(values: Values) -> Iterator[Broken]:
@@ -131,10 +134,10 @@ def of_plan(values: Values) -> Iterator[Broken]:
         yield from number(values, place, key, *RANGES[key])
     plan = {key: values.get(place, key, getattr(model.Plan(), key)) for key in ("u", "r", "dmin", "dmax")}
     if RANGES["r"][0] <= plan["r"] <= RANGES["r"][1] and plan["r"] >= plan["u"]:
-        yield 5, place + ("r",), "r is to be below u, which is %d" % plan["u"]
+        yield 5, place + ("r",), f'r is to be below u, which is {plan["u"]}'
     if plan["dmin"] > plan["dmax"]:
         key = "dmin" if values.get(place, "dmin") is not None else "dmax"
-        yield 5, place + (key,), "dmin is to be at most dmax, and they are %d and %d" % (plan["dmin"], plan["dmax"])
+        yield 5, place + (key,), f'dmin is to be at most dmax, and they are {plan["dmin"]} and {plan["dmax"]}'
 
 
 def twice(values: Values, name: str) -> Iterator[Broken]:
@@ -143,7 +146,7 @@ def twice(values: Values, name: str) -> Iterator[Broken]:
     for place in values.entries(name):
         node = values.node(values.get(place, "node"))
         if node in first and node is not None:
-            yield 5, place + ("node",), "%s has an entry already: %s" % (values.get(place, "node"), title(first[node]))
+            yield 5, place + ("node",), f'{values.get(place, "node")} has an entry already: {title(first[node])}'
         first.setdefault(node, place)
 
 
@@ -155,7 +158,7 @@ def of_clocks(values: Values) -> Iterator[Broken]:
         for index, (first, length) in enumerate(values.get(place, "ticks") or []):
             for spot, value, low, high in ((0, first, 0, model.MAX_TICKS), (1, length, 1, 2_000_000)):
                 if not low <= value <= high:
-                    yield 5, place + ("ticks", index, spot), "%s is to be %d to %d" % (("a first tick", "a length")[spot], low, high)
+                    yield 5, place + ("ticks", index, spot), f'{("a first tick", "a length")[spot]} is to be {low} to {high}'
     yield from twice(values, "clock")
 
 
@@ -194,14 +197,14 @@ def of_saying(values: Values, place: Place) -> Iterator[Broken]:
     table = values.tables[place][1]
     said = [key for key in SAYINGS if key in table]
     if len(said) > 1:
-        yield 5, place + (said[1],), "one of word, fault, sync and raw is to stand there, and there are %s" % " and ".join(said)
+        yield 5, place + (said[1],), f'one of word, fault, sync and raw is to stand there, and there are {" and ".join(said)}'
     for key in ("fault", "sync"):
         if values.get(place, key) is False:
             yield 5, place + (key,), f"{key} is to be true, or to be left out"
     yield from number(values, place, "word", 0, WORD)
     raw = values.get(place, "raw")
     if raw is not None and not re.fullmatch(r"([0-9a-fA-F]{2}){1,32}", raw, re.ASCII):
-        yield 5, place + ("raw",), "raw is to be 2 to 64 hexadecimal digits, two for each byte, and is %d characters" % len(raw)
+        yield 5, place + ("raw",), f"raw is to be 2 to 64 hexadecimal digits, two for each byte, and is {len(raw)} characters"
 
 
 def of_says(values: Values) -> Iterator[Broken]:
@@ -225,12 +228,12 @@ def of_ticks(values: Values, place: Place) -> Iterator[Broken]:
         return
     in_sync_slot = slots == (values.sync, values.sync)
     if stages[1] == TAIL and not in_sync_slot:
-        yield 5, place + ("stages",), "stage 4, the tail, is in the sync slot alone: slots is to be [%d, %d]" % (values.sync, values.sync)
+        yield 5, place + ("stages",), f"stage 4, the tail, is in the sync slot alone: slots is to be [{values.sync}, {values.sync}]"
         return
     bus = model.Bus(values.biu, values.rmu, values.slots, values.plan)
     least = min(bus.length_of(slot, stage) for slot in set(slots) for stage in range(stages[0], stages[1] + 1))
     if "offset" in values.tables[place][1]:
-        yield from number(values, place, "offset", 0, least - 1, ": the shortest window of the ranges has %d ticks" % least)
+        yield from number(values, place, "offset", 0, least - 1, f": the shortest window of the ranges has {least} ticks")
     most = values.plan.u - values.plan.r - 1 if in_sync_slot else 0
     yield from number(values, place, "early", 0, most, "" if in_sync_slot else ": a message comes early in the sync slot alone")
 

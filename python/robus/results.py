@@ -81,7 +81,7 @@ class Result:
     def ending(self) -> str:
         """How the run ended, in words."""
         if self.breach is None:
-            return "ended after %s frame%s" % (self.frames, "" if self.frames == 1 else "s")
+            return f'ended after {self.frames} frame{"" if self.frames == 1 else "s"}'
         it = self.breach
         return f"breach {it.cause} at frame {it.frame}, slot {it.slot}, stage {it.stage}"
 
@@ -240,7 +240,7 @@ class Stress(Result):
 
     def ending(self) -> str:
         """The numbers, in words."""
-        return ", ".join("%s %d" % it for it in self.numbers.items())
+        return ", ".join(f"{name} {number}" for name, number in self.numbers.items())
 
 
 @dataclass(frozen=True)

@@ -186,7 +186,8 @@ def compiled(form: str) -> Tuple[re.Pattern[str], List[Maker]]:
     """The pattern of a form, and what makes a value of the text of each field."""
     names = re.findall(r"<(\w+)>", form)
     pattern = form.replace("[", "(?:").replace("]", ")?")
-    pattern = re.sub(r"<(\w+)>", lambda it: "(%s)" % FIELDS.get(it[1], r"\d+"), pattern)
+    number = r"\d+"
+    pattern = re.sub(r"<(\w+)>", lambda it: f"({FIELDS.get(it[1], number)})", pattern)
     makers = [(lambda text: text) if name in TEXTS else number_or_none for name in names]
     return re.compile(pattern, re.ASCII), makers
 

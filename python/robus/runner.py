@@ -12,17 +12,18 @@ import sys
 import threading
 from contextlib import contextmanager
 from dataclasses import dataclass
-from typing import Iterator, List, Optional
+from typing import Iterator, List, Optional, Tuple
 
 from robus import engines, quick
 from robus.answers import fault_in, tail_of
-from robus.arguments import integer
+from robus.arguments import number_in
 from robus.calls import answer
 from robus.engines import Engine, Quick, Tried, Which
 from robus.errors import BadArgument, Failed, NoEngine
 from robus.scenario import Scenario
 from robus.tool import ENGINE_HELP, NOT_WRITTEN, NotWritten, Parser, drop_output, input_of
-from robus.words import FORMS, PROGRAMS, count_of, meaning, misused, reads
+from robus.words import (FORMS, PROGRAMS, SCENARIO_WORDS, count_of, meaning, misused, reads,
+                         with_file, wrong_in)
 
 HELP = """Runs the words of robus, or of robus_bridge as bridge and of robus_picture as picture, and
 writes what the program writes, with its status. FILE is what the program reads; without it, or
@@ -45,6 +46,7 @@ output.
     tools/picture examples/late_onset.toml 1 2 > run.svg
 
 status: 0 done, 2 wrong words or no such file, 70 there was no answer, else that of the run"""
+PAGES = ("--help", "-h", "--version")
 BRIDGE = re.compile(rb'^[ \t]*"?bridges"?[ \t]*=', re.MULTILINE)
 ONE_BUS = re.compile(rb'^[ \t]*"?biu"?[ \t]*=', re.MULTILINE)
 SLOW = ("still running: an unproved build takes hundreds of times as long as the program of "
@@ -125,10 +127,12 @@ def patience(tool: str, engine: Engine) -> Iterator[None]:
         timer.cancel()
 
 
-def run(call: Call, asked: Which = None) -> int:
-    """Runs a call, writes its output, and tells how it ended; its status."""
+def run(call: Call, asked: Which = None, known: Optional[Engine] = None) -> int:
+    """Runs a call, writes its output, and tells how it ended; its status. `known` is the engine
+    that was named already."""
     engine = engine_for(call.words, call.program, asked)
-    say(call.tool, f"run by {engine}")
+    if engine != known:
+        say(call.tool, f"run by {engine}")
     output = Output()
     data = call.data if reads(call.word) else b""
     try:
@@ -142,7 +146,7 @@ def run(call: Call, asked: Which = None) -> int:
         return NOT_WRITTEN
     why = fault_in(call.words, call.program, status, output.tail)
     if why:
-        raise Failed(tuple(call.words), status, why)
+        raise Failed(tuple(call.words), status, f"{why} ({engine})")
     if status == 2:
         raise BadArgument(misused(call.tool, call.words, is_file(call.words)))
     told = meaning(call.word, status, call.file)
@@ -158,7 +162,7 @@ def is_file(words: List[str]) -> bool:
 
 def refuse_other_kind(word: str, data: bytes, file: str) -> None:
     """Raises BadArgument if a bridge is run as one bus, or one bus as a bridge."""
-    if word == "run" and BRIDGE.search(data):
+    if word in SCENARIO_WORDS and BRIDGE.search(data):
         raise BadArgument(f"{file} is a bridge of two buses: make bridge SCENARIO={file} runs it")
     if word == "bridge" and not BRIDGE.search(data) and ONE_BUS.search(data):
         raise BadArgument(f"{file} is a scenario of one bus: make run SCENARIO={file} runs it")
@@ -174,12 +178,13 @@ def main(words: List[str]) -> int:
     parser.add_argument("--engine", help=ENGINE_HELP)
     asked = parser.parse_args(words[1:])
     count = count_of(word, len(asked.words))
+    wrong = wrong_in([word, *asked.words], reads(word))
+    if wrong:
+        raise BadArgument(wrong)
     own, rest = asked.words[:count], asked.words[count:]
-    if len(own) < count or len(rest) > reads(word):
-        raise BadArgument(f"the words are '{form}'; --help says more")
     file = rest[0] if rest else "-"
     if reads(word) and not rest and sys.stdin is not None and sys.stdin.isatty():
-        raise BadArgument(f"no FILE is named: the words are '{form}'")
+        raise BadArgument(f"FILE is missing: the words are '{form}'")
     data = input_of(file) if reads(word) else b""
     name = "standard input" if file == "-" else file
     refuse_other_kind(word, data, name)
@@ -194,44 +199,51 @@ def call_of(tool: str, program: str, words: List[str]) -> Call:
 
 
 def robus(words: List[str]) -> int:
-    """tools/robus with these words; the status."""
+    """tools/robus with these words; the status. A file behind them is read in place of standard
+    input."""
     if not words:
-        raise BadArgument("usage: tools/robus run < SCENARIO (tools/robus --help lists the words)")
-    return run(call_of("tools/robus", "robus", words))
+        raise BadArgument("WORDS are missing, as in tools/robus run SCENARIO; "
+                          "tools/robus --help lists them")
+    own, file = with_file(words)
+    is_word = words[0] in FORMS and words[0] not in PROGRAMS
+    if words[0] not in PAGES and not is_word or is_word and wrong_in(words, reads(words[0])):
+        raise BadArgument(misused("tools/robus", words, is_file(words)))
+    if file is None:
+        return run(call_of("tools/robus", "robus", own))
+    data = input_of(file)
+    refuse_other_kind(own[0], data, "standard input" if file == "-" else file)
+    return run(Call("tools/robus", own[0], own, data, None if file == "-" else file))
 
 
-def report_of(file: str, data: bytes, asked: Which) -> bytes:
-    """The report of a scenario's run; Refused, or Failed, if there is none."""
+def report_of(file: str, data: bytes, asked: Which) -> Tuple[bytes, Engine]:
+    """The report of a scenario's run, and what ran it; Refused, or Failed, if there is none."""
     name = "standard input" if file == "-" else file
     refuse_other_kind("run", data, name)
     engine = engine_for(["run"], "robus", asked)
     say("tools/picture", f"run by {engine}")
     with patience("tools/picture", engine):
-        return answer(engine, ["run"], data, scenario=Scenario(data, name)).output
+        return answer(engine, ["run"], data, scenario=Scenario(data, name)).output, engine
 
 
 def frames_in(words: List[str], report: bytes) -> List[str]:
     """The words FIRST and LAST, if the run has these frames."""
     ending = report.decode().splitlines()[-1].split()
     last = int(ending[1])
-    try:
-        first, behind = (int(it) for it in words)
-    except ValueError:
-        raise BadArgument("FIRST LAST: two numbers of frames are wanted, as 1 2") from None
-    integer("FIRST", first, 0, last)
-    integer("LAST", behind, first, last)
-    return [str(first), str(behind)]
+    first = number_in("FIRST", words[0], 0, last)
+    return [str(first), str(number_in("LAST", words[1], first, last))]
 
 
 def draw(words: List[str]) -> int:
     """tools/picture with these words; the status."""
     parser = Parser("tools/picture", DRAW_HELP)
-    parser.add_argument("scenario", help="a file, or - for standard input")
-    parser.add_argument("frames", nargs="*", metavar="FIRST LAST")
+    parser.add_argument("scenario", metavar="SCENARIO", help="a file, or - for standard input")
+    parser.add_argument("frames", nargs="*", default=[], metavar="FIRST LAST")
     parser.add_argument("--engine", help=ENGINE_HELP)
     asked = parser.parse_args(words)
-    if len(asked.frames) not in (0, 2):
-        raise BadArgument("usage: tools/picture SCENARIO [FIRST LAST]; --help says more")
-    report = report_of(asked.scenario, input_of(asked.scenario), asked.engine)
+    if len(asked.frames) == 1:
+        raise BadArgument("LAST is missing: FIRST and LAST are the numbers of two frames")
+    if len(asked.frames) > 2:
+        raise BadArgument(f"{asked.frames[2]} is one word too many behind FIRST and LAST")
+    report, engine = report_of(asked.scenario, input_of(asked.scenario), asked.engine)
     frames = frames_in(asked.frames, report) if asked.frames else []
-    return run(Call("tools/picture", "picture", frames, report), asked.engine)
+    return run(Call("tools/picture", "picture", frames, report), asked.engine, engine)

@@ -22,21 +22,22 @@ MOST_PARTS = 80  # of a path, as of a key in TOML
 Key = Union[str, int]
 
 
-def parts_of(path: str) -> List[Key]:
-    """The keys and numbers of a path: `fault[0].slot` is fault, 0, slot."""
+def parts_of(path: str, name: str = "path") -> List[Key]:
+    """The keys and numbers of a path: `fault[0].slot` is fault, 0, slot. `name` is that of the
+    argument that has the path."""
     if not isinstance(path, str):
-        raise BadArgument(f"path: {shown(path)} is no text; one is as fault[0].slot")
+        raise BadArgument(f"{name}: {shown(path)} is no path; one is as fault[0].slot")
     parts: List[Key] = []
     at = 0
     while at < len(path):
         found = PART.match(path, at)
         if not found or (at == 0) == path.startswith((".", "["), at):
-            raise BadArgument(f"path: {path!r} is none; one is as fault[0].slot or plan.h")
+            raise BadArgument(f"{name}: {path!r} is no path; one is as fault[0].slot or plan.h")
         parts.append(found[1] or (EACH if found[2] == "*" else int(found[2])))
         at = found.end()
     if not 1 <= len(parts) <= MOST_PARTS:
-        raise BadArgument("path: it has %d parts, and may have 1 to %d, as biu or fault[0].slot"
-                          % (len(parts), MOST_PARTS))
+        raise BadArgument(f"{name}: {shown(path)} has {len(parts)} parts, and a path has 1 to "
+                          f"{MOST_PARTS}, as biu or fault[0].slot")
     return parts
 
 
@@ -61,17 +62,19 @@ def plain(value: Any) -> Any:
 
 def put(document: Any, parts: List[Key], value: Any, at: int = 0) -> None:
     """Puts a value in a document, at the parts from `at` on. What is missing on the way is added,
-    and so is the entry behind the last one of an array."""
+    and so is the entry behind the last one of an array. NoPlace is raised if there is no such
+    place."""
     part, is_last, here = parts[at], at + 1 == len(parts), path_of(tuple(parts[:at + 1]))
     is_array = isinstance(part, int)
     if not isinstance(document, list if is_array else dict):
-        raise BadArgument(f"path: {here!r} is no place in this scenario")
+        raise NoPlace(f"{here!r} is no place in this scenario")
     if part == EACH:
         for number in range(len(document)):
             put(document, parts[:at] + [number] + parts[at + 1:], value, at)
         return
     if is_array and part > len(document):
-        raise NoEntry(f"path: {here}: there are {len(document)} entries")
+        raise NoPlace(f"{path_of(tuple(parts))!r} is no place in this scenario, which has "
+                      f"{len(document)} of {path_of(tuple(parts[:at]))!r}", is_beyond=True)
     if is_array and part == len(document):
         document.append(None)
     if is_last:
@@ -85,16 +88,26 @@ def put(document: Any, parts: List[Key], value: Any, at: int = 0) -> None:
 MISSING: Any = object()
 
 
+class NoPlace(Exception):
+    """A document has no such place, and none can be added there. `is_beyond` says that it is an
+    entry of an array that has not the one before it either."""
+
+    def __init__(self, why: str, is_beyond: bool = False):
+        super().__init__(why)
+        self.is_beyond = is_beyond
+
+
 class NoEntry(BadArgument, IndexError):
     """An array has no such entry, and not the one before it either."""
 
 
-def written(document: Any) -> bytes:
-    """A document as TOML; BadArgument if it has a value that TOML has not."""
+def written(name: str, document: Any) -> bytes:
+    """A document as TOML; BadArgument with the argument's name if it has a value that TOML has
+    not."""
     try:
         return toml.dumps(plain(document)).encode()
     except (TypeError, ValueError, RecursionError) as fault:
-        raise BadArgument("value: %s" % (fault or "it is nested too deeply")) from None
+        raise BadArgument(f"{name}: {fault or 'it is nested too deeply'}") from None
 
 
 @dataclass(frozen=True, repr=False)
@@ -126,7 +139,7 @@ class Scenario:
         """The scenario of a dict with the document's keys, as dict(biu=4, rmu=3, ..)."""
         if not isinstance(document, Mapping):
             raise BadArgument(f"document: {shown(document)} is no dict")
-        return cls(written(document))
+        return cls(written("document", document))
 
     def to_dict(self) -> Dict[str, Any]:
         """The document, as a dict of its own; Refused with 1 NotToml if the text is none."""
@@ -168,12 +181,23 @@ class Scenario:
 
         A key that is missing is added, and so is the entry behind the last of an array. `[*]` is
         each entry of an array, as in say[*].from. Comments are lost."""
+        if not isinstance(path, Mapping):
+            parts_of(path)
         if isinstance(path, Mapping) != (value is MISSING):
             raise BadArgument("value: with_ takes a path and its value, or a dict of paths")
+        return self.changed(path if isinstance(path, Mapping) else {path: value}, "path", "value")
+
+    def changed(self, values: Mapping[str, Any], path_name: str, value_name: str) -> Scenario:
+        """The scenario with these values at their paths. Paths and values have been given in
+        arguments of these names."""
         document = self.to_dict()
-        for place, it in (path.items() if isinstance(path, Mapping) else [(path, value)]):
-            put(document, parts_of(place), plain(it))
-        return Scenario.from_dict(document)
+        for path, value in values.items():
+            try:
+                put(document, parts_of(path, path_name), plain(value))
+            except NoPlace as fault:
+                kind = NoEntry if fault.is_beyond else BadArgument
+                raise kind(f"{path_name}: {fault}") from None
+        return Scenario(written(value_name, document))
 
     def without(self, path: str) -> Scenario:
         """The scenario without a key or an entry; KeyError if it is not there."""
@@ -189,25 +213,25 @@ class Scenario:
         return Scenario.from_dict(document)
 
     def __repr__(self) -> str:
-        return "Scenario(%s, %d bytes)" % (self.file or "of no file", len(self.text))
+        return f"Scenario({self.file or 'of no file'}, {len(self.text)} bytes)"
 
 
 Source = Union[Scenario, str, os.PathLike, bytes, Mapping[str, Any]]
 
 
-def scenario_of(source: Source) -> Scenario:
+def scenario_of(source: Source, name: str = "scenario") -> Scenario:
     """A scenario as it is; of a path that of the file, of bytes and of a str of several lines that
-    of the text, of a dict its own."""
+    of the text, of a dict its own. `name` is that of the argument."""
     if isinstance(source, Scenario):
         return source
     if isinstance(source, (bytes, bytearray)) or isinstance(source, str) and "\n" in source:
         return Scenario.from_toml(source)
     if isinstance(source, Mapping):
-        return Scenario.from_dict(source)
+        return Scenario(written(name, source))
     if not isinstance(source, (str, os.PathLike)):
-        raise BadArgument("scenario: %s is no Scenario, no path, no text of several lines and no "
-                          "dict" % shown(source))
-    return Scenario.read(source)
+        raise BadArgument(f"{name}: {shown(source)} is no Scenario, no path, no text of several "
+                          "lines and no dict")
+    return Scenario.read(arguments.path(name, source))
 
 
 __all__ = ["Scenario", "Source", "parts_of", "path_of", "scenario_of"]

@@ -200,7 +200,7 @@ def add_options(parser: Parser) -> None:
 def main(words: List[str]) -> int:
     """tools/simulate with these words; its status."""
     parser = Parser("tools/simulate", HELP)
-    parser.add_argument("scenario", help="a file, or - for standard input")
+    parser.add_argument("scenario", metavar="SCENARIO", help="a file, or - for standard input")
     add_options(parser)
     parser.add_argument("--engine", help=ENGINE_HELP)
     asked = parser.parse_args(words)
@@ -209,5 +209,6 @@ def main(words: List[str]) -> int:
     found = simulate(scenario, words=asked.words, letters=asked.letter, engine=asked.engine)
     say("tools/simulate", f"run by {found.engine}")
     sys.stdout.buffer.write(found.output)
+    sys.stdout.buffer.flush()
     say("tools/simulate", f"status {found.status}: {meaning('run', found.status, file)}")
     return found.status

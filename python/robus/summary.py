@@ -56,8 +56,8 @@ def summary_of(status: int, rows: Iterable[Row]) -> Summary:
     for breach in found[Breach]:
         end = dict(frame=breach.frame, slot=breach.slot, stage=breach.stage, cause=breach.cause)
     for it in found[Refusal]:
-        number = "" if it.number is None else " %d" % it.number
-        end = dict(cause="%d %s%s" % (it.code, it.name, number))
+        number = "" if it.number is None else f" {it.number}"
+        end = dict(cause=f"{it.code} {it.name}{number}")
     deliveries = found[Delivery]
     return Summary(status, convicted=convicted_in(found[Conviction]),
                    spread=spread_of(found[Epoch]), deliveries=len(deliveries),

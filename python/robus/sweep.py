@@ -61,12 +61,12 @@ def values_of(given: Any) -> Dict[str, Collection[Any]]:
     found: Dict[str, Collection[Any]] = {}
     for key, values in given.items():
         for path in keys_in(key):
-            parts_of(path)
+            parts_of(path, "values")
         if isinstance(values, (str, bytes, Mapping)) or not isinstance(values, Iterable):
-            raise BadArgument(f"{key}: {shown(values)} is no list and no range of values")
+            raise BadArgument(f"values: {key}: {shown(values)} is no list and no range of values")
         found[key] = values if isinstance(values, (range, list, tuple)) else list(values)
         if not found[key]:
-            raise BadArgument(f"{key}: {shown(values)} has no value")
+            raise BadArgument(f"values: {key}: {shown(values)} has no value")
     return found
 
 
@@ -90,7 +90,8 @@ def choices_of(values: Mapping[str, Collection[Any]]) -> Iterator[Choice]:
 
 def changed_by(scenario: Scenario, choice: Choice) -> Scenario:
     """The scenario with a choice of values."""
-    return scenario.with_({path: value for key, value in choice.items() for path in keys_in(key)})
+    changes = {path: value for key, value in choice.items() for path in keys_in(key)}
+    return scenario.changed(changes, "values", "values")
 
 
 def row_of(engine: Engine, scenario: Scenario, choice: Choice) -> SweepRow:
@@ -132,7 +133,8 @@ def sweep(scenario: Source, values: Values, *, engine: Which = None, workers: in
     `workers` runs are under way at a time, which helps if a library or a program runs them. Failed
     is raised if a run gives neither a report nor a refusal."""
     workers = arguments.integer("workers", workers, 1, MOST_WORKERS)
-    return list(rows_of(scenario_of(scenario), values_of(values), choose(["run"], engine), workers))
+    given, wanted = scenario_of(scenario), values_of(values)
+    return list(rows_of(given, wanted, choose(["run"], engine), workers))
 
 
 def value_cell(value: Any) -> Any:
@@ -150,7 +152,7 @@ def write_csv(keys: List[str], rows: Iterable[SweepRow], count: int, file: TextI
         out.writerow([value_cell(row.changes[key]) for key in keys] + summary)
         file.flush()
         if sys.stderr.isatty():
-            print("\r%d of %d " % (number, count), end="", file=sys.stderr)
+            print(f"\r{number} of {count} ", end="", file=sys.stderr)
     if sys.stderr.isatty():
         print(file=sys.stderr)
 
@@ -167,7 +169,7 @@ def values_in(key: str, text: str) -> Collection[Any]:
         return range(low, high + 1)
     if text.startswith("["):
         try:
-            return toml.loads(("values = %s\n" % text).encode())["values"]
+            return toml.loads(f"values = {text}\n".encode())["values"]
         except (ValueError, RecursionError) as fault:
             raise BadArgument(f"{key}: {shown(text)} is no array of TOML: {fault}") from None
     return [int(it) if re.fullmatch(r"-?\d{1,19}", it, re.ASCII) else it for it in text.split(",")]
@@ -176,7 +178,7 @@ def values_in(key: str, text: str) -> Collection[Any]:
 def main(words: List[str]) -> int:
     """tools/sweep with these words; its status."""
     parser = Parser("tools/sweep", HELP)
-    parser.add_argument("scenario", help="a file, or - for standard input")
+    parser.add_argument("scenario", metavar="SCENARIO", help="a file, or - for standard input")
     parser.add_argument("values", nargs="+", metavar="KEY=VALUES")
     parser.add_argument("--engine", help=ENGINE_HELP)
     parser.add_argument("--workers", type=int, default=1, help="how many runs at a time")
@@ -185,8 +187,10 @@ def main(words: List[str]) -> int:
     given: Dict[str, Collection[Any]] = {}
     for word in asked.values:
         key, is_there, text = word.partition("=")
-        if not is_there:
+        if not is_there or not key:
             raise BadArgument(f"{word} is not as KEY=VALUES")
+        if not text:
+            raise BadArgument(f"{key}: no value is behind the =")
         given[key] = values_in(key, text)
     workers = arguments.integer("--workers", asked.workers, 1, MOST_WORKERS)
     values, engine = values_of(given), choose(["run"], asked.engine)

@@ -18,7 +18,7 @@ proved.
 kinds and their columns (times in reference units, ticks of the node's clock; a word that is `none`
 is empty, in JSON null):
 
-%s
+KINDS
 
     robus run < bus.toml | tools/table deliveries > deliveries.csv
     robus run < bus.toml | tools/table --json | jq -c 'select(.kind == "deliveries")'
@@ -37,21 +37,25 @@ def write(kind: Optional[str], source: Iterable[str]) -> None:
 
 def main(words: list[str]) -> int:
     """tools/table with these words; its status."""
-    listed = "\n".join("    %-13s %s" % (kind, ", ".join(columns(kind))) for kind in LINES)
+    listed = "\n".join(f"    {kind:<13} {', '.join(columns(kind))}" for kind in LINES)
     usage = "tools/table KIND [FILE], tools/table --json [FILE]"
-    parser = Parser("tools/table", HELP % listed, usage)
+    parser = Parser("tools/table", HELP.replace("KINDS", listed), usage)
     parser.add_argument("words", nargs="*", help=argparse.SUPPRESS)
     parser.add_argument("--json", action="store_true", help="JSON of all lines, a line for each")
     asked = parser.parse_args(words)
     names = asked.words[:]
     kind = None if asked.json else names.pop(0) if names else None
-    if not asked.json and kind not in LINES or len(names) > 1:
-        raise BadArgument("a kind is wanted (%s), or --json, and then at most one file"
-                          % ", ".join(LINES))
+    if not asked.json and kind not in LINES:
+        why = f"{kind} is none" if kind else "it is missing"
+        raise BadArgument(f"KIND: {why}; there are {', '.join(LINES)}, or --json for all of them")
+    if len(names) > 1:
+        raise BadArgument(f"{names[1]} is one word too many: {usage}")
+    file = names[0] if names else "-"
     try:
-        with lines_of(names[0] if names else "-") as source:
+        with lines_of(file) as source:
             write(kind, source)
     except NoRow as fault:
-        print(f"tools/table: {fault}", file=sys.stderr)
+        name = "standard input" if file == "-" else file
+        print(f"tools/table: {name}: {fault}", file=sys.stderr)
         return 3
     return 0

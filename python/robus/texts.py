@@ -46,7 +46,7 @@ def message_text(bus: model.Bus, text: bytes) -> str:
     """Bytes as a reader says them: the word, fault or call; or the bytes themselves."""
     found = model.read_message(bus, text)
     if found is None:
-        return "bytes %s" % text.hex()
+        return f"bytes {text.hex()}"
     tag, _, _, _, value = found
     return str(value) if tag == model.WORD_TAG else TAGS[tag]
 

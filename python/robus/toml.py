@@ -9,6 +9,8 @@ import json
 import sys
 from typing import Any, Dict, List
 
+from robus.arguments import shown
+
 
 def loads(text: bytes) -> Dict[str, Any]:
     """The document that the bytes are; ValueError if they are none."""
@@ -22,7 +24,10 @@ def loads(text: bytes) -> Dict[str, Any]:
 
     from robus.model import model
 
-    return tomllib.loads(model.older_toml(text.decode("utf-8")))
+    characters = text.decode("utf-8")
+    if model.too_deep_at(characters) is not None:
+        raise ValueError("a value or a key is nested too deeply")
+    return tomllib.loads(model.older_toml(characters))
 
 
 def value_text(value: Any) -> str:
@@ -32,7 +37,7 @@ def value_text(value: Any) -> str:
     if isinstance(value, str):
         return json.dumps(value, ensure_ascii=False).replace("\x7f", "\\u007f")
     if isinstance(value, (list, tuple)):
-        return "[%s]" % ", ".join(map(value_text, value))
+        return f"[{', '.join(map(value_text, value))}]"
     if isinstance(value, dict):
         items = ", ".join(f"{key_text(key)} = {value_text(it)}" for key, it in value.items())
         return f"{{ {items} }}" if items else "{}"
@@ -40,7 +45,7 @@ def value_text(value: Any) -> str:
         return value.isoformat()
     if isinstance(value, (int, float)):
         return repr(value)
-    raise TypeError(f"TOML has no {type(value).__name__}")
+    raise TypeError(f"TOML has no value like {shown(value)}")
 
 
 def key_text(key: str) -> str:

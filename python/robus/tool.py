@@ -8,7 +8,7 @@ import sys
 import traceback
 from typing import Any, Callable, NoReturn, Optional, TextIO, Tuple
 
-from robus.errors import BadArgument, BusError, Failed, NoEngine, Refused
+from robus.errors import BadArgument, BusError, Refused, RobusError
 
 ENGINE_HELP = "library, program, quick, model, or a path (docs/LIBRARY.md)"
 # The statuses of a tool that failed. No program of the repository ends with 70 or 130
@@ -84,12 +84,12 @@ def drop_output() -> None:
 def failure_of(fault: BaseException) -> Tuple[str, int]:
     """Why a tool failed, in one line, and its status."""
     if isinstance(fault, KeyboardInterrupt):
-        return "interrupted", INTERRUPTED
+        return str(fault) or "interrupted", INTERRUPTED
     if isinstance(fault, (BadArgument, BusError)):
         return str(fault), MISUSED
     if isinstance(fault, Refused):
         return str(fault), REFUSED
-    if isinstance(fault, (Failed, NoEngine, ImportError)):
+    if isinstance(fault, (RobusError, ImportError)):
         return str(fault), NO_ANSWER
     if isinstance(fault, NotWritten):
         return str(fault), NOT_WRITTEN

@@ -46,7 +46,7 @@ def frames_in(text: str | None, run: Run) -> range:
 def parser_of(tool: str, page: str) -> Parser:
     """A parser of what tools/trace and tools/view have in common."""
     parser = Parser(tool, page)
-    parser.add_argument("scenario", help="a file, or - for standard input")
+    parser.add_argument("scenario", metavar="SCENARIO", help="a file, or - for standard input")
     parser.add_argument("--frames", metavar="FIRST:LAST", help="these frames of the run alone")
     parser.add_argument("--unit", type=Unit.of, help="the time of a reference unit, as 1ps")
     parser.add_argument("--engine", help=ENGINE_HELP)

@@ -125,6 +125,6 @@ class DataSheet:
         r = math.ceil(self.tick * self.drift / one + abs(self.tick / one - u))
         dmin, dmax = math.floor(self.delays[0] / one), math.ceil(self.delays[1] / one)
         if u < 2 or r >= u or dmin < 1:
-            raise NoQuantity(f"a tick of {time_text(self.tick)} and a delay of "
+            raise NoQuantity(f"--tick and --delay: a tick of {time_text(self.tick)} and a delay of "
                              f"{time_text(self.delays[0])} are too far apart for one unit")
         return {"u": u, "r": r, "dmin": dmin, "dmax": dmax}

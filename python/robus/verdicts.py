@@ -14,17 +14,18 @@ def why_accused(run: Watched, node: model.Node, source: int, place: Stage) -> st
     it, (frame, slot, stage) = run.stages[place][node], place
     came = it.heard.get(source, [])
     if source not in it.expected:
-        return "spoke where nothing was due (%s)" % heard_text(run.bus, came)
+        return f"spoke where nothing was due ({heard_text(run.bus, came)})"
     if not came:
         return "said nothing where a message was due"
     if len(came) > 1:
-        return "sent %d messages in one window" % len(came)
+        return f"sent {len(came)} messages in one window"
     found = model.read_message(run.bus, came[0][1])
     if found is None:
-        return "sent bytes that spell no message of this bus (%s)" % came[0][1].hex()
+        return f"sent bytes that spell no message of this bus ({came[0][1].hex()})"
     if found[1:4] != (frame % 65536, slot, stage):
-        return "sent a message for frame %d, slot %d, stage %d" % found[1:4]
-    return "sent a %s, which is none of this slot" % TAGS[found[0]]
+        of_frame, of_slot, of_stage = found[1:4]
+        return f"sent a message for frame {of_frame}, slot {of_slot}, stage {of_stage}"
+    return f"sent a {TAGS[found[0]]}, which is none of this slot"
 
 
 def evidence(run: Watched, accuser: model.Node, source: int, last_frame: int) -> str | None:

@@ -6,10 +6,12 @@ import pathlib
 import sys
 from importlib.machinery import SourceFileLoader
 from importlib.util import module_from_spec, spec_from_loader
+from typing import Optional
 
 from robus import engines
 from robus.__main__ import run
 from robus.model import model
+from robus.words import PROGRAMS
 
 TOP = pathlib.Path(__file__).resolve().parents[2]
 EXAMPLES = TOP / "examples"
@@ -58,6 +60,17 @@ def script(name: str):
 def run_model(*words: str, data: bytes) -> str:
     """What tools/model writes."""
     return model.answer(list(words), io.BytesIO(data))[1].decode()
+
+
+def program_for(word: str) -> Optional[str]:
+    """The path of the program, the library or the unproved build that runs a word of the package
+    here, or None. A picture of a scenario wants the programs of `run` and of `picture`."""
+    program = PROGRAMS.get("picture" if word == "draw" else word, "robus")
+    for find in (engines.library, engines.program, engines.quick):
+        found = find()
+        if found is not None and found.has([word], program):
+            return found.path
+    return None
 
 
 def is_fast(program: str) -> bool:

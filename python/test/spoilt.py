@@ -1,4 +1,5 @@
-"""Forty spoilt documents: what is written in place of what, with which line the scenario is refused, and line and words of the finding.
+"""Forty spoilt documents: what is written in place of what, with which line the scenario is
+refused, and line and words of the finding.
 
 The refusals are those that docs/SCENARIOS.md gives."""
 
@@ -78,6 +79,6 @@ SPOILT = [
     ("start = 60200", "start = 60201", "refused 9 StartApart", 12, "within p, which is 60200"),
     ("slots = [6, 6]", "slots = [5, 5]", "refused 10 SayOfGood", 28, "good until frame 0, slot 6"),
     ('from = "R2"', 'from = "R1"', "refused 10 SayOfGood", 26, "no [[fault]] entry"),
-    ("[[0, 10001], [100, 9999]]", "[" + ", ".join("[%d, 10000]" % tick for tick in range(4091)) + "]",
+    ("[[0, 10001], [100, 9999]]", "[" + ", ".join(f"[{tick}, 10000]" for tick in range(4091)) + "]",
      "refused 11 TooMany", 13, "4096 may be"),
 ]

@@ -1,4 +1,5 @@
-"""What tools/build has proved, in which order, and what it keeps, where a script stands for `rt`."""
+"""What tools/build has proved, in which order, and what it keeps, where a script stands for
+`rt`."""
 import os
 import pathlib
 import shutil
@@ -11,7 +12,9 @@ from helpers import TOP
 # Stands for `rt`: refuses a crate with a file src/wrong, and one below which a library is missing
 RT = """#!/bin/sh
 name=$(basename "$PWD")
-for low in $(grep "^$name:" ../../crates.txt | cut -d : -f 2); do [ -e "../$low/out/rlib/stamp" ] || { echo "no $low"; exit 2; }; done
+for low in $(grep "^$name:" ../../crates.txt | cut -d : -f 2); do
+    [ -e "../$low/out/rlib/stamp" ] || { echo "no $low"; exit 2; }
+done
 [ ! -e src/wrong ] || { echo "fn $name: not proved"; exit 1; }
 mkdir -p out/rlib && echo "$name" > out/rlib/stamp && echo "$name $*" >> "$ORDER"
 """
@@ -33,7 +36,8 @@ class Build(unittest.TestCase):
         (self.top / "bin/rt").chmod(0o755)
 
     def build(self, **more: str) -> tuple[int, str, str, list[str]]:
-        """The status of `tools/build robus`, what it writes, and the libraries that were proved, in their order."""
+        """The status of `tools/build robus`, what it writes, and the libraries that were proved, in
+        their order."""
         order = self.top / "order"
         order.write_text("")
         env = dict(os.environ, PATH=f"{self.top}/bin{os.pathsep}{os.environ['PATH']}", ORDER=str(order), RT_JOBS="2", **more)

@@ -102,14 +102,14 @@ class Campaigns(unittest.TestCase):
         self.assertEqual([row.split(",")[1] for row in self.rows()[1:]], ["40", "41"])
 
     def test_a_generator(self):
-        command = "cat '%s' #" % (EXAMPLES / "two_sided.toml")
+        command = f"cat '{EXAMPLES / 'two_sided.toml'}' #"
         self.assertEqual(self.campaign(2, 7, "--model", "--generator", command)[0], 0)
         self.assertEqual(self.rows()[1:], ["1,7,1,0,6,2,TwoSided,,0,7,0", "2,8,1,0,6,2,TwoSided,,0,7,0"])
         self.assertIn("is another campaign", self.campaign(2, 8, "--model")[2])
 
     def test_a_scenario_that_cannot_be_had_has_no_row(self):
         status, _, said = self.campaign(2, 1, "--model", "--generator", "exit 3 #")
-        self.assertEqual((status, self.rows()), (1, self.rows()[:1]))
+        self.assertEqual((status, self.rows()), (70, self.rows()[:1]))
         self.assertIn("2 of 2 scenarios have no row yet: the same line again goes on", said)
 
     def test_it_goes_on_with_what_it_began_with(self):
@@ -124,7 +124,7 @@ class Campaigns(unittest.TestCase):
         path.write_text("#!/bin/sh\necho another program of this name\n")
         path.chmod(path.stat().st_mode | stat.S_IXUSR)
         status, _, said = self.campaign(3, 1, "--model", "--retries", 3, path=str(path.parent) + os.pathsep)
-        self.assertEqual((status, said.startswith("tools/campaign: --retries is for GNU parallel")), (1, True))
+        self.assertEqual((status, said.startswith("tools/campaign: --retries is for GNU parallel")), (70, True))
         path.write_text(PARALLEL)
         status, _, said = self.campaign(3, 1, "--model", "--retries", 3, path=str(path.parent) + os.pathsep)
         self.assertEqual((status, len(self.rows())), (0, 4), said)

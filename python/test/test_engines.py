@@ -14,20 +14,23 @@ from helpers import EXAMPLES, TOP, output_of
 from robus import engines
 from robus.answers import fault_in
 
-# Stands for librobus.so: the words with `|` between them, the input, and so many bytes more as the last word says
+# Stands for librobus.so: the words with `|` between them, the input, and as many bytes more as the
+# last word says
 STUB = r"""
 #include <stdint.h>
 #include <stdlib.h>
 #include <string.h>
 typedef struct { int32_t status; uint64_t length; } robus_answer;
 
-robus_answer robus_call(const uint8_t *words, size_t words_length, const uint8_t *input, size_t input_length,
+robus_answer robus_call(const uint8_t *words, size_t words_length,
+                        const uint8_t *input, size_t input_length,
                         uint8_t *output, size_t output_length) {
     size_t last = words_length;
     while (last > 0 && words[last - 1] != 0) last--;
     size_t more = strtoull((const char *)words + last, 0, 10), length = 0;
     for (size_t i = 0; i < words_length + input_length + more; i++) {
-        uint8_t byte = i < words_length ? (words[i] ? words[i] : '|') : i < words_length + input_length ? input[i - words_length] : '+';
+        uint8_t byte = i < words_length ? (words[i] ? words[i] : '|')
+                     : i < words_length + input_length ? input[i - words_length] : '+';
         if (length < output_length) output[length] = byte;
         length++;
     }
@@ -69,10 +72,11 @@ class Choice(unittest.TestCase):
             path.chmod(path.stat().st_mode | stat.S_IXUSR)
             report = robus.run(b"breach 0 0 2 TwoSided\n", engine=str(path))
             self.assertEqual((report.status, report.text), (1, "end 1\nbreach 0 0 2 TwoSided\n"))
-            self.assertEqual(str(report.engine), "program %s" % path)
+            self.assertEqual(str(report.engine), f"program {path}")
 
     def test_an_engine_that_is_none(self):
-        """What is no program and no library, or answers as no program of ROBUS does, has no result."""
+        """What is no program and no library, or answers as no program of ROBUS does, has no
+        result."""
         with tempfile.TemporaryDirectory() as folder:
             text = Path(folder, "text")
             text.write_text("no program")
@@ -89,7 +93,8 @@ class Choice(unittest.TestCase):
                 robus.run(EXAMPLES / "two_sided.toml", engine=3)
 
     def test_a_torn_answer_is_none(self):
-        """Each output has a last line of its word: docs/robus.md and docs/robus_bridge.md name them."""
+        """Each output has a last line of its word: docs/robus.md and docs/robus_bridge.md name
+        them."""
         for word, status, whole in (("run", 0, b"e 0 B0 0 0\nend 1\n"), ("run", 1, b"breach 0 0 2 TwoSided\n"), ("run", 3, b"refused 2 MissingKey\n"),
                                     ("check", 0, b"C6 1 0\nC7 60200 60109\n"), ("record", 1, b"RBL1\x02\x04"), ("spell", 0, b"w 16777218\n"),
                                     ("stress", 0, b"convicted 2\nspread 60200\n"), ("stress", 1, b"")):
@@ -155,7 +160,7 @@ class SharedLibrary(unittest.TestCase):
     def test_a_buffer_that_is_too_small_is_made_greater(self):
         more = 2 * engines.FIRST_LENGTH
         found = self.engine.raw(["stress", str(more)], b"")
-        self.assertEqual((found.status, len(found.output)), (0, len("stress|%d" % more) + more))
+        self.assertEqual((found.status, len(found.output)), (0, len(f"stress|{more}") + more))
 
     def test_it_has_no_bridge(self):
         self.assertFalse(self.engine.has(["run"], "robus_bridge"))
@@ -168,15 +173,15 @@ class Installed(unittest.TestCase):
             self.assertEqual((done.returncode, done.stderr), (0, ""))
             env = {"PATH": os.environ["PATH"], "PYTHONPATH": prefix + "/lib/python3/dist-packages", "ROBUS_ENGINE": "model",
                    "PYTHONDONTWRITEBYTECODE": "1"}
-            words = "import robus; print(robus.__file__, robus.run('%s').convicted)" % (EXAMPLES / "one_silent_rmu.toml")
+            words = f"import robus; print(robus.__file__, robus.run('{EXAMPLES / 'one_silent_rmu.toml'}').convicted)"
             done = subprocess.run([sys.executable, "-c", words], cwd=prefix, env=env, capture_output=True, text=True)
-            self.assertEqual(done.stdout, "%s/lib/python3/dist-packages/robus/__init__.py ('R2',)\n" % prefix)
+            self.assertEqual(done.stdout, f"{prefix}/lib/python3/dist-packages/robus/__init__.py ('R2',)\n")
             program = Path(prefix, "bin/robus")
             program.parent.mkdir()
             program.write_text(PROGRAM)
             words = "from robus import engines; print(engines.program())"
             done = subprocess.run([sys.executable, "-c", words], cwd=prefix, env=env, capture_output=True, text=True)
-            self.assertEqual(done.stdout, "program %s\n" % program)
+            self.assertEqual(done.stdout, f"program {program}\n")
 
 
 if __name__ == "__main__":

@@ -44,8 +44,8 @@ class Explain(unittest.TestCase):
         self.assertIn("breach in frame 0, slot 0 (request of B0), stage 2: FewGoodRmu", text)
         self.assertIn("RMUs: 1 good, 2 symmetric\n", text)
         for name in ("R1", "R2"):
-            self.assertIn("%s   symmetric, faulty since frame 0, slot 0\n"
-                          "     slot 0 (request of B0), stage 2: B0..B2 took 9\n" % name, text)
+            self.assertIn(f"{name}   symmetric, faulty since frame 0, slot 0\n"
+                          "     slot 0 (request of B0), stage 2: B0..B2 took 9\n", text)
 
     def test_two_faces_on_both_sides(self):
         text = explained("two_sided.toml")

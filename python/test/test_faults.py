@@ -1,4 +1,5 @@
-"""What tools/faults writes: a node whose lies are no lies is as good as a good one, and the run of the entries is the liar's run."""
+"""What tools/faults writes: a node whose lies are no lies is as good as a good one, and the run of
+the entries is the liar's run."""
 import random
 import unittest
 
@@ -24,7 +25,8 @@ def lines_without(report: str, node: str) -> list:
 
 
 def scenarios(count: int):
-    """Random scenarios that the maker of tools/compare_models writes, with a node that is good in all of the run."""
+    """Random scenarios that the maker of tools/compare_models writes, with a node that is good in
+    all of the run."""
     rng, found = random.Random(3), 0
     while found < count:
         data = maker.toml_text(maker.random_scenario(rng))
@@ -39,8 +41,8 @@ def right_word(scenario, node) -> str:
     """A lie that is none: the node's own request, or the empty vector that it says at first."""
     kind, number = node
     if kind == 0:
-        return "0/%d/1=%d" % (number, scenario.requests[number])
-    return "0/%d/1=%s" % (2 * scenario.bus.biu + scenario.bus.slots + number, vector_of(scenario, node))
+        return f"0/{number}/1={scenario.requests[number]}"
+    return f"0/{2 * scenario.bus.biu + scenario.bus.slots + number}/1={vector_of(scenario, node)}"
 
 
 def vector_of(scenario, node) -> int:
@@ -73,7 +75,7 @@ class Faults(unittest.TestCase):
     def test_the_entries_make_the_run_of_the_liar(self):
         for rng, data, scenario, node in scenarios(8):
             slot = rng.randrange(scenario.bus.sync)
-            lie = "0/%d..%d=%s" % (slot, scenario.bus.sync, rng.choice(["silent", "fault", "99"]))
+            lie = f'0/{slot}..{scenario.bus.sync}={rng.choice(["silent", "fault", "99"])}'
             status, text = output_of("faults", ["-", name_of(node), lie], data)
             if status == 2:
                 continue

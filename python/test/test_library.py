@@ -1,4 +1,5 @@
-"""The package's calls: the worked examples of docs/robus.md, all of examples/, random scenarios against tools/model, and errors."""
+"""The package's calls: the worked examples of docs/robus.md, all of examples/, random scenarios
+against tools/model, and errors."""
 import json
 import multiprocessing
 import random
@@ -18,7 +19,7 @@ maker = script("compare_models")
 
 def needs(program: str):
     """For a test of words that tools/model lacks."""
-    return unittest.skipUnless(is_fast(program), "no library or program of %s is there" % program)
+    return unittest.skipUnless(is_fast(program), f"no library or program of {program} is there")
 
 
 def line_of(row) -> str:
@@ -73,7 +74,7 @@ class WorkedExamples(unittest.TestCase):
         self.assertEqual(robus.stress(7, 200).numbers, {"frames": 200, "deliveries": 22621, "convicted": 2, "spread": 60200})
         self.assertEqual(robus.spell(bytes.fromhex("6869")), [16777218, 40397056])
         found = robus.letters(EXAMPLES / "letter.toml")
-        self.assertEqual([line_of(it).replace("letters", "m") for it in found.letters], ["m 0 5 B%d B0 6869" % it for it in range(3)])
+        self.assertEqual([line_of(it).replace("letters", "m") for it in found.letters], [f"m 0 5 B{it} B0 6869" for it in range(3)])
         self.assertEqual([it.word for it in robus.group(SILENT, "mid", ["B0", "B1", "B2"]).values], [20] * 4)
 
     @needs("robus")
@@ -106,7 +107,7 @@ class Examples(unittest.TestCase):
     def test_a_breach_is_no_error(self):
         found = robus.run(EXAMPLES / "two_sided.toml")
         self.assertEqual(found.breach, rows.Breach(None, 0, 6, 2, "TwoSided"))
-        self.assertIn("breach TwoSided at frame 0, slot 6, stage 2, 7 deliveries, by %s" % found.engine, repr(found))
+        self.assertIn(f"breach TwoSided at frame 0, slot 6, stage 2, 7 deliveries, by {found.engine}", repr(found))
         self.assertEqual((found.status, found.frames), (1, None))
         log = robus.record(EXAMPLES / "two_sided.toml", "B0")
         self.assertEqual(log.status, 1)
@@ -130,7 +131,8 @@ class Examples(unittest.TestCase):
 
 
 class Promises(unittest.TestCase):
-    """Reports of random scenarios: the library, the program and tools/model give the same, and they have what README.md promises."""
+    """Reports of random scenarios: the library, the program and tools/model give the same, and they
+    have what README.md promises."""
 
     def test_random_scenarios(self):
         with multiprocessing.Pool() as pool:
@@ -204,7 +206,7 @@ class Errors(unittest.TestCase):
         it = caught.exception
         self.assertEqual((it.code, it.name, it.number), (3, "UnknownKey", None))
         self.assertEqual((it.file, it.line, it.key), (str(path), text.splitlines().index("colour = 1") + 1, "colour"))
-        self.assertIn("refused 3 UnknownKey: %s:%d: the document has no key colour" % (path, it.line), str(it))
+        self.assertIn(f"refused 3 UnknownKey: {path}:{it.line}: the document has no key colour", str(it))
 
     def test_the_place_is_a_path_of_the_scenario(self):
         scenario = robus.Scenario.read(EXAMPLES / "late_onset.toml").with_("fault[0].slot", 14)

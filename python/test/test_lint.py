@@ -1,4 +1,5 @@
-"""What tools/lint says of spoilt documents, of whole ones, and of those that say what can have no effect."""
+"""What tools/lint says of spoilt documents, of whole ones, and of those that say what can have no
+effect."""
 import pathlib
 import random
 import unittest
@@ -70,7 +71,7 @@ class Spoilt(unittest.TestCase):
         for name, keys in TABLES.items():
             self.assertEqual(set(keys), set(FIELDS[name]))
             for key in keys:
-                self.assertIn("`%s`" % key, page)
+                self.assertIn(f"`{key}`", page)
 
 
 class Warnings(unittest.TestCase):
@@ -101,7 +102,8 @@ class Places(unittest.TestCase):
 
 
 class Depth(unittest.TestCase):
-    """docs/SCENARIOS.md: arrays and inline tables are nested at most 80 deep, and a key has at most 80 parts."""
+    """docs/SCENARIOS.md: arrays and inline tables are nested at most 80 deep, and a key has at most
+    80 parts."""
 
     def test_the_limit(self):
         for text in ("x = %s%s", "x = %s1%s", "[%s]", "%s = 1", "x = { %s = 1.5 }"):
@@ -111,7 +113,7 @@ class Depth(unittest.TestCase):
                     found = text % tuple(it * levels for it in ends)
                 else:
                     found = text % ".".join(["x"] * levels)
-                data = ("biu = 1\nrmu = 1\nslots = 1\nframes = 1\n%s\n" % found).encode()
+                data = (f"biu = 1\nrmu = 1\nslots = 1\nframes = 1\n{found}\n").encode()
                 self.assertEqual(int(lint(data)[0].split()[1]), code, found)
 
     def test_what_is_far_deeper(self):

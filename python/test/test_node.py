@@ -1,4 +1,5 @@
-"""Node cores from Python: seven of them on a bus with clocks and delays of its own, refusals, and bytes of any kind."""
+"""Node cores from Python: seven of them on a bus with clocks and delays of its own, refusals, and
+bytes of any kind."""
 import random
 import unittest
 
@@ -18,7 +19,8 @@ def has_cores() -> bool:
 
 
 def deliveries_of(nodes: dict, silent: str, words: dict) -> list:
-    """What the BIUs of a bus deliver in frame 0, by slot and receiver. Node number i has its tick k at 700 i + k (9999 + i mod 3)."""
+    """What the BIUs of a bus deliver in frame 0, by slot and receiver. Node number i has its tick k
+    at 700 i + k (9999 + i mod 3)."""
     number = {name: i for i, name in enumerate(nodes)}
     time = lambda name, tick: 700 * number[name] + tick * (9999 + number[name] % 3)
     flying, found, begun = [], [], set()

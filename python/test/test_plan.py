@@ -1,4 +1,5 @@
-"""What tools/plan computes: docs/SCENARIOS.md's numbers, and a plan of which no number can be less."""
+"""What tools/plan computes: docs/SCENARIOS.md's numbers, and a plan of which no number can be
+less."""
 import random
 import re
 import unittest
@@ -43,7 +44,8 @@ class Plans(unittest.TestCase):
                                 ["C5", "75006", "61448"], ["C6", "129987", "126450"], ["C7", "60200", "60109"]])
 
     def test_each_of_the_four_may_be_greatest_in_inequality_7(self):
-        # 2 e + 2 r (l + v + z) and the greatest of e, dmax + g - c s, c g - dmin and 2 r c, with l = v = z = 1
+        # 2 e + 2 r (l + v + z) and the greatest of e, dmax + g - c s, c g - dmin and 2 r c, with l
+        # = v = z = 1
         for (u, r, dmin, dmax, c), right in (((10000, 1, 5000, 15000, 1), 2 * 20001 + 6 + 20001), ((10000, 1, 15000, 15000, 0), 20002 + 6 + 25001),
                                              ((10000, 1, 100, 100, 5), 20002 + 6 + 49905), ((1000, 2, 299500, 299500, 300), 2004 + 12 + 1200)):
             plan = model.Plan(u=u, r=r, dmin=dmin, dmax=dmax, c=c, l=1, h=1, v=1, z=1)
@@ -115,7 +117,7 @@ class Plans(unittest.TestCase):
         self.assertGreater(found, 100)
 
     def test_sizes_out_of_range(self):
-        self.assertEqual(output_of("plan", ["--biu", "17", "--rmu", "1", "--slots", "1"])[0], 3)
+        self.assertEqual(output_of("plan", ["--biu", "17", "--rmu", "1", "--slots", "1"])[0], 2)
         self.assertEqual(output_of("plan", ["--biu", "1"])[0], 2)
 
 

@@ -1,4 +1,5 @@
-"""Scenarios as values: what docs/LIBRARY.md says of reading, changing and writing, on what docs/SCENARIOS.md says of their form."""
+"""Scenarios as values: what docs/LIBRARY.md says of reading, changing and writing, on what
+docs/SCENARIOS.md says of their form."""
 import random
 import tempfile
 import tomllib

@@ -34,11 +34,11 @@ WRONG_WORDS = (
     (b"x", "words: b'x' is no path of a CSV and no list of hand-ins"))
 WRONG_LETTERS = (
     (["1:B0:68"], "letters: the run ends before 1:B0:68 is sent"),
-    (["0:B0"], "letter: '0:B0' is not FRAME:NODE:HEX, as 3:B0:6869"),
-    (["0:B0:"], "letter: '0:B0:': bytes: it has 0 bytes, and may have 1 to 255"),
-    (["x:B0:68"], "letter: 'x:B0:68': frame: 'x' is no integer from 0 to 4096"),
+    (["0:B0"], "letters: '0:B0' is not FRAME:NODE:HEX, as 3:B0:6869"),
+    (["0:B0:"], "letters: '0:B0:': bytes: it has 0 bytes, and may have 1 to 255"),
+    (["x:B0:68"], "letters: 'x:B0:68': frame: 'x' is no integer from 0 to 4096"),
     ("0:B0:68", "letters: '0:B0:68' is no list of letters, as [\"3:B0:6869\"]"),
-    ([5], "letter: 5 is not FRAME:NODE:HEX, as 3:B0:6869"))
+    ([5], "letters: 5 is not FRAME:NODE:HEX, as 3:B0:6869"))
 
 
 class Echo:
@@ -291,7 +291,7 @@ class Letters(unittest.TestCase):
             self.assertEqual(str(caught.exception), why)
         status, out, said = ending_of("simulate", [LATE, "--letter", "0:B0:6869"])
         self.assertEqual((status, out), (2, ""))
-        self.assertIn("letter: B0 has more than one data slot in a frame", said)
+        self.assertIn("letters: B0 has more than one data slot in a frame", said)
 
 
 if __name__ == "__main__":

@@ -32,7 +32,8 @@ class Sweeps(unittest.TestCase):
         self.assertEqual((row.summary.status, row.summary.cause, row.summary.spread), (3, "5 OutOfRange", None))
 
     def test_silence_costs_the_slots_that_are_left(self):
-        """examples/late_onset.toml: B2 falls silent, and until it is convicted its slot brings none, to two good BIUs."""
+        """examples/late_onset.toml: B2 falls silent, and until it is convicted its slot brings
+        none, to two good BIUs."""
         rows = robus.sweep(LATE, {"fault[0].slot": range(14)})
         self.assertEqual([it.summary.none for it in rows], [0, 0, 0, 2, 2, 2] + [0] * 8)
         self.assertTrue(all(it.summary.convicted == ("B2",) for it in rows))

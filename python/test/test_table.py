@@ -78,7 +78,7 @@ class Tables(unittest.TestCase):
     def test_the_kinds_are_those_of_the_page(self):
         page = (TOP / "docs/robus.md").read_text()
         first = set(re.findall(r"^\| `(\w+)[ `]", page[page.index("### Lines"):page.index("### Breaches")], re.M))
-        forms = [re.sub(r"<(\w+)>", lambda it: "(?:%s)" % rows.FIELDS[it[1]], re.split(r"[ \[]", form)[0])
+        forms = [re.sub(r"<(\w+)>", lambda it: f"(?:{rows.FIELDS[it[1]]})", re.split(r"[ \[]", form)[0])
                  for _, form in rows.LINES.values()]
         self.assertIn("d", first)
         for word in first:

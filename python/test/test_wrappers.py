@@ -82,9 +82,14 @@ class Words(unittest.TestCase):
         self.assertIn("is a bridge of two buses: make bridge", ending_of("run", [bridge])[2])
         self.assertIn("is a scenario of one bus: make run", ending_of("bridge", [LATE])[2])
 
-    def test_a_file_behind_the_words_is_to_be_standard_input(self):
-        said = call("tools/robus", "record", "B0", "README.md")[2]
-        self.assertIn(" It reads standard input: tools/robus record B0 < README.md\n", said)
+    def test_a_file_behind_the_words_is_read(self):
+        given = LATE.read_bytes()
+        for words in (["run"], ["check"]):
+            read = call("tools/robus", *words, data=given)
+            self.assertEqual(read[0], 0, read)
+            for file, data in ((LATE, b""), ("-", given)):
+                self.assertEqual(call("tools/robus", *words, file, data=data)[:2], read[:2])
+        self.assertEqual(call("tools/model", "run", LATE)[:2], call("tools/model", "run", data=given)[:2])
 
     def test_words_of_the_package(self):
         env = dict(PYTHONPATH=str(TOP / "python"))
@@ -110,11 +115,11 @@ class Verdicts(unittest.TestCase):
     def test_a_python_that_is_too_old_or_does_not_run(self):
         for text, found in (("exit 1", "missing"), ("echo 3.9", "3.9"), ("echo; exit 1", "missing")):
             with tempfile.TemporaryDirectory() as folder:
-                program_in(folder, "python3", "#!/bin/sh\n%s\n" % text)
+                program_in(folder, "python3", f"#!/bin/sh\n{text}\n")
                 for tool in ("run", "lint"):
-                    said = "tools/%s: needs Python 3.11 or newer; python3 is %s\n" % (tool, found)
+                    said = f"tools/{tool}: needs Python 3.11 or newer; python3 is {found}\n"
                     self.assertEqual(call("tools/" + tool, LATE, path=folder), (70, "", said))
-                self.assertEqual(call("make", "-s", "run", "SCENARIO=%s" % LATE, path=folder)[0], 2)
+                self.assertEqual(call("make", "-s", "run", f"SCENARIO={LATE}", path=folder)[0], 2)
 
     def test_engines_that_give_no_report(self):
         engines = ("/bin/true", "/bin/false", "/bin/cat", "/bin", "README.md")

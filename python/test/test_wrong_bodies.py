@@ -8,7 +8,8 @@ import unittest
 
 from helpers import TOP
 
-# Stands for `rt`: writes its words and the wrong bodies that stand where it runs, and is not content with any of `high`
+# Stands for `rt`: writes its words and the mutants that are where it runs, and is not
+# content with any of `high`
 RT = """#!/bin/sh
 echo "$@"; ls crates/*/must-fail/*; [ ! -e crates/high/must-fail ]
 """

@@ -1,6 +1,7 @@
-/* hostile COUNT SEED FILE..: gives each call COUNT inputs, random bytes and spoilt copies of the files, with words of all kinds and room for
- * few bytes or many. Words, input and output end at a page that may not be touched, and the output begins behind bytes that may not change.
- * Ends with 1 at the first answer that is none. */
+/* hostile COUNT SEED FILE..: gives each call COUNT inputs, random bytes and spoilt copies of the
+ * files, with words of all kinds and room for few bytes or many. Words, input and output end at a
+ * page that may not be touched, and the output begins behind bytes that may not change. Ends with 1
+ * at the first answer that is none. */
 #define HOSTILE "hostile"
 #include "hostile.h"
 
@@ -89,7 +90,8 @@ int main(int argc, char **argv)
             statuses[answer.status]++;
             if (answer.status != ROBUS_TOO_SMALL || answer.length > MOST - GUARD)
                 continue;
-            /* With the room that it names the call gives the whole output, which begins as the first did. */
+            /* With the room that it names the call gives the whole output, which begins as the
+             * first did. */
             if (is_wrong_call(calls[c].of, calls[c].name, number, words, input, second_fence, answer.length, &whole, &second))
                 return 1;
             if (whole.status == ROBUS_TOO_SMALL || whole.length != answer.length || memcmp(output, second, room) != 0)

@@ -1,6 +1,7 @@
-/* hostile_node COUNT SEED: COUNT times a node of some seat, mostly a good one, is given calls in any order: ticks with any word, bytes of any
- * kind from any number, messages of another node with some bits changed, passes of any length, and calls without a node. What it is handed
- * ends at a page that may not be touched. Ends with 1 at the first answer that is none. */
+/* hostile_node COUNT SEED: COUNT times a node of some seat, mostly a good one, is given calls in
+ * any order: ticks with any word, bytes of any kind from any number, messages of another node with
+ * some bits changed, passes of any length, and calls without a node. What it is handed ends at a
+ * page that may not be touched. Ends with 1 at the first answer that is none. */
 #define HOSTILE "hostile_node"
 #include "hostile.h"
 

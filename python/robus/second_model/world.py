@@ -68,7 +68,7 @@ class World:
         self.push(site.clock.time_of(tick), site.node, AFTER_MESSAGES, tick)
 
     def open_window(self, site: Site) -> None:
-        """What nodes that are not good say in the window that begins."""
+        """What nodes that are not good say in a window, as it begins."""
         core = site.core
         for say in self.scenario.says:
             is_said = say.is_for(site.node, core.frame, core.window)
