@@ -22,7 +22,7 @@ pub record HasDriven {D : Type 0} (sc : Scenario) (gives : D → Turn → Turn �
   pub turns : List Turn
   pub through : GoesThrough gives keeps before after (records_of sc []) turns
 
--- or through the first ones
+-- the drive has gone through the first records of the run of a scenario
 pub record HasDrivenSome {D : Type 0} (sc : Scenario) (gives : D → Turn → Turn → Type 0) (keeps : D → D → Turn → Type 0) (before after : D) : Type 0 where
   pub records : List Record
   pub turns : List Turn
@@ -31,22 +31,24 @@ pub record HasDrivenSome {D : Type 0} (sc : Scenario) (gives : D → Turn → Tu
 
 -- A drive that keeps its turns.
 
--- what it may give for a turn: that turn, or with its mask that with Fault in place of each value
+-- what such a drive may give for a turn: that turn, or with a mask the turn with Fault in place of
+-- each value
 abbrev pub gives_kept : KeptTurns → Turn → Turn → Type 0
 gives_kept d turn given = given ≡ given_for d.mask turn
 
--- the turns that it gives for all records of a run
+-- the turns that such a drive gives for all records of a run
 abbrev pub turns_for : Scenario → KeptTurns → List Turn
 turns_for sc d = map (λ r. given_for d.mask (turn_of r)) (records_of sc [])
 
--- it kept exactly the turns of the run, after those that it had, and tells them if it told those
+-- the drive has kept exactly the turns of the run, after those that it had, and tells them if it
+-- told those
 pub record KeepsTheRun (sc : Scenario) (before after : KeptTurns) : Type 0 where
   pub turns : after.turns ≡ before.turns ++ turns_for sc before
   pub telling : after.telling ≡ before.telling
   pub room : after.room ≡ before.room
   pub mask : after.mask ≡ before.mask
 
--- with room for all of them it keeps the run
+-- a drive with room for all turns of a run keeps the run
 abbrev pub MemDrivesKeepTheRun : Type 0
 MemDrivesKeepTheRun =
     (sc : Scenario) (before after : KeptTurns) → HasDriven sc gives_kept Keeps before after
