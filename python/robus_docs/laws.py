@@ -109,15 +109,15 @@ class Laws:
         return f"<b>Computed instance</b>: {cases} the predicates. {lacking}"
 
     def in_words(self, found: list[Instance]) -> str:
-        """The cases of instances as the subject of a sentence, with the verb `state`."""
+        """The cases of instances as the subject of a sentence, with the verb `meet`."""
         ways = [[self.pages.case(case) for case in it.cases] for it in found]
         if len(ways) == 1:
-            together = " together state" if len(ways[0]) > 1 else " states"
+            together = " together meet" if len(ways[0]) > 1 else " meets"
             return " and ".join(ways[0]) + together
         named_ways = [" with ".join(it) for it in ways]
         if len(ways) > MOST_NAMED:
             named_ways[MOST_NAMED:] = [f"{len(ways) - MOST_NAMED} more"]
-        return f"each of {', '.join(named_ways[:-1])} and {named_ways[-1]} states"
+        return f"each of {', '.join(named_ways[:-1])} and {named_ways[-1]} meets"
 
     def said(self, premise: Premise) -> str:
         """A premise as code."""

@@ -193,7 +193,7 @@ class Sentences(unittest.TestCase):
         laws = Laws(Pages(ATLAS, Documents(ATLAS)), PROOFS, INSTANCES)
         pages = {name: laws.page(crate, name, call) for crate, name, call in laws.all()}
         for name, said in (
-                ("one_slot_agrees", "slot_with_a_lying_relay</code></a> states all of them."),
+                ("one_slot_agrees", "slot_with_a_lying_relay</code></a> meets all of them."),
                 ("time_keeps_the_promise", "<b>No computed instance</b>: no case states"),
                 ("nothing_is_heard", "<b>No computed instance</b>: no case states one of"),
                 ("nothing_is_heard", "It stands for itself: no call and no other law rests on it"),
