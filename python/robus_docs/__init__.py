@@ -6,8 +6,8 @@ claims     what the documents name, and whether it is there (tools/promises)
 shape      the shape of the code in numbers (tools/shape)
 atlas      how definitions, calls, laws and mutants hang together, and where their pages are
 proofs     which proofs rest on the lemma of a law
-instances  which computed cases meet the premises of a law
+instances  which computed cases meet the premises of a law; texts and numbers in them
 markup, markdown, pages, laws, reading, front, documents, build: the pages (tools/site)
-links, browser: their check
+links, browser, visit: their check
 
 Nothing here is installed with the package `robus`."""

@@ -14,7 +14,9 @@ from typing import Iterator, Optional
 
 from robus_docs.atlas import Atlas, crate_of, definition_of
 from robus_docs.library import NO_LIBRARY
+from robus_docs.numbers import Term, number
 from robus_docs.source import Function, Place, meaning_of, module
+from robus_docs.texts import bare, parts_at, words_at
 
 RELATIONS = ("≡", "<", "≤")
 MOST_STEPS = 4  # how many predicates at the ends of statements are opened, one in another
@@ -39,52 +41,51 @@ class Fact:
     file: Path  # in which the words of the text have their meaning
 
 
+@dataclass(frozen=True)
+class Order:
+    """A premise that compares two numbers, with the numbers of an instance."""
+    left: int
+    sign: str
+    right: int
+
+    @property
+    def holds(self) -> bool:
+        """Whether it is so."""
+        return self.left < self.right + (self.sign == "≤")
+
+
 @dataclass
 class Instance:
     """Values for the variables of a law, and the facts that state its premises with them."""
     values: Values = field(default_factory=dict)
     facts: dict[Premise, Fact] = field(default_factory=dict)
+    orders: dict[Premise, Order] = field(default_factory=dict)
 
     @property
     def cases(self) -> list[Function]:
         """The cases, each once."""
         return list({(it.case.file, it.case.name): it.case for it in self.facts.values()}.values())
 
+    def meets(self, premise: Premise) -> bool:
+        """Whether a fact states a premise, or its numbers do."""
+        return premise in self.facts or (premise in self.orders and self.orders[premise].holds)
 
-def parts_at(text: str, sign: str) -> list[str]:
-    """A text, split at a sign outside of all brackets."""
-    parts, depth = [""], 0
-    for it in re.findall(r"[(\[{]|[)\]}]|[^()\[\]{}]+", text):
-        if len(it) == 1 and it in "([{)]}":
-            depth += 1 if it in "([{" else -1
-        first, *others = it.split(sign) if depth == 0 else [it]
-        parts[-1] += first
-        parts += others
-    return [it for it in (re.sub(r"\s+", " ", it).strip() for it in parts) if it]
+    def ordered(self, premise: Premise) -> Optional[Order]:
+        """The numbers that a premise compares with these values. None means that it compares none,
+        or that they are not known."""
+        sign, *both = sides(premise.text)
+        if sign not in ("<", "≤"):
+            return None
+        left, right = (number(self.term(it, premise)) for it in both)
+        return None if left is None or right is None else Order(left, sign, right)
 
-
-@functools.lru_cache(maxsize=None)
-def words_at(text: str) -> tuple[str, ...]:
-    """A text, split at spaces outside of all brackets."""
-    return tuple(parts_at(re.sub(r"\s+", " ", text), " "))
-
-
-@functools.lru_cache(maxsize=None)
-def bare(text: str) -> str:
-    """A text without brackets around the whole of it."""
-    while re.fullmatch(r"\(.*\)", text) and is_closed(text[1:-1]):
-        text = text[1:-1].strip()
-    return text
-
-
-def is_closed(text: str) -> bool:
-    """Whether each bracket of a text closes one that it opens."""
-    depth = 0
-    for it in re.findall(r"[()]", text):
-        depth += 1 if it == "(" else -1
-        if depth < 0:
-            return False
-    return depth == 0
+    def term(self, text: str, premise: Premise) -> Term:
+        """A part of a premise with these values; a variable without one is nothing."""
+        known = {it: Term("", premise.file) for it in premise.variables}
+        for name, value in self.values.items():
+            files = [it.file for it in self.facts.values() if value in it.text]
+            known[name] = Term(value, files[0] if files else premise.file)
+        return Term(text, premise.file, known)
 
 
 def is_binder(part: str) -> bool:
@@ -252,8 +253,7 @@ class Instances:
         """The instances that state the most premises, with the fewest cases and the most facts, one
         for the same cases."""
         found = [self.filled(it, premises) for it in self.extended(Instance(), premises)]
-        order = [(-sum(1 for premise in it.facts if not premise.within), -len(it.facts),
-                  len(it.cases), -len(set(it.facts.values()))) for it in found]
+        order = [rank(it) for it in found]
         best: dict[tuple[str, ...], Instance] = {}
         for it, size in zip(found, order):
             if size == min(order) and it.facts:
@@ -273,13 +273,24 @@ class Instances:
             yield from self.extended(instance, premises[1:])
 
     def filled(self, instance: Instance, premises: tuple[Premise, ...]) -> Instance:
-        """An instance with the predicates that its cases state in other words."""
+        """An instance with the predicates that its cases state in other words, and its numbers."""
         for it in premises:
             if it.predicate and it not in instance.facts:
                 for fact, values in self.stating(it, instance, True).items():
                     instance = Instance(values, {**instance.facts, it: fact})
                     break
+        orders = {it: instance.ordered(it) for it in premises if it not in instance.facts}
+        instance.orders = {it: order for it, order in orders.items() if order}
         return instance
+
+
+def rank(instance: Instance) -> tuple[int, ...]:
+    """How good an instance is, the best the least: none of its numbers is wrong, the most premises
+    of the law and then of its conclusion are met, by few cases, and each by another fact."""
+    met = [it for it in (*instance.facts, *instance.orders) if instance.meets(it)]
+    return (sum(1 for it in instance.orders.values() if not it.holds),
+            -sum(1 for it in met if not it.within), -len(met), len(instance.cases),
+            -len(set(instance.facts.values())))
 
 
 def facts_of(case: Function) -> Iterator[Fact]:

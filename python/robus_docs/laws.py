@@ -40,8 +40,10 @@ class Laws:
                 for it in instance.cases:
                     laws = found.setdefault((it.file, it.name), [])
                     link = named(call_url(crate, name), name)
-                    if all(premise in instance.facts for premise in premises if premise.predicate
-                           and not premise.within) and link not in laws:
+                    is_wrong = any(not it.holds for it in instance.orders.values())
+                    if not is_wrong and link not in laws and all(
+                            premise in instance.facts for premise in premises
+                            if premise.predicate and not premise.within):
                         laws.append(link)
         return found
 
@@ -91,7 +93,8 @@ class Laws:
         if not found:
             return f"{NONE}: no case states one of these premises."
         cases = self.in_words(found)
-        left = [it for it in premises if it not in found[0].facts]
+        left = [it for it in premises if not found[0].meets(it)]
+        is_wrong = any(not it.holds for it in found[0].orders.values())
         own = [it for it in left if not it.within]
         if not left:
             return f"<b>Computed instance</b>: {cases} all of them."
@@ -99,21 +102,22 @@ class Laws:
         if not own:
             return (f"<b>Computed instance</b>: {cases} the premises of the law. Its "
                     f"conclusion has premises, too. {lacking}")
-        if any(it.predicate for it in own) or not any(it.predicate for it in found[0].facts):
+        if is_wrong or any(it.predicate for it in own) or not any(
+                it.predicate for it in found[0].facts):
             others = cases.replace("each of", "Each of", 1)
             return f"{NONE}: {lacking[0].lower()}{lacking[1:]} {others} the others."
         return f"<b>Computed instance</b>: {cases} the predicates. {lacking}"
 
     def in_words(self, found: list[Instance]) -> str:
-        """The cases of instances as the subject of a sentence, with the verb `state`."""
+        """The cases of instances as the subject of a sentence, with the verb `meet`."""
         ways = [[self.pages.case(case) for case in it.cases] for it in found]
         if len(ways) == 1:
-            together = " together state" if len(ways[0]) > 1 else " states"
+            together = " together meet" if len(ways[0]) > 1 else " meets"
             return " and ".join(ways[0]) + together
         named_ways = [" with ".join(it) for it in ways]
         if len(ways) > MOST_NAMED:
             named_ways[MOST_NAMED:] = [f"{len(ways) - MOST_NAMED} more"]
-        return f"each of {', '.join(named_ways[:-1])} and {named_ways[-1]} states"
+        return f"each of {', '.join(named_ways[:-1])} and {named_ways[-1]} meets"
 
     def said(self, premise: Premise) -> str:
         """A premise as code."""
@@ -127,7 +131,10 @@ class Laws:
         if premise.within:
             asking = named(url_of(premise.within), premise.within[1])
             said += f" <small>(asked by {asking})</small>"
-        fact = instance.facts.get(premise)
+        fact, order = instance.facts.get(premise), instance.orders.get(premise)
+        if order:
+            return (f"{said}<br>{'by its numbers' if order.holds else 'not so there'}: "
+                    f"{order.left} {escape(order.sign)} {order.right}")
         if not fact:
             return f"{said}<br>no case states this"
         stated = words_of_code(fact.text.replace("each_of_", ""), module(fact.file), url_of)

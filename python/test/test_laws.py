@@ -3,14 +3,15 @@ The expected values are from the sources."""
 import unittest
 from pathlib import Path
 
-from robus_docs.atlas import Atlas
-from robus_docs.instances import (Instances, bare, is_binder, matched, parts_at, premises_of,
-                                  words_at)
-from robus_docs.laws import Laws
+from robus_docs.atlas import Atlas, is_law
 from robus_docs.documents import Documents
+from robus_docs.instances import Instances, is_binder, matched, premises_of
+from robus_docs.laws import Laws
+from robus_docs.numbers import Term, number
 from robus_docs.pages import Pages
 from robus_docs.proofs import Proofs, callers_of, owner_of
 from robus_docs.source import CRATES, Module
+from robus_docs.texts import bare, parts_at, words_at
 
 ATLAS = Atlas()
 PROOFS = Proofs(ATLAS)
@@ -112,11 +113,48 @@ class Premises(unittest.TestCase):
         self.assertIn("a_listener_beside_a_run", named)
         self.assertFalse({"beyond_the_edge", "beyond_the_bus", "beyond_the_links"} & named)
 
+    def test_a_condition_on_numbers_is_computed(self):
+        premises, found = law("rb_laws_agreement", "Laws", "GoodNodesAgree")
+        self.assertIn(["agreement_after_a_late_onset"], cases(found))
+        self.assertNotIn(["alike_ports"], cases(found))  # whose slot is the sync slot
+        slot, = found[0].orders.items()
+        self.assertEqual((slot[0].text, slot[1].left, slot[1].right, slot[1].holds),
+                         ("slot < sync_slot_of sc.sizes", 6, 19, True))
+
+    def test_a_number_in_a_case_is_what_the_premise_computes(self):
+        compared = 0
+        for crate, name, call in ATLAS.calls():
+            places = ATLAS.in_contract(call) if is_law(crate) else []
+            premises = tuple(it for place in places for it in premises_of(place))
+            for instance in INSTANCES.of_law(premises):
+                for premise, fact in instance.facts.items():
+                    for one, other in zip(words_at(premise.text), words_at(fact.text)):
+                        if other.isdigit() and len(words_at(bare(one))) > 1:
+                            found = number(instance.term(bare(one), premise))
+                            self.assertIn(found, (None, int(other)), (name, premise.text))
+                            compared += found is not None
+        self.assertGreater(compared, 5)
+
     def test_what_no_case_states(self):
         premises, found = law("rb_laws_agreement", "Laws", "TimeKeepsThePromise")
         left = [it.text for it in premises if it not in found[0].facts]
         self.assertEqual(left, ["KeepsTime sc hands"])
         self.assertEqual(law("rb_laws_sweeps", "Laws", "NothingIsHeard")[1], [])
+
+
+class Numbers(unittest.TestCase):
+    def test_fields_sums_and_equations(self):
+        here = CRATES / "rb_test_rules/src/premises.rt"
+        rules = CRATES / "rb_laws_agreement/specs/Laws.antt"
+        for text, value, expected in (
+                ("sync_slot_of sc.sizes", "one_state", 2 * 2 + 1 + 2),
+                ("sync_slot_of sc.sizes", "smallest_bus", 2 * 1 + 1 + 1),
+                ("count_of Rmu sc.sizes", "failing_rmu", 3),
+                ("sc.sizes.bius", "nobody", None)):
+            found = number(Term(text, rules, {"sc": Term(value, here)}))
+            self.assertEqual(found, expected, (text, value))
+        self.assertEqual(number(Term("2 * (3 + 4) + 1", rules)), 15)
+        self.assertIsNone(number(Term("n + 1", rules, {"n": Term("", rules)})))
 
 
 class Citing(unittest.TestCase):
@@ -155,7 +193,7 @@ class Sentences(unittest.TestCase):
         laws = Laws(Pages(ATLAS, Documents(ATLAS)), PROOFS, INSTANCES)
         pages = {name: laws.page(crate, name, call) for crate, name, call in laws.all()}
         for name, said in (
-                ("one_slot_agrees", "slot_with_a_lying_relay</code></a> states all of them."),
+                ("one_slot_agrees", "slot_with_a_lying_relay</code></a> meets all of them."),
                 ("time_keeps_the_promise", "<b>No computed instance</b>: no case states"),
                 ("nothing_is_heard", "<b>No computed instance</b>: no case states one of"),
                 ("nothing_is_heard", "It stands for itself: no call and no other law rests on it"),
