@@ -98,8 +98,7 @@ crossed = broad (triple 10 20 30 None) (triple 50 60 70 None) (pair 0 1 ∷ pair
 abbrev pub crossed_text : List ℕ
 crossed_text = codes "x 1 left B0 60\nx 1 left B1 60\nx 1 left B2 60\nx 1 right B0 10\nx 1 right B1 10\nx 1 right B2 10\nend 2\n"
 
--- a pair joins BIUs 0 and 2. BIU 2 of the left bus, which is in no pair, is not good in the carried
--- slot
+-- a pair joins BIU 0 with BIU 2 of the right bus. BIU 2 of the left bus is not good
 abbrev pub crossed_by_few : Bridge
 crossed_by_few = broad (triple 10 20 30 (Some (0, 3))) (triple 50 60 70 None) (pair 0 2 ∷ pair 1 1 ∷ [])
 

@@ -2,7 +2,7 @@
 //! does nothing, and its contract is a case.
 #![tactic(auto, unfolding(rb_base::specs::Nodes::set_of, rb_base::specs::Nodes::set_below, rb_base::specs::Nodes::size, rb_rules::specs::Spelling::message_in, rb_rules::specs::ExactStage::close_exact, rb_rules::specs::ExactStage::outcome_of, rb_rules::specs::SyncStage::close_sync, rb_rules::specs::SyncStage::sync_outcome_of, rb_rules::specs::Conviction::convicted_by, rb_rules::specs::Conviction::turn, rb_rules::specs::Links::delay_of, rb_rules::specs::Judging::classes_of, rb_rules::specs::Judging::verdict_of, rb_rules::specs::Hearing::sending, rb_rules::specs::Hearing::heard_from, rb_rules::specs::Hearing::row_of, rb_rules::specs::Book::with_stage, rb_rules::specs::Book::with_frame, rb_rules::specs::Rounds::sent_in, rb_rules::specs::Rounds::close_on, rb_rules::specs::Rounds::go_through, rb_rules::specs::Rounds::results_of, rb_rules::specs::Rounds::after_window, rb_rules::specs::Rounds::begin_frame, rb_rules::specs::Rounds::step, rb_group::specs::Groups::values_of))]
 
-ghost use Rattle.std.specs.Prelude.{◌≡◌, ◌∷◌, ◌++◌, [], drop, map};
+ghost use Rattle.std.specs.Prelude.{◌≡◌, ◌∷◌, ◌++◌, [], drop};
 ghost use Rattle.rb_base.specs.declared.values.Heard.TheVariants.{Fault, Word};
 ghost use Rattle.rb_group.specs.declared.voters.Which.TheVariants.{Mid, Most};
 ghost use Rattle.rb_group.specs.Groups.{group_value, voted_by};
@@ -91,7 +91,8 @@ pub fn values_of_groups()
     ensures members { group_value Most 2 two_of_a_sender ≡ Word 12 }
     ensures fault_votes { voted_by Most (Word 10 ∷ Fault ∷ []) ≡ Fault }
     ensures fault_is_no_word { voted_by Mid (Word 10 ∷ Fault ∷ []) ≡ Word 10 }
-    ensures receivers { map (value_at Most 1 one_at_each 0) (0 ∷ 1 ∷ []) ≡ (Word 10 ∷ Word 11 ∷ []) }
+    ensures receiver_0 { value_at Most 1 one_at_each 0 0 ≡ Word 10 }
+    ensures receiver_1 { value_at Most 1 one_at_each 0 1 ≡ Word 11 }
 {}
 
 /// The premises of the laws on groups: of three replicas with a data slot each, two are good and

@@ -1,12 +1,12 @@
 -- The abstract bus at some slots of the usual bus, and nodes that hold what it holds.
-use Rattle.std.specs.Prelude.{ℕ, zero, suc, ◌+◌, ◌*◌, ◌∷◌, ◌++◌, [], List, replicate}
+use Rattle.std.specs.Prelude.{ℕ, zero, suc, ◌+◌, ◌*◌, ◌∷◌, ◌++◌, [], List, replicate, Some, None}
 use Rattle.rb_base.specs.declared.values.Heard.{Heard}
 use Rattle.rb_base.specs.declared.values.Heard.TheVariants.{Word, Fault}
 use Rattle.rb_rules.specs.AbstractBus.{AbstractBus, first_bus, bus_after_slot}
 use Rattle.rb_rules.specs.Goodness.{Scenario}
 use Rattle.rb_rules.specs.NodeState.{NodeState}
 use Rattle.rb_test_rules.specs.Buses.{ticking}
-use Rattle.rb_test_rules.specs.Ordinary.{greatest_drift}
+use Rattle.rb_test_rules.specs.Ordinary.{greatest_drift, ordinary_use}
 use Rattle.rb_test_rules.specs.Parts.{sizes, biu}
 
 -- at first, the first good node having begun at time 0
@@ -50,3 +50,14 @@ biu_with_owners = record biu { owners = 0 ∷ 1 ∷ 2 ∷ 3 ∷ 0 ∷ 1 ∷ 2 �
 -- unit too short
 abbrev pub out_of_bands : Scenario
 out_of_bands = record greatest_drift { clocks = ticking 60201 10001 ∷ replicate 6 (ticking 0 9998) }
+
+-- BIU 2 is not good
+abbrev pub without_biu_2 : Scenario
+without_biu_2 = record ordinary_use { biu_onsets = None ∷ None ∷ Some (0, 0) ∷ None ∷ [] }
+
+-- the bus before the slot of BIU 0's vector, and before that of RMU 0's
+abbrev pub before_biu_0 : AbstractBus
+before_biu_0 = record scheduled { slot = 12 }
+
+abbrev pub before_rmu_0 : AbstractBus
+before_rmu_0 = record scheduled { slot = 16 }

@@ -9,7 +9,7 @@ use Rattle.rb_rules.specs.ExactStage.{keep_sent, close_exact}
 use Rattle.rb_rules.specs.NodeState.{NodeState}
 use Rattle.rb_rules.specs.Standing.{Standing}
 use Rattle.rb_rules.specs.SyncStage.{close_sync}
-use Rattle.rb_test_rules.specs.Parts.{sizes, biu, rmu, comes, accused}
+use Rattle.rb_test_rules.specs.Parts.{sizes, biu, rmu, called, comes, accused}
 
 -- nodes 1 and 2 are accused, and node 1 is convicted
 abbrev pub with_a_convict : Standing
@@ -48,3 +48,25 @@ next_frame = turn sizes 0 Biu 917 that_has_votes
 abbrev pub next_but_one_frame : NodeState
 next_but_one_frame =
     turn sizes 0 Biu 1834 (record next_frame { votes = replicate 12 Fault ++ Word 0 ∷ Word 1 ∷ Word 0 ∷ Word 0 ∷ Word 0 ∷ Word 1 ∷ Word 1 ∷ [] })
+
+-- BIU 0 sends the request 2, and RMU 2 relays Fault in its place
+abbrev pub sender_of_a_fault : NodeState
+sender_of_a_fault =
+    (close_exact sizes Biu 0 (keep_sent sizes Biu 0 biu 0 1 2) 0 2 (comes 0 2 (Some (Word 2) ∷ Some (Word 2) ∷ Some Fault ∷ []))).state
+
+-- RMU 0 sends a vector that names nobody, and BIU 1 relays another one
+abbrev pub sender_of_a_vector : NodeState
+sender_of_a_vector =
+    (close_exact sizes Rmu 0 (keep_sent sizes Rmu 0 rmu 16 1 0) 16 2
+    (comes 16 2 (Some (Word 0) ∷ Some (Word 5) ∷ Some (Word 0) ∷ Some (Word 0) ∷ []))).state
+
+-- BIU 1 takes the RMUs' votes on that vector, of which RMU 2's is another one
+abbrev pub voter_on_a_vector : NodeState
+voter_on_a_vector = (close_exact sizes Biu 1 biu 16 3 (comes 16 3 (Some (Word 0) ∷ Some (Word 0) ∷ Some (Word 5) ∷ []))).state
+
+-- RMU 2 does not call in stage 2, and BIU 3 does not in stage 3
+abbrev pub without_a_call_of_an_rmu : NodeState
+without_a_call_of_an_rmu = (close_sync sizes Biu biu 2 870 (called 2 (878 ∷ 878 ∷ []))).state
+
+abbrev pub without_a_call_of_a_biu : NodeState
+without_a_call_of_a_biu = (close_sync sizes Rmu rmu 3 888 (called 3 (897 ∷ 897 ∷ 897 ∷ []))).state

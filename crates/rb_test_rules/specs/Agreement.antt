@@ -1,7 +1,8 @@
 -- What good nodes hold in common if others are silent or lie, and whom they accuse.
-use Rattle.std.specs.Prelude.{ℕ, List, [], ◌∷◌, ◌++◌, map, filter, replicate, get_or, Some, None}
+use Rattle.std.specs.Prelude.{ℕ, ◌≡◌, false, List, [], ◌∷◌, ◌++◌, map, filter, replicate, get_or, Some, None}
 use Rattle.rb_base.specs.Counting.{numbers}
-use Rattle.rb_base.specs.Nodes.{Side}
+use Rattle.rb_base.specs.Nodes.{Side, has}
+use Rattle.rb_base.specs.Nodes.Side.{Biu}
 use Rattle.rb_base.specs.declared.values.Heard.{Heard}
 use Rattle.rb_rules.specs.declared.cause.Cause.TheVariants.{FewGoodBiu}
 use Rattle.rb_rules.specs.declared.link.Pattern.TheVariants.{AllBiu, AllRmu}
@@ -9,13 +10,16 @@ use Rattle.rb_rules.specs.declared.say.Content.TheVariants.{Word}
 use Rattle.rb_rules.specs.Book.{Record, of_kind}
 use Rattle.rb_rules.specs.Book.Record.{Ended, Breach}
 use Rattle.rb_rules.specs.Goodness.{Scenario, is_good}
-use Rattle.rb_rules.specs.Moments.{after_slot}
+use Rattle.rb_rules.specs.Moments.{IsComplete, IsGoodBefore, IsSettled, after_slot}
 use Rattle.rb_rules.specs.NodeState.{NodeState, first_state}
+use Rattle.rb_rules.specs.NodeSteps.{convicted_of}
 use Rattle.rb_rules.specs.Slots.{count_of}
 use Rattle.rb_rules.specs.Standing.{vector_of}
 use Rattle.rb_test_rules.specs.Buses.{b, r, steady, says}
 use Rattle.rb_test_rules.specs.Told.{none, at, all_begin, everybody, all_but, port, usual_ports, silent, usual_words}
 use Rattle.rb_test_rules.specs.Ordinary.{ordinary_use}
+use Rattle.rb_test_rules.specs.Frames.{late_onset}
+use Rattle.rb_test_rules.specs.Parts.{sizes}
 
 -- RMU 2 is good until it sends a vector that names BIU 0
 abbrev pub false_accuser : Scenario
@@ -77,3 +81,16 @@ votes_on sc frame slot me = of_good (λ st. get_or st.votes slot none) sc frame 
 -- whom each of them accuses after a slot, as its vector names them
 abbrev pub accused_by : Scenario → ℕ → ℕ → Side → List ℕ
 accused_by sc frame slot me = of_good (λ st. vector_of st.far) sc frame slot me
+
+-- if the slot of the usual bus is complete, good nodes hold one schedule in it
+abbrev pub HaveOneSchedule : ℕ → ℕ → Type 0
+HaveOneSchedule frame slot =
+    IsComplete ordinary_use [] frame slot → (me you : Side) (i j : ℕ) (mine yours : NodeState)
+    → IsGoodBefore ordinary_use [] frame slot me i mine → IsGoodBefore ordinary_use [] frame slot you j yours
+    → mine.owners ≡ yours.owners
+
+-- no good node holds BIU 2 convicted in the slot, which turns faulty in frame 3 of this run
+abbrev pub NobodyConvictsBiu2 : ℕ → ℕ → Type 0
+NobodyConvictsBiu2 frame slot =
+    IsSettled late_onset [] frame slot → (me : Side) (i : ℕ) (st : NodeState)
+    → IsGoodBefore late_onset [] frame slot me i st → has (convicted_of sizes Biu me st) 2 ≡ false

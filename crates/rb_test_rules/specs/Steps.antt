@@ -1,24 +1,27 @@
 -- Single steps of a core and of a world.
-use Rattle.std.specs.Prelude.{ℕ, [], ◌∷◌, Option, Some}
+use Rattle.std.specs.Prelude.{ℕ, true, [], ◌∷◌, Option, Some, None}
 use Rattle.rb_base.specs.Nodes.Side.{Biu, Rmu}
 use Rattle.rb_base.specs.declared.values.Heard.TheVariants.{Word}
+use Rattle.rb_rules.specs.declared.closing.Closed.{Closed}
 use Rattle.rb_rules.specs.declared.link.Pattern.TheVariants.{AllRmu}
 use Rattle.rb_rules.specs.declared.message.Message.{Message}
 use Rattle.rb_rules.specs.declared.plan.Plan.{Plan}
 use Rattle.rb_rules.specs.declared.say.Content.TheVariants.{Sync}
 use Rattle.rb_rules.specs.declared.say.Say.{Say}
-use Rattle.rb_rules.specs.Book.{Each}
+use Rattle.rb_rules.specs.Book.{Each, Row}
+use Rattle.rb_rules.specs.Book.Milestone.{Stage}
 use Rattle.rb_rules.specs.Book.Record.{Frame, Slot}
 use Rattle.rb_rules.specs.Core.{Act, Core, first_core, arrive, tick, pass_to}
 use Rattle.rb_rules.specs.ExactStage.{message_of}
 use Rattle.rb_rules.specs.Goodness.{Scenario}
 use Rattle.rb_rules.specs.Hearing.{Coming, Span}
-use Rattle.rb_rules.specs.WorldStep.{Site, World, fresh_site, first_world, stop}
+use Rattle.rb_rules.specs.WorldStep.{Due, Site, World, fresh_site, first_world, stop, take_if_due}
+use Rattle.rb_rules.specs.WorldStep.Pending.{Tick}
 use Rattle.rb_test_rules.specs.Buses.{b, plan, says}
 use Rattle.rb_test_rules.specs.Cores.{usual_sizes}
 use Rattle.rb_test_rules.specs.Ordinary.{smallest_bus}
 use Rattle.rb_test_rules.specs.Parts.{biu}
-use Rattle.rb_test_rules.specs.Told.{at}
+use Rattle.rb_test_rules.specs.Told.{at, begins}
 
 -- A core.
 
@@ -73,6 +76,10 @@ core_after ticks = record { state = biu; had = ticks; inbox = [] }
 abbrev pub word_in_stage : ℕ → ℕ → Option Message
 word_in_stage slot stage = Some (message_of biu slot stage (Word 2))
 
+-- a core that has had 2^31 ticks, in a frame that began with the next one
+abbrev pub at_the_last_tick : Core
+at_the_last_tick = record { state = record biu { epoch = 2147483648 }; had = 2147483648; inbox = [] }
+
 -- The tail.
 
 -- three ticks of the sync slot's tail, and a call in it at an offset
@@ -116,3 +123,37 @@ waiting = record (fresh_site usual_sizes Rmu) {
   ahead = Some (record { tick = 3; time = 30 });
   coming = empty_at 30 1 ∷ empty_at 30 0 ∷ empty_at 31 0 ∷ [];
 }
+
+-- the smallest bus after a breach
+abbrev pub broken_world : World
+broken_world = record small_world { book = record small_world.book { ended = true } }
+
+-- the close of a tail
+abbrev pub tail_closed : Closed
+tail_closed = record { place = at 0 19 4; sees = []; delivered = None }
+
+-- what a node tells of stage 3 of slot 4
+abbrev pub row_of_stage_3 : Option Row
+row_of_stage_3 = Some (record { place = at 0 4 3; sees = []; biu = 1; rmu = 1; line = None })
+
+-- a node that has told of stage 3 of slot 4, and has begun frame 1
+abbrev pub stage_3_told : Site
+stage_3_told = record waiting {
+  row = row_of_stage_3;
+  begun = Some (record { frame = 1; line = begins 242 2420000 0 0 (b 0); port = None });
+}
+
+-- the smallest bus where both nodes have done so, and neither the stage nor the frame is settled
+abbrev pub both_told : World
+both_told = record small_world {
+  sites = record { bius = stage_3_told ∷ []; rmus = stage_3_told ∷ [] };
+  book = record small_world.book { upcoming = Stage (at 0 4 3) };
+}
+
+-- a tick of BIU 5, which the smallest bus does not have
+abbrev pub tick_of_nobody : Due
+tick_of_nobody = record { side = Biu; node = 5; pending = Tick 0 }
+
+-- that world after this event
+abbrev pub after_both_told : Due → World
+after_both_told event = take_if_due smallest_bus both_told (Some event)

@@ -1,17 +1,18 @@
 //! The abstract bus, its steps, and what good nodes have in common with it.
 #![tactic(auto, unfolding(rb_base::specs::Nodes::set_of, rb_base::specs::Nodes::set_below, rb_base::specs::Nodes::size, rb_rules::specs::Spelling::message_in, rb_rules::specs::ExactStage::close_exact, rb_rules::specs::ExactStage::outcome_of, rb_rules::specs::SyncStage::close_sync, rb_rules::specs::SyncStage::sync_outcome_of, rb_rules::specs::Conviction::convicted_by, rb_rules::specs::Conviction::turn, rb_rules::specs::Links::delay_of, rb_rules::specs::Judging::classes_of, rb_rules::specs::Judging::verdict_of, rb_rules::specs::Hearing::sending, rb_rules::specs::Hearing::heard_from, rb_rules::specs::Hearing::row_of, rb_rules::specs::Book::with_stage, rb_rules::specs::Book::with_frame, rb_rules::specs::Rounds::sent_in, rb_rules::specs::Rounds::close_on, rb_rules::specs::Rounds::go_through, rb_rules::specs::Rounds::results_of, rb_rules::specs::Rounds::after_window, rb_rules::specs::Rounds::begin_frame, rb_rules::specs::Rounds::step))]
 
-ghost use Rattle.std.specs.Prelude.{◌≡◌, ◌∷◌, [], true, map, Some};
+ghost use Rattle.std.specs.Prelude.{◌≡◌, ◌∷◌, [], false, true, map, Some};
 ghost use Rattle.rb_base.specs.Nodes.Side.{Biu, Rmu};
 ghost use Rattle.rb_base.specs.declared.values.Heard.TheVariants.{Word, Fault};
-ghost use Rattle.rb_rules.specs.declared.role.Role.TheVariants.{Schedule, Data};
+ghost use Rattle.rb_rules.specs.declared.role.Role.TheVariants.{Schedule, Data, DiagBiu, DiagRmu};
 ghost use Rattle.rb_rules.specs.AbstractBus.{IsRun, IsStep, MayHave, bus_after_frame, bus_after_slot, sender_on};
-ghost use Rattle.rb_rules.specs.Moments.{IsComplete, IsReached, after_slot};
+ghost use Rattle.rb_rules.specs.Moments.{IsComplete, IsReached, after_slot, offered_in};
 ghost use Rattle.rb_rules.specs.Slots.Sender.{Nobody, Node, EachTrusted};
-ghost use Rattle.rb_rules.specs.StandsFor.{FrameTakes, HoldsOwners, HoldsTrusted, HoldsVote, IsInBand, IsLow, lines_on, steps_to};
-ghost use Rattle.rb_test_rules.specs.Abstract.{at_a_quiet_end, at_first, at_the_end, biu_with_owners, first_slots, half_scheduled, offered, out_of_bands, scheduled};
-ghost use Rattle.rb_test_rules.specs.Lies.{asymmetric_sender, two_sided};
-ghost use Rattle.rb_test_rules.specs.Ordinary.{greatest_drift, ordinary_use, smallest_bus};
+ghost use Rattle.rb_rules.specs.StandsFor.{FrameTakes, HoldsOwners, HoldsTrusted, HoldsVote, IsInBand, IsLow, SparesAllGood, lines_on, steps_to, votes_on};
+ghost use Rattle.rb_test_rules.specs.Abstract.{at_a_quiet_end, at_first, at_the_end, before_biu_0, before_rmu_0, biu_with_owners, first_slots, half_scheduled, offered, out_of_bands, scheduled, without_biu_2};
+ghost use Rattle.rb_test_rules.specs.Lies.{asymmetric_sender, silent_rmu, two_sided};
+ghost use Rattle.rb_test_rules.specs.Ordinary.{greatest_drift, one_state};
+ghost use Rattle.rb_test_rules.specs.Ordinary.{ordinary_use, smallest_bus};
 ghost use Rattle.rb_test_rules.specs.Parts.{biu, plan, rmu, sizes};
 
 /// Slots and frames of the bus, at the edges of both.
@@ -94,4 +95,28 @@ pub fn nodes_of_the_bus()
     ensures next_epoch_of_a_biu { FrameTakes sizes plan Biu (record biu { k2 = Some 878 }) }
     ensures next_epoch_of_an_rmu { FrameTakes sizes plan Rmu (record rmu { k3 = Some 897 }) }
     ensures low { IsLow ordinary_use [] 0 0 }
+{}
+
+/// What the bus cannot do.
+pub fn beyond_the_steps()
+    // A frame takes no less than its windows do by the shortest ticks.
+    ensures short_frame { ¬ IsStep ordinary_use offered at_a_quiet_end
+        (bus_after_frame sizes 9079091 at_a_quiet_end) }
+    // A good BIU's vector names no good RMU, and a good RMU's no good BIU.
+    ensures vector_of_a_biu { ¬ MayHave without_biu_2 before_biu_0 (offered 0 12) (DiagBiu 0)
+        (Node 0) (Word 4) }
+    ensures vector_of_an_rmu { ¬ MayHave silent_rmu before_rmu_0 (offered 0 16) (DiagRmu 0)
+        (Node 0) (Word 4) }
+{}
+
+/// What nodes that stand for the bus cannot hold, and when a word is offered.
+pub fn beyond_the_nodes()
+    // A word is offered as the port holds it in its slot, and not as it did when the frame began.
+    ensures offered_in_the_slot { offered_in one_state [] 0 3 1 ≡ 37 }
+    // RMUs do not vote in a data slot, and good nodes are not accused by mismatch.
+    ensures no_vote { votes_on sizes 4 Rmu ≡ false }
+    ensures accused_by_mismatch { ¬ SparesAllGood ordinary_use 0 5 Biu
+        (record biu { far = record biu.far { mismatch = 1 } }) }
+    // A frame takes no longer than the windows of the sync slot allow.
+    ensures long_frame { ¬ FrameTakes sizes plan Biu (record biu { k2 = Some 889 }) }
 {}

@@ -1,11 +1,12 @@
 //! Whom a node accuses and convicts, at the edges of the rules.
 #![tactic(auto, unfolding(rb_base::specs::Nodes::set_of, rb_base::specs::Nodes::set_below, rb_rules::specs::ExactStage::close_exact, rb_rules::specs::ExactStage::outcome_of, rb_rules::specs::SyncStage::close_sync, rb_rules::specs::SyncStage::sync_outcome_of, rb_rules::specs::Conviction::convicted_by, rb_rules::specs::Conviction::turn))]
 
-ghost use Rattle.std.specs.Prelude.{◌≡◌, ◌∷◌, [], Some, None, slice_index, take};
+ghost use Rattle.std.specs.Prelude.{◌≡◌, ◌∷◌, [], Some, None, false, map, slice_index, take, true};
 ghost use Rattle.rb_base.specs.declared.values.Heard.TheVariants.{Word, Fault};
+ghost use Rattle.rb_rules.specs.Probation.{has_lapsed};
 ghost use Rattle.rb_rules.specs.Standing.{standing_at_end, vector_of};
-ghost use Rattle.rb_test_rules.specs.Accusing.{after_noise_in_the_tail, after_stage_1, calm_for, next_but_one_frame, next_frame, sender_of_unlike, with_a_convict};
-ghost use Rattle.rb_test_rules.specs.Parts.{convicted};
+ghost use Rattle.rb_test_rules.specs.Accusing.{after_noise_in_the_tail, after_stage_1, calm_for, next_but_one_frame, next_frame, sender_of_a_fault, sender_of_a_vector, sender_of_unlike, voter_on_a_vector, with_a_convict, without_a_call_of_a_biu, without_a_call_of_an_rmu};
+ghost use Rattle.rb_test_rules.specs.Parts.{biu, convicted, in_idle_slot};
 
 /// Whom vectors convict.
 pub fn convictions()
@@ -38,4 +39,26 @@ pub fn accusations()
     ensures forgotten_after_stage_2 { sender_of_unlike.sent ≡ None }
     // Who speaks in the tail is accused.
     ensures noise_in_the_tail { after_noise_in_the_tail.far.direct ≡ 1 }
+{}
+
+/// What is evidence.
+pub fn evidence()
+    // The sender of a slot accuses the RMU that relays Fault in place of its word. An RMU compares
+    // what is relayed of its own vector with what it sent, and the BIUs compare the votes on that
+    // vector with their own.
+    ensures fault_is_unlike { sender_of_a_fault.far.mismatch ≡ 4 }
+    ensures by_an_rmu { sender_of_a_vector.far.mismatch ≡ 2 }
+    ensures by_a_voting_biu { voter_on_a_vector.far.mismatch ≡ 4 }
+    // Who does not call in the sync slot is accused.
+    ensures silent_rmu { without_a_call_of_an_rmu.far.direct ≡ 4 }
+    ensures silent_biu { without_a_call_of_a_biu.far.direct ≡ 8 }
+    // What comes unexpected in an idle slot is not voted on.
+    ensures vote_of_an_idle_slot { in_idle_slot.state.votes ≡ biu.votes }
+{}
+
+/// With a probation of two frames, evidence of frame 5 lapses with the end of frame 8, and without
+/// a probation it never lapses.
+pub fn lapsing_evidence()
+    ensures lapsing { map (has_lapsed 2 5) (6 ∷ 7 ∷ 8 ∷ []) ≡ (false ∷ false ∷ true ∷ []) }
+    ensures never { has_lapsed 0 5 9 ≡ false }
 {}

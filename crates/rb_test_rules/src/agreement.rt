@@ -3,12 +3,14 @@
 
 ghost use Rattle.std.specs.Prelude.{◌≡◌, [], ◌∷◌, true};
 ghost use Rattle.rb_base.specs.Nodes.Side.{Biu, Rmu};
+ghost use Rattle.rb_rules.specs.Headline.{ConvictNoGoodNode, HoldOneSchedule};
 ghost use Rattle.rb_rules.specs.Lawful.{IsLawful};
 ghost use Rattle.rb_rules.specs.Moments.{IsComplete, after_slot};
 ghost use Rattle.rb_rules.specs.Rounds.{records_of};
-ghost use Rattle.rb_test_rules.specs.Agreement.{accused_by, false_accuser, false_accuser_records, other_vote, other_vote_records, votes_on};
+ghost use Rattle.rb_test_rules.specs.Agreement.{HaveOneSchedule, NobodyConvictsBiu2, accused_by, false_accuser, false_accuser_records, other_vote, other_vote_records, votes_on};
 ghost use Rattle.rb_test_rules.specs.Frames.{late_onset};
 ghost use Rattle.rb_test_rules.specs.Lies.{asymmetric_sender, silent_rmu};
+ghost use Rattle.rb_test_rules.specs.Ordinary.{ordinary_use};
 ghost use Rattle.rb_test_rules.specs.Told.{none, word};
 
 /// An RMU is silent: all good BIUs hold the word that was sent, and all accuse the RMU and nobody
@@ -57,4 +59,11 @@ pub fn a_good_node_is_accused_at_the_breach()
     ensures breach { records_of other_vote [] ≡ other_vote_records }
     ensures vote { votes_on other_vote 0 0 Rmu ≡ none ∷ [] }
     ensures accused { accused_by other_vote 0 0 Rmu ≡ 3 ∷ [] }
+{}
+
+/// The promise holds from the first data slot on, and of each node while it is good: there is one
+/// schedule in slot 4, and no good node convicts a BIU that fails later.
+pub fn what_is_promised()
+    ensures first_data_slot { HoldOneSchedule ordinary_use [] → HaveOneSchedule 0 4 }
+    ensures good_yet { ConvictNoGoodNode late_onset [] → NobodyConvictsBiu2 0 4 }
 {}

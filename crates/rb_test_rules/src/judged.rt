@@ -5,7 +5,8 @@ ghost use Rattle.std.specs.Prelude.{◌≡◌, ◌∷◌, [], true, false, map, 
 ghost use Rattle.rb_base.specs.Nodes.Side.{Biu, Rmu};
 ghost use Rattle.rb_rules.specs.declared.cause.Cause.TheVariants.{FewGoodBiu, FewGoodRmu, TwoSided};
 ghost use Rattle.rb_rules.specs.Judging.{are_few_good, cause_of, classes_of, verdict_of};
-ghost use Rattle.rb_test_rules.specs.Judged.{calls_at, silence, word_of, word_of_for_one};
+ghost use Rattle.rb_test_rules.specs.Judged.{call_at_one, calls_at, fault_at_all, silence};
+ghost use Rattle.rb_test_rules.specs.Judged.{word_of, word_of_for_one};
 
 /// Which causes a breach has.
 pub fn causes()
@@ -60,4 +61,11 @@ pub fn classes()
     ensures further { map (λ s. (classes_of Biu (s ∷ [])).asymmetric)
         (calls_at 100 111 ∷ calls_at 111 100 ∷ [])
         ≡ (4 ∷ 4 ∷ []) }
+{}
+
+/// Who calls at one of several receivers was seen unlike. Of a node that says only Faults something
+/// was taken.
+pub fn sights()
+    ensures call_at_one { (classes_of Biu (call_at_one ∷ [])).asymmetric ≡ 4 }
+    ensures fault_at_all { (classes_of Biu (fault_at_all ∷ [])).symmetric ≡ 4 }
 {}

@@ -75,3 +75,11 @@ pub fn beyond_the_links()
     ensures many_bytes { ¬ IsLawful (saying (record call { content = raw (replicate 33 255) })) }
     ensures said_to_nobody { ¬ IsLawful (saying (record call { to = One (b 4) })) }
 {}
+
+/// A node says nothing in the slot before it fails, no byte is above 255, and a run may have 4096
+/// frames.
+pub fn bounds_of_scenarios()
+    ensures good_at_first { ¬ IsLawful (saying (record call { slots = (18, 19) })) }
+    ensures no_byte { ¬ IsLawful (saying (record call { content = raw (256 ∷ []) })) }
+    ensures most_frames { IsLawful (record ordinary_use { frames = 4096 }) }
+{}

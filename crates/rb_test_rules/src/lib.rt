@@ -6,7 +6,6 @@ pub mod abstract_bus;
 pub mod accusing;
 pub mod agreement;
 pub mod cores;
-pub mod edges;
 pub mod events;
 pub mod frames;
 pub mod judged;

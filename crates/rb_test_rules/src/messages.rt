@@ -7,11 +7,13 @@ ghost use Rattle.rb_rules.specs.declared.message.Tag.TheVariants as tag;
 ghost use Rattle.rb_rules.specs.declared.message.Version.TheVariants as version;
 ghost use Rattle.rb_rules.specs.declared.sense.Sense.TheVariants.{Bad};
 ghost use Rattle.rb_rules.specs.ExactStage.{message_of};
+ghost use Rattle.rb_rules.specs.Hearing.{message_at};
 ghost use Rattle.rb_rules.specs.NodeSteps.{expect_of};
 ghost use Rattle.rb_rules.specs.Sense.{sense_of};
 ghost use Rattle.rb_rules.specs.Spelling.{message_in};
 ghost use Rattle.rb_rules.specs.SyncStage.{call_of};
 ghost use Rattle.rb_test_rules.specs.Parts.{expected, in_frame_65537, sizes, word_10};
+ghost use Rattle.rb_test_rules.specs.Told.{at};
 
 /// Bytes and messages of which nothing is taken.
 pub fn what_is_not_taken()
@@ -56,4 +58,14 @@ pub fn frames_past_the_last_number()
     ensures call { call_of sizes in_frame_65537 1
         ≡ record { tag = tag.Sync; frame = 1; slot = 19; stage = 1; value = 0 } }
     ensures meant_for { expect_of sizes (version.Two 5) in_frame_65537 4 1 ≡ expected }
+{}
+
+/// Twelve bytes spell a message of version Two, and thirteen spell none. What is said in the tail
+/// has stage 3.
+pub fn lengths_and_stages()
+    ensures thirteen_bytes { message_in (version.Two 5)
+        (1 ∷ 0 ∷ 1 ∷ 0 ∷ 4 ∷ 1 ∷ 0 ∷ 0 ∷ 0 ∷ 10 ∷ 5 ∷ 10 ∷ 0 ∷ [])
+        ≡ None }
+    ensures in_the_tail { message_at (at 0 19 4) tag.Sync 0
+        ≡ record { tag = tag.Sync; frame = 0; slot = 19; stage = 3; value = 0 } }
 {}

@@ -8,14 +8,17 @@ ghost use Rattle.rb_base.specs.declared.node.NodeName.TheVariants as node;
 ghost use Rattle.rb_base.specs.declared.values.Heard.TheVariants.{Word};
 ghost use Rattle.rb_base.specs.declared.values.See.TheVariants.{Nothing, Value, Time};
 ghost use Rattle.rb_rules.specs.declared.message.Tag.TheVariants as tag;
-ghost use Rattle.rb_rules.specs.Core.{arrive, is_spent, slot_wanted, tick};
+ghost use Rattle.rb_rules.specs.Conviction.{turn};
+ghost use Rattle.rb_rules.specs.Core.{arrive, is_spent, next_tick, slot_wanted, tick};
 ghost use Rattle.rb_rules.specs.Hearing.{is_said, judged_see, sole_time};
-ghost use Rattle.rb_rules.specs.WorldStep.{event_at, hand, ready_at, event_of, with_message};
+ghost use Rattle.rb_rules.specs.WorldStep.{due_of, event_at, event_of, hand, ready_at};
+ghost use Rattle.rb_rules.specs.WorldStep.{stop, with_close, with_message};
 ghost use Rattle.rb_rules.specs.WorldStep.Pending.{Arrival, Tick};
 ghost use Rattle.rb_test_rules.specs.Buses.{plan};
 ghost use Rattle.rb_test_rules.specs.Cores.{usual_sizes};
 ghost use Rattle.rb_test_rules.specs.Ordinary.{ordinary_use, smallest_bus};
-ghost use Rattle.rb_test_rules.specs.Steps.{all_but_one_run, at_frame, at_slot, call_in_tail, core_after, empty_at, faulty_bus, in_time, own_slot, own_slot_by_last_ticks, short_tail, small_world, too_late, vector_at_the_last_tick, waiting, word_in_stage};
+ghost use Rattle.rb_test_rules.specs.Parts.{biu, rmu};
+ghost use Rattle.rb_test_rules.specs.Steps.{after_both_told, all_but_one_run, at_frame, at_slot, at_the_last_tick, broken_world, call_in_tail, core_after, empty_at, faulty_bus, in_time, own_slot, own_slot_by_last_ticks, row_of_stage_3, short_tail, small_world, tail_closed, tick_of_nobody, too_late, vector_at_the_last_tick, waiting, word_in_stage};
 
 /// Steps of a core.
 pub fn steps_of_a_core()
@@ -100,4 +103,30 @@ pub fn steps_as_shown()
     ensures times { map sole_time
         ([] ∷ (empty_at 95000 0 ∷ []) ∷ (empty_at 95000 0 ∷ empty_at 95001 0 ∷ []) ∷ [])
         ≡ (0 ∷ 95000 ∷ 0 ∷ []) }
+{}
+
+/// A core that has had 2^31 ticks has no next one. A node counts its frames past 65535, though
+/// messages do not.
+pub fn numbers_of_a_core()
+    ensures last_tick { next_tick usual_sizes plan Biu 0 at_the_last_tick ≡ None }
+    ensures frame_65536 { (turn usual_sizes 0 Biu 917 (record biu { frame = 65535 })).frame
+        ≡ 65536 }
+{}
+
+/// What is dropped in a world, and what stays.
+pub fn what_is_dropped()
+    // After a breach nothing is due, and what was on its way to a node that stops does not come.
+    ensures after_a_breach { due_of smallest_bus broken_world ≡ [] }
+    ensures stopped { length (stop waiting).coming ≡ 0 }
+    // The close of the tail leaves what the node told of a stage.
+    ensures in_the_tail { (with_close Rmu 0 rmu (Some tail_closed)
+        (record waiting { row = row_of_stage_3 })).row
+        ≡ row_of_stage_3 }
+{}
+
+/// One event does not settle both a stage and a frame, and a state that is handed in at a frame's
+/// record is not for the frame after that.
+pub fn one_event_at_a_time()
+    ensures one_at_a_time { length (after_both_told tick_of_nobody).book.given ≡ 1 }
+    ensures handed { map (λ h. h.frame) (hand smallest_bus at_frame 0 77).hands ≡ (0 ∷ []) }
 {}

@@ -1,10 +1,11 @@
 //! Plans, windows, clocks and delays, by their numbers.
 #![tactic(auto, unfolding(rb_rules::specs::Links::delay_of))]
 
-ghost use Rattle.std.specs.Prelude.{◌≡◌, ◌∷◌, [], false, map, None, pos, true};
+ghost use Rattle.std.specs.Prelude.{◌≡◌, ◌∷◌, [], false, map, None, pos, Some, true};
 ghost use Rattle.rb_base.specs.Nodes.Side.{Biu, Rmu};
 ghost use Rattle.rb_base.specs.declared.node.NodeName.TheVariants as node;
-ghost use Rattle.rb_rules.specs.Clock.{ComesBy, IsClock, are_rising, stamp_of, tick_length, time_of};
+ghost use Rattle.rb_rules.specs.Clock.{ComesBy, IsClock, IsStamp, are_rising, are_within, stamp_of, tick_length, time_of};
+ghost use Rattle.rb_rules.specs.Headline.{stated_skew};
 ghost use Rattle.rb_rules.specs.Hearing.{coming_of};
 ghost use Rattle.rb_rules.specs.Links.{delay_of};
 ghost use Rattle.rb_rules.specs.Plan.{IsFeasible, IsPlan, first_failing, inequalities_of};
@@ -82,4 +83,18 @@ pub fn delays_of_links()
     ensures of_no_rule { delay_of two_rules (node.Rmu 1) (node.Biu 0) data_place ≡ 5 }
     ensures to_an_rmu { (coming_of with_two_rules Rmu 1 0 0 word_sent).time ≡ 7 }
     ensures to_a_biu { (coming_of with_two_rules Biu 0 1 0 word_sent).time ≡ 5 }
+{}
+
+/// Plans and clocks whose numbers are at a bound, or beyond it by one.
+pub fn bounds_of_plans_and_clocks()
+    // An inequality holds if its sides are equal, and fails if the left one is less by one.
+    ensures both_sides_equal { first_failing sizes (record plan { p = 60109 }) ≡ None }
+    ensures one_less { first_failing sizes (record plan { p = 60108 }) ≡ Some 7 }
+    // No tick is shorter than the plan allows, and none is nominally longer than 1000000 units.
+    ensures short_tick { are_within 9999 10001 ((0, 9998) ∷ []) ≡ false }
+    ensures long_ticks { ¬ IsPlan (record plan { u = 1000001 }) }
+    // A stamp is the first tick that is not before the arrival, and no later one.
+    ensures later_stamp { ¬ IsStamp quick_then_slow 13 2 }
+    // The stated skew has the drift once.
+    ensures stated_skew { stated_skew plan 855 ≡ 61910 }
 {}

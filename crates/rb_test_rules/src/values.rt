@@ -1,15 +1,20 @@
 //! Votes, applications, ports and the book, at the edges of the rules.
 #![tactic(auto, unfolding(rb_base::specs::Nodes::set_of, rb_base::specs::Nodes::set_below, rb_base::specs::Nodes::size, rb_rules::specs::Judging::classes_of, rb_rules::specs::Judging::verdict_of, rb_rules::specs::Book::with_stage, rb_rules::specs::Book::with_frame))]
 
-ghost use Rattle.std.specs.Prelude.{◌≡◌, ◌∷◌, ◌++◌, ◌+◌, [], true, false, map, replicate, Some, None};
+ghost use Rattle.std.specs.Prelude.{◌≡◌, ◌∷◌, ◌++◌, ◌+◌, [], length, map, replicate};
+ghost use Rattle.std.specs.Prelude.{false, None, Some, true};
 ghost use Rattle.rb_base.specs.declared.values.Heard.TheVariants.{Word, Fault};
-ghost use Rattle.rb_rules.specs.Book.{after_stage, slot_records, with_end, with_frame, with_stage};
+ghost use Rattle.rb_rules.specs.Book.{after_stage, fresh_book, slot_records};
+ghost use Rattle.rb_rules.specs.Book.{with_end, with_frame, with_stage};
 ghost use Rattle.rb_rules.specs.Book.Milestone.{Begin, End, Stage};
 ghost use Rattle.rb_rules.specs.Book.Record.{Slot};
-ghost use Rattle.rb_rules.specs.Majority.{majority_of};
+ghost use Rattle.rb_rules.specs.Majority.{IsMajority, majority_of};
+ghost use Rattle.rb_rules.specs.Middle.{IsMiddle};
 ghost use Rattle.rb_rules.specs.NodeSteps.{owner_at};
+ghost use Rattle.rb_rules.specs.Owners.{owners_in_passes};
 ghost use Rattle.rb_rules.specs.Ports.{delivered_to, hand_over, learned_by, losses_of, offered_at, offered_by};
 ghost use Rattle.rb_test_rules.specs.Books.{begun, ended_book, nothing_told};
+ghost use Rattle.rb_test_rules.specs.Judged.{silence};
 ghost use Rattle.rb_test_rules.specs.Ordinary.{ordinary_use};
 ghost use Rattle.rb_test_rules.specs.Parts.{biu, sizes};
 ghost use Rattle.rb_test_rules.specs.Told.{at};
@@ -70,4 +75,33 @@ pub fn milestones_of_a_book()
         ≡ true }
     ensures frame { (with_frame ordinary_use 0 (begun ∷ []) ended_book).given ≡ ended_book.given }
     ensures end { (with_end ended_book).given ≡ ended_book.given }
+{}
+
+/// Half is no majority, the upper of two middles is no middle, and passes give no more slots than
+/// there are.
+pub fn counts_of_votes_and_owners()
+    ensures half { ¬ IsMajority (Word 1) (Word 1 ∷ Word 2 ∷ []) }
+    ensures upper_middle { ¬ IsMiddle 3 (1 ∷ 2 ∷ 3 ∷ 4 ∷ []) }
+    ensures passes { map (λ n. length (owners_in_passes sizes 15 (replicate 4 (Word 9)) n))
+        (2 ∷ 9 ∷ [])
+        ≡ (8 ∷ 8 ∷ []) }
+{}
+
+/// Of 65 deliveries the first one counts no more among the losses. What is handed in for frame 1 is
+/// not handed over again in frame 2.
+pub fn what_is_past()
+    ensures losses { losses_of (delivered_to
+        (record { app = 0; state = 1; faults = replicate 64 true }) (Word 1))
+        ≡ 63 }
+    ensures handed_before { map (λ p. p.state)
+        (hand_over 2 (record { frame = 1; biu = 0; state = 6 } ∷ [])
+        (record { app = 0; state = 1; faults = [] } ∷ []))
+        ≡ (1 ∷ []) }
+{}
+
+/// With a new frame the stages before it are judged no more.
+pub fn with_a_new_frame()
+    ensures { length (with_frame ordinary_use 0 (begun ∷ [])
+        (record fresh_book { stages = silence ∷ [] })).stages
+        ≡ 0 }
 {}

@@ -3,7 +3,7 @@ use Rattle.rb_base.specs.Nodes.{set_below, set_of, size}
 use Rattle.rb_rules.specs.Book.{with_frame, with_stage}
 use Rattle.rb_rules.specs.Judging.{classes_of, verdict_of}
 use Rattle.rb_rules.specs.WorldStep.{first_world, hand, happens}
-use Rattle.rb_test_rules.proofs.edges.events_of_a_world.Goals as goal
+use Rattle.rb_test_rules.proofs.steps.one_event_at_a_time.Goals as goal
 
 pub returns-clause-one_at_a_time : goal.returns-clause-one_at_a_time
 unfolding set_below set_of size with_frame with_stage classes_of verdict_of first_world happens

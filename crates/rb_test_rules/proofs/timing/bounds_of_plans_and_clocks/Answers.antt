@@ -1,5 +1,5 @@
 use Rattle.std.proofs.Common.{◌<◌, ◌≤◌, lit<, arith}
-use Rattle.rb_test_rules.proofs.edges.plans_and_clocks.Goals as goal
+use Rattle.rb_test_rules.proofs.timing.bounds_of_plans_and_clocks.Goals as goal
 
 pub returns-clause-long_ticks : goal.returns-clause-long_ticks
 returns-clause-long_ticks c = λ p. let e : 1000001 ≤ 1000000 = p.u.1 in omega arith

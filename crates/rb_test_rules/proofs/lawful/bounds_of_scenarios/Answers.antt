@@ -5,8 +5,9 @@ use Rattle.rb_rules.specs.declared.say.Say.{Say}
 use Rattle.rb_test_rules.proofs.LawfulTests.{lawful_by_tests}
 use Rattle.rb_test_rules.specs.Lawful.{saying}
 use Rattle.rb_test_rules.specs.Ordinary.{ordinary_use}
-use Rattle.rb_test_rules.proofs.edges.scenarios.Goals as goal
+use Rattle.rb_test_rules.proofs.lawful.bounds_of_scenarios.Goals as goal
 
+-- the sole entry of a lawful scenario is one of it
 said : (say : Say) → IsLawful (saying say) → IsSayOf (saying say) say
 said say lawful = lawful.says 0 say (omega arith)
 
