@@ -163,7 +163,7 @@ reached_from sc hands (suc f) slot complete =
     later f s slot = omega arith
 
 -- a port as a frame begins that is reached
-begun-port : (sc : Scenario) (hands : List HandIn) → IsLawful sc → (frame i : ℕ) → IsReached sc hands frame → is_good sc Biu i frame 0 ≡ true
+pub begun-port : (sc : Scenario) (hands : List HandIn) → IsLawful sc → (frame i : ℕ) → IsReached sc hands frame → is_good sc Biu i frame 0 ≡ true
     → port_at sc (before_slot sc hands frame 0).ports i ≡ port_begun sc hands i frame
 begun-port sc hands law zero i reached good =
     let e : 0 * (windows_in sc.sizes + 1) + 3 * 0 + 1 - 1 ≡ 0 = omega arith in

@@ -84,14 +84,16 @@ abbrev pub vector_slot_of : Scenario → Side → ℕ → ℕ
 vector_slot_of sc kind p = first_diagnosis_of kind sc.sizes + p
 
 -- a node from which no good node accepted anything in the frame so far has no valid vector
-abbrev pub UnheardNodesHaveNoVector : Type 0
-UnheardNodesHaveNoVector =
-    (sc : Scenario) (hands : List HandIn) → IsLawful sc
-    → (frame slot : ℕ) → slot ≤ sync_slot_of sc.sizes → IsComplete sc hands frame slot
+abbrev pub GiveUnheardNodesNoVector : Scenario → List HandIn → Type 0
+GiveUnheardNodesNoVector sc hands =
+    (frame slot : ℕ) → slot ≤ sync_slot_of sc.sizes → IsComplete sc hands frame slot
     → (kind : Side) (p : ℕ) → p < count_of kind sc.sizes → vector_slot_of sc kind p ≤ slot
     → is_benign kind (after_slot sc hands frame slot).book.stages p ≡ true
     → (me : Side) (i : ℕ) (st : NodeState) → IsGoodAfter sc hands frame slot me i st
     → (others : ℕ) → is_valid others (voted_vector sc.sizes kind st p) ≡ false
+
+abbrev pub UnheardNodesHaveNoVector : Type 0
+UnheardNodesHaveNoVector = (sc : Scenario) (hands : List HandIn) → IsLawful sc → GiveUnheardNodesNoVector sc hands
 
 -- a node with this standing accuses node j
 abbrev pub Accuses : Standing → ℕ → Type 0
@@ -118,13 +120,15 @@ AccusedByAllIsConvicted = (sc : Scenario) (hands : List HandIn) → IsLawful sc 
 
 -- Ports.
 
--- a good BIU's port is what the bus's values make of it
-abbrev pub PortsFollowTheBus : Type 0
-PortsFollowTheBus =
-    (sc : Scenario) (hands : List HandIn) → IsLawful sc
-    → (frame slot : ℕ) → slot ≤ sync_slot_of sc.sizes → IsComplete sc hands frame slot
+-- after each complete slot a good BIU's port is what the bus's values make of it
+abbrev pub GoodPortsFollowTheBus : Scenario → List HandIn → Type 0
+GoodPortsFollowTheBus sc hands =
+    (frame slot : ℕ) → slot ≤ sync_slot_of sc.sizes → IsComplete sc hands frame slot
     → (i : ℕ) → is_good sc Biu i frame slot ≡ true
     → port_at sc (after_slot sc hands frame slot).ports i ≡ port_through sc hands frame (suc slot) (port_begun sc hands i frame)
+
+abbrev pub PortsFollowTheBus : Type 0
+PortsFollowTheBus = (sc : Scenario) (hands : List HandIn) → IsLawful sc → GoodPortsFollowTheBus sc hands
 
 -- after each complete slot good BIUs with one application, one first word and equal hand-ins have
 -- equal ports

@@ -22,7 +22,7 @@ use Rattle.rb_rules.specs.Ports.{HandIn}
 use Rattle.rb_rules.specs.Rounds.{IsGoodIn, Moment, step, windows_in}
 use Rattle.rb_rules.specs.Slots.{count_of}
 use Rattle.rb_rules.specs.StandsFor.{votes_on}
-use Rattle.rb_rules.specs.WorldStep.{World, world_after}
+use Rattle.rb_rules.specs.WorldStep.{Choice, World, world_after}
 use Rattle.rb_laws_agreement.specs.Values.{vote_on}
 use Rattle.rb_laws_agreement.proofs.Agreement.{running_before}
 use Rattle.rb_laws_agreement.proofs.ExactAgrees.{has_ticks}
@@ -30,14 +30,15 @@ use Rattle.rb_laws_agreement.proofs.Exchanges.{trusted-either}
 use Rattle.rb_laws_agreement.proofs.FrameBegins.{settled_before}
 use Rattle.rb_laws_agreement.proofs.Goodnesses.{good_below_16}
 use Rattle.rb_laws_agreement.proofs.Invariant.{Agree, Holds, IsGoodNode, Shared, is_good_now, slot_numbered}
-use Rattle.rb_laws_agreement.proofs.Places.{IsPlaced, complete_before, placed}
+use Rattle.rb_laws_agreement.proofs.Places.{IsPlaced, complete_before, good_before_slot, placed}
 use Rattle.rb_laws_agreement.proofs.Promises.{convict-alike}
 use Rattle.rb_laws_agreement.proofs.SlotLaws.{none_convicted}
 use Rattle.rb_laws_agreement.proofs.SlotRuns.{stage_next}
+use Rattle.rb_laws_agreement.proofs.WidelyAccused.{accused_by_all}
 use Rattle.rb_laws_synchrony.proofs.SyncLaws.{slots_near}
 use Rattle.rb_laws_events.specs.Closing.{stages_in}
 use Rattle.rb_laws_events.specs.OwnMoments.{FollowsTheRounds, HoldsTheState, IsStateOf, RunningNode, moment_of}
-use Rattle.rb_laws_events.specs.RunningNodes.{NodesBeginSlotsNear, NodesConvictAlike, NodesConvictNoGoodNode, NodesHoldOneSchedule, NodesVoteAlike, RunningNodesAgreeInLawful, StandsInSlot, begin_of_slot, convicted_by, state_of, window_of}
+use Rattle.rb_laws_events.specs.RunningNodes.{NodesBeginSlotsNear, NodesConvictAlike, NodesConvictNoGoodNode, NodesConvictWhomAllAccused, NodesHoldOneSchedule, NodesVoteAlike, RunningNodesAgreeInLawful, StandsInSlot, begin_of_slot, convicted_by, state_of, window_of}
 use Rattle.rb_laws_events.proofs.CloseOrder.{WasGood, was-good}
 use Rattle.rb_laws_events.proofs.CoreStates.{window-place}
 use Rattle.rb_laws_events.proofs.CoresPast.{cores-follow}
@@ -394,6 +395,33 @@ convict-no-good-node {w} sc lawful follow frame slot me node at kind j good =
           ∙ none_convicted sc w.hands lawful frame slot a.within (inr begin.begins) me node.index a.st (before-is sc frame slot node begin.mine_first a) kind j good
     ]
 
+convict-whom-all-accused : {w : World} (sc : Scenario) → IsLawful sc → FollowsTheRounds sc w → NodesConvictWhomAllAccused sc w
+convict-whom-all-accused {w} sc lawful follow frame complete accused j count all me node at = by at.settled
+  where
+    hands : List HandIn
+    hands = w.hands
+
+    a : IsIn sc (frame + 1) 0 node
+    a = in-slot sc lawful (frame + 1) 0 node follow at
+
+    convicts : (st : NodeState) → IsGoodBefore sc hands (frame + 1) 0 me node.index st → has (convicted_of sc.sizes accused me st) j ≡ true
+    convicts st before = accused_by_all sc hands lawful frame complete accused j count all me node.index st before
+
+    by : IsComplete sc hands (frame + 1) 0 ⊎ (BeginsFrame sc hands (frame + 1) 0 × ((window_of sc node).stage ≡ 1)) → has (convicted_by sc accused node) j ≡ true
+    by (inr begin) = ap (λ set. has set j) (a.convicted accused) ∙ convicts a.st (before-is sc (frame + 1) 0 node begin.1 a)
+    by (inl whole) =
+        let r : SharedIn sc hands (frame + 1) 0 = shared-in sc hands lawful (frame + 1) 0 a.within whole in
+        let x : HasBegun sc (frame + 1) 0 node = has-begun sc lawful (frame + 1) 0 node at a in
+        let p : IsPlaced sc hands (frame + 1) 0 1 =
+        placed sc hands lawful (frame + 1) 0 1 a.within (omega arith) (omega arith) (complete_before sc hands (frame + 1) 0 1 (omega arith) whole) in
+        let good : IsGoodNode sc (before_slot sc hands (frame + 1) 0) me node.index x.st =
+        good_before_slot sc hands (frame + 1) 0 a.within p me node.index x.st x.is in
+        let holds = (r.at 1 (omega arith) (omega arith)).agree.nodes me node.index x.st good in
+        ap (λ set. has set j)
+        (convicts-shared sc (frame + 1) 0 r.shared node (holds-shared sc lawful (frame + 1) 0 node follow at r) accused
+        ∙ ap (convicted_by_trusted sc.sizes accused) (sym (trusted-either me accused x.st ∙ holds.trusted accused)))
+        ∙ convicts x.st x.is
+
 vote-the-same : {w : World} (sc : Scenario) → IsLawful sc → FollowsTheRounds sc w → NodesVoteAlike sc w
 vote-the-same {w} sc lawful follow frame slot me you mine yours at there voted before mine_votes yours_votes =
     elim (complete-or-begins sc frame slot mine yours at there) [
@@ -419,3 +447,6 @@ nodes-agree sc lawful choices =
       good_nodes_stay = convict-no-good-node sc lawful follow;
       votes = vote-the-same sc lawful follow;
     }
+
+pub nodes-convict : (sc : Scenario) → IsLawful sc → (choices : List Choice) → NodesConvictWhomAllAccused sc (world_after sc choices)
+nodes-convict sc lawful choices = convict-whom-all-accused sc lawful (cores-follow sc lawful choices)

@@ -1,12 +1,27 @@
 -- What is promised of running nodes holds in each lawful scenario.
-use Rattle.rb_laws_agreement.proofs.PortHistories.{ports_alike}
+use Rattle.std.proofs.Common.{List}
+use Rattle.rb_rules.specs.Goodness.{Scenario}
+use Rattle.rb_rules.specs.Lawful.{IsLawful}
+use Rattle.rb_rules.specs.Ports.{HandIn}
+use Rattle.rb_rules.specs.WorldStep.{world_after}
+use Rattle.rb_laws_agreement.proofs.Convicting.{unheard}
+use Rattle.rb_laws_agreement.proofs.PortHistories.{ports_alike, ports_follow}
 use Rattle.rb_laws_agreement.proofs.WidelyAccused.{accused_by_all}
 use Rattle.rb_laws_synchrony.proofs.SyncLaws.{all_timely}
-use Rattle.rb_laws_events.specs.Promise.{RunningNodesKeepThePromiseInLawful}
+use Rattle.rb_laws_events.specs.Promise.{RoundsKeepThePromise, RunningNodesKeepThePromiseInLawful}
 use Rattle.rb_laws_events.proofs.CoresHold.{cores-hold}
 use Rattle.rb_laws_events.proofs.CoresPast.{cores-follow}
-use Rattle.rb_laws_events.proofs.NodesAlike.{nodes-agree}
-use Rattle.rb_laws_events.proofs.PortsAlike.{ports-agree}
+use Rattle.rb_laws_events.proofs.NodesAlike.{nodes-agree, nodes-convict}
+use Rattle.rb_laws_events.proofs.PortsAlike.{ports-agree, ports-follow-the-bus}
+
+rounds-keep : (sc : Scenario) → IsLawful sc → (hands : List HandIn) → RoundsKeepThePromise sc hands
+rounds-keep sc lawful hands = record {
+  timely = all_timely sc hands lawful;
+  accused = accused_by_all sc hands lawful;
+  unheard = unheard sc hands lawful;
+  follow = ports_follow sc hands lawful;
+  ports = ports_alike sc hands lawful;
+}
 
 pub keep-the-promise : RunningNodesKeepThePromiseInLawful
 keep-the-promise sc lawful = record {
@@ -15,8 +30,9 @@ keep-the-promise sc lawful = record {
     follow = cores-follow sc lawful choices;
     agree = nodes-agree sc lawful choices;
     ports = ports-agree sc lawful choices;
+    bus = ports-follow-the-bus sc lawful choices;
+    accused = nodes-convict sc lawful choices;
+    rounds = rounds-keep sc lawful (world_after sc choices).hands;
   };
-  ports = λ hands. ports_alike sc hands lawful;
-  timely = λ hands. all_timely sc hands lawful;
-  accused = λ hands. accused_by_all sc hands lawful;
+  rounds = rounds-keep sc lawful;
 }

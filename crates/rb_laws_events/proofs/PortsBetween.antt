@@ -15,7 +15,7 @@ use Rattle.rb_rules.specs.ExactStage.{Outcome, close_exact, keep_sent, outcome_o
 use Rattle.rb_rules.specs.Goodness.{Scenario, is_good}
 use Rattle.rb_rules.specs.Hearing.{port_at, row_of}
 use Rattle.rb_rules.specs.Lawful.{IsLawful}
-use Rattle.rb_rules.specs.Moments.{IsComplete, after_slot, before_stage}
+use Rattle.rb_rules.specs.Moments.{IsComplete, IsRunning, after_slot, before_stage}
 use Rattle.rb_rules.specs.NodeState.{NodeState}
 use Rattle.rb_rules.specs.Ports.{HandIn}
 use Rattle.rb_rules.specs.Rounds.{Moment, Result, close_on, go_through, heard_at, moment, port_after, sent_in, window_in, windows_in, word_for_window}
@@ -105,3 +105,17 @@ then-second sc hands lawful frame slot i le complete counted =
     let stage : (after_slot sc hands frame slot).window % 3 ≡ 0 = omega (arith, window) in
     ap (λ n. port_at sc (moment sc hands n).ports i) (next-second (frame * (windows_in sc.sizes + 1)) slot)
     ∙ still sc hands (frame * (windows_in sc.sizes + 1) + 3 * slot + 4 - 1) i (has_ticks sc lawful) counted inside (inl stage)
+
+begin-second : (a : ℕ) → a + 3 * 0 + 2 - 1 ≡ suc (a + 3 * 0 + 1 - 1)
+begin-second a = omega arith
+
+-- before the second stage of a frame it is that before the first
+pub begin-stays : (sc : Scenario) (hands : List HandIn) → IsLawful sc → (frame i : ℕ) → IsRunning (before_stage sc hands frame 0 1) → i < sc.sizes.bius
+    → port_at sc (before_stage sc hands frame 0 2).ports i ≡ port_at sc (before_stage sc hands frame 0 1).ports i
+begin-stays sc hands lawful frame i running counted =
+    let p : IsPlaced sc hands frame 0 1 = placed sc hands lawful frame 0 1 (omega arith) (omega arith) (omega arith) running in
+    let window = p.window_is in
+    let inside : (before_stage sc hands frame 0 1).window < windows_in sc.sizes = omega (arith, window) in
+    let stage : (before_stage sc hands frame 0 1).window % 3 ≡ 0 = omega (arith, window) in
+    ap (λ n. port_at sc (moment sc hands n).ports i) (begin-second (frame * (windows_in sc.sizes + 1)))
+    ∙ still sc hands (frame * (windows_in sc.sizes + 1) + 3 * 0 + 1 - 1) i (has_ticks sc lawful) counted inside (inl stage)

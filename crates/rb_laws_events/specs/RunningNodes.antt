@@ -1,6 +1,6 @@
 -- What running nodes of one world have in common: when they begin a slot, their schedule, whom they
 -- hold convicted, their votes and ports.
-use Rattle.std.specs.Prelude.{ℕ, ◌≡◌, ◌+◌, ◌*◌, ◌<◌, ◌≤◌, ◌⊎◌, true, false, List}
+use Rattle.std.specs.Prelude.{ℕ, suc, ◌≡◌, ◌+◌, ◌*◌, ◌<◌, ◌≤◌, ◌⊎◌, true, false, List}
 use Rattle.rb_base.specs.Nodes.{Side, has}
 use Rattle.rb_base.specs.Nodes.Side.{Biu}
 use Rattle.rb_base.specs.Sizes.{sync_slot_of}
@@ -9,12 +9,14 @@ use Rattle.rb_rules.specs.Goodness.{Scenario, is_good}
 use Rattle.rb_rules.specs.Headline.{stated_skew}
 use Rattle.rb_rules.specs.Hearing.{port_at}
 use Rattle.rb_rules.specs.Lawful.{IsLawful}
-use Rattle.rb_rules.specs.Moments.{BeginsFrame, IsComplete, IsRunning, time_in_frame}
+use Rattle.rb_rules.specs.Moments.{BeginsFrame, IsComplete, IsReached, IsRunning, time_in_frame}
 use Rattle.rb_rules.specs.NodeState.{NodeState}
 use Rattle.rb_rules.specs.NodeSteps.{convicted_of}
+use Rattle.rb_rules.specs.Slots.{count_of}
 use Rattle.rb_rules.specs.StandsFor.{votes_on}
 use Rattle.rb_rules.specs.WorldStep.{Choice, World, world_after}
-use Rattle.rb_laws_agreement.specs.Histories.{AreAlike}
+use Rattle.rb_laws_agreement.specs.Histories.{AreAlike, port_begun, port_through}
+use Rattle.rb_laws_agreement.specs.Laws.{IsAccusedByAll}
 use Rattle.rb_laws_agreement.specs.Values.{vote_on}
 use Rattle.rb_laws_events.specs.OwnMoments.{IsBeforeTheBreak, RunningNode, moment_of, open_window, ready_state}
 
@@ -97,6 +99,15 @@ NodesVoteAlike sc w =
     → (voted : ℕ) → voted < slot → votes_on sc.sizes voted me ≡ true → votes_on sc.sizes voted you ≡ true
     → vote_on (state_of sc mine) voted ≡ vote_on (state_of sc yours) voted
 
+-- in the first slot of a frame each node holds convicted whomever all good nodes of the other kind
+-- accused in the frame before
+abbrev pub NodesConvictWhomAllAccused : Scenario → World → Type 0
+NodesConvictWhomAllAccused sc w =
+    (frame : ℕ) → IsComplete sc w.hands frame (sync_slot_of sc.sizes)
+    → (accused : Side) (j : ℕ) → j < count_of accused sc.sizes → IsAccusedByAll sc w.hands frame accused j
+    → (me : Side) (node : RunningNode w me) → StandsInSlot sc (frame + 1) 0 node
+    → has (convicted_by sc accused node) j ≡ true
+
 -- what any two running nodes have in common that stand in the same slot of the same frame
 pub record RunningNodesAgree (sc : Scenario) (w : World) : Type 0 where
   pub skew : NodesBeginSlotsNear sc w
@@ -113,6 +124,26 @@ RunningPortsAgree sc w =
     → StandsAfterSlot sc frame slot mine → StandsAfterSlot sc frame slot yours
     → AreAlike sc w.hands mine.index yours.index
     → port_at sc w.ports mine.index ≡ port_at sc w.ports yours.index
+
+-- The ports of running BIUs.
+
+-- the BIU stands before the first delivery of a frame that is reached: in one of the first two
+-- stages of its first slot. No stage of a sync slot has ended the run, or the run goes on at the
+-- BIU's own moment
+pub record StandsAtBegin {w : World} (sc : Scenario) (frame : ℕ) (node : RunningNode w Biu) : Type 0 where
+  pub frame_is : (state_of sc node).frame ≡ frame
+  pub slot_is : (window_of sc node).slot ≡ 0
+  pub stage : (1 ≤ (window_of sc node).stage) × ((window_of sc node).stage ≤ 2)
+  pub reached : IsReached sc w.hands frame
+  pub goes_on : IsBeforeTheBreak sc w ⊎ IsRunning (moment_of sc node)
+
+-- the port of a BIU is what the bus's values and the hand-ins make of it: as a frame begins, and
+-- after each complete slot
+pub record RunningPortsFollowTheBus (sc : Scenario) (w : World) : Type 0 where
+  pub begun : (frame : ℕ) (node : RunningNode w Biu) → StandsAtBegin sc frame node
+      → port_at sc w.ports node.index ≡ port_begun sc w.hands node.index frame
+  pub after : (frame slot : ℕ) (node : RunningNode w Biu) → StandsAfterSlot sc frame slot node
+      → port_at sc w.ports node.index ≡ port_through sc w.hands frame (suc slot) (port_begun sc w.hands node.index frame)
 
 -- The laws.
 

@@ -120,7 +120,10 @@ pub fn running_ports_agree()
 
 /// All that is promised of running nodes holds in every world that choices lead to; and in the
 /// rounds, whatever is handed in, every window is timely, good BIUs that are alike have equal
-/// ports, and whoever all good nodes of the other kind accuse is convicted.
+/// ports, and whoever all good nodes of the other kind accuse is convicted. Running nodes hold such
+/// a node convicted in the next frame. Whom no good node heard has no valid vector. The port of a
+/// good BIU is what the bus's values and the hand-ins make of it, in the rounds after each complete
+/// slot, and at a running BIU as a frame begins, too.
 pub fn running_nodes_keep_the_promise()
     ensures { RunningNodesKeepThePromiseInLawful }
 {}
