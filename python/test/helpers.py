@@ -3,10 +3,12 @@ import contextlib
 import io
 import os
 import pathlib
+import runpy
 import sys
 from importlib.machinery import SourceFileLoader
 from importlib.util import module_from_spec, spec_from_loader
 from typing import Optional
+from unittest import mock
 
 from robus import engines
 from robus.__main__ import run
@@ -41,6 +43,23 @@ def ending_of(tool: str, words: list, data: bytes = b"") -> tuple[int, str, str]
     finally:
         sys.stdin = kept
     return status, out.buffer.getvalue().decode(errors="replace"), said.getvalue()
+
+
+def script_ending(name: str, words: list) -> tuple[int, str, str]:
+    """The status of a script of tools/ with these words, and what it writes on standard output and
+    on standard error. It runs in this process."""
+    out, said = io.TextIOWrapper(io.BytesIO(), "utf-8", write_through=True), io.StringIO()
+    file, words = str(TOP / "tools" / name), [str(word) for word in words]
+    with (mock.patch.object(sys, "argv", [file, *words]), mock.patch.object(sys, "path", sys.path[:]),
+          mock.patch("robus.tool.open_output"), contextlib.redirect_stdout(out),
+          contextlib.redirect_stderr(said)):
+        try:
+            runpy.run_path(file, run_name="__main__")
+            status = 0
+        except SystemExit as end:
+            status = end.code if isinstance(end.code, int) else 1 if end.code else 0
+            said.write(end.code if isinstance(end.code, str) else "")
+    return status, out.buffer.getvalue().decode(), said.getvalue()
 
 
 def output_of(tool: str, words: list, data: bytes = b"") -> tuple[int, str]:

@@ -11,13 +11,16 @@ there is no such test."""
 from __future__ import annotations
 
 import argparse
+import compileall
 import os
+import shutil
 import signal
 import sys
 import time
 import unittest
 from collections.abc import Iterator
 from concurrent.futures import ProcessPoolExecutor, as_completed
+from contextlib import contextmanager
 from dataclasses import dataclass, field
 from pathlib import Path
 
@@ -113,6 +116,23 @@ def report(found: list[Outcome], seconds: float, jobs: int) -> int:
     return 1 if failed else 0
 
 
+@contextmanager
+def compiled_package() -> Iterator[None]:
+    """Has the package compiled in place meanwhile. Otherwise each tool that a test starts would
+    compile it anew, since tools write nothing into the repository."""
+    packages = [HERE.parent / name for name in ("robus", "robus_docs")]
+    folders = [it / "__pycache__" for package in packages
+               for it in (package, *package.rglob("*")) if it.is_dir() and it.name != "__pycache__"]
+    new = [it for it in folders if not it.exists()]
+    for package in packages:
+        compileall.compile_dir(package, quiet=2)
+    try:
+        yield
+    finally:
+        for it in new:
+            shutil.rmtree(it, ignore_errors=True)
+
+
 def main(words: list[str]) -> int:
     """Runs the tests that are asked for; the status."""
     parser = argparse.ArgumentParser(prog="python/test/run", description=__doc__,
@@ -123,13 +143,13 @@ def main(words: list[str]) -> int:
     asked = parser.parse_args(words)
     # Where SIGINT is ignored, as in the background of a shell, the tools under test would ignore it
     signal.signal(signal.SIGINT, signal.default_int_handler)
-    start = time.monotonic()
-    classes = classes_of([Path(it).name.removesuffix(".py") for it in asked.names])
-    jobs = max(1, min(asked.jobs, len(classes)))
-    found = []
-    for it in outcomes(classes, jobs):
-        print(it.line(), flush=True)
-        found.append(it)
+    start, found = time.monotonic(), []
+    with compiled_package():
+        classes = classes_of([Path(it).name.removesuffix(".py") for it in asked.names])
+        jobs = max(1, min(asked.jobs, len(classes)))
+        for it in outcomes(classes, jobs):
+            print(it.line(), flush=True)
+            found.append(it)
     return report(found, time.monotonic() - start, jobs)
 
 

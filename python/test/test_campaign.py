@@ -6,14 +6,16 @@ import json
 import os
 import re
 import shutil
+import signal
 import stat
 import subprocess
 import tempfile
 import unittest
 from math import sqrt
 from pathlib import Path
+from unittest import mock
 
-from helpers import EXAMPLES, TOP, run_model
+from helpers import EXAMPLES, TOP, ending_of, run_model
 from robus.__main__ import run
 from robus.campaign_words import asked_in
 from robus.campaign_faults import summary_of_faults, wilson
@@ -47,11 +49,22 @@ class Campaigns(unittest.TestCase):
         self.folder.mkdir()
 
     def campaign(self, *words, path: str = "") -> tuple[int, str, str]:
-        env = dict(os.environ, PATH=path + os.environ["PATH"])
-        env.pop("PYTHONPATH", None)  # the tool finds its package itself
-        done = subprocess.run([str(TOP / "tools/campaign"), str(self.folder), *map(str, words)],
+        """The ending of tools/campaign with these words, in this process. Its workers are others."""
+        if "--model" in words and "--jobs" not in words:
+            words = (*words[:2], "--jobs", "1", *words[2:])  # one worker starts faster than four
+        handlers = {it: signal.getsignal(it) for it in (signal.SIGINT, signal.SIGTERM)}
+        with mock.patch.dict(os.environ, PATH=path + os.environ["PATH"]):
+            found = ending_of("campaign", [self.folder, *words])
+        for number, handler in handlers.items():
+            signal.signal(number, handler)
+        return found
+
+    def test_the_tool_finds_its_package(self):
+        self.take("late_onset.toml")
+        env = {key: it for key, it in os.environ.items() if key != "PYTHONPATH"}
+        done = subprocess.run([str(TOP / "tools/campaign"), str(self.folder), "1", "1", "--model"],
                               capture_output=True, text=True, env=env)
-        return done.returncode, done.stdout, done.stderr
+        self.assertEqual((done.returncode, len(self.rows())), (0, 2), done.stderr)
 
     def rows(self) -> list[str]:
         return (self.folder / "rows.csv").read_text().splitlines()

@@ -1,7 +1,9 @@
 """What the tools in tools/ say and how they end. No failure is taken for a verdict, files are read
 once, and a closed pipe, a full disk and Ctrl-C are reported as what they are."""
+import io
 import os
 import pathlib
+import re
 import signal
 import subprocess
 import sys
@@ -10,10 +12,14 @@ import unittest
 from concurrent.futures import ThreadPoolExecutor
 from unittest import mock
 
-from helpers import EXAMPLES, TOP, ending_of
+from helpers import EXAMPLES, TOP, ending_of, script_ending
 from robus import quick
+from robus.__main__ import TOOLS
+from robus.model import model
 
 LATE = EXAMPLES / "late_onset.toml"
+# A tool that is a word of the package
+WRAPPER = re.compile(r"#!/bin/sh\n#[^\n]*\nword=(\w+) && [^\n]*start\.sh[^\n]*\n")
 # Stands for `rt`: what it writes and its status are in files beside it
 RT = """#!/bin/sh
 here=$(dirname "$0")
@@ -65,8 +71,15 @@ class Words(unittest.TestCase):
 
     def test_help(self):
         files = [it for it in (TOP / "tools").iterdir() if it.is_file() and os.access(it, os.X_OK)]
-        tools = [(f"tools/{it.name}", "--help") for it in files if it.name != "robus"]
-        for (tool, _), (status, out, said) in calls(*tools):
+        for name in sorted(it.name for it in files if it.name not in ("robus", "proved")):
+            wrapper = WRAPPER.fullmatch((TOP / "tools" / name).read_text())
+            status, out, said = (ending_of(wrapper[1], ["--help"]) if wrapper
+                                 else script_ending(name, ["--help"]))
+            self.assertEqual((status, said), (0, ""), name)
+            self.assertIn(f"tools/{name}", out)
+            if wrapper:
+                self.assertIn(TOOLS[wrapper[1]][2], out)
+        for (tool, _), (status, out, said) in calls(("tools/proved", "--help"), ("tools/lint", "-h")):
             self.assertEqual((status, said), (0, ""), tool)
             self.assertIn(tool, out)
         status, out, said = call("make", "-s", "help")
@@ -84,12 +97,13 @@ class Words(unittest.TestCase):
 
     def test_a_file_behind_the_words_is_read(self):
         given = LATE.read_bytes()
-        for words in (["run"], ["check"]):
-            read = call("tools/robus", *words, data=given)
-            self.assertEqual(read[0], 0, read)
-            for file, data in ((LATE, b""), ("-", given)):
-                self.assertEqual(call("tools/robus", *words, file, data=data)[:2], read[:2])
-        self.assertEqual(call("tools/model", "run", LATE)[:2], call("tools/model", "run", data=given)[:2])
+        with mock.patch.dict(os.environ, ROBUS_ENGINE="model"):
+            for words in (["run"], ["check"], ["record", "B0"]):
+                due = model.answer(words, io.BytesIO(given))
+                for tool in ("robus", "model"):
+                    for file, data in ((LATE, b""), ("-", given)):
+                        status, out, _ = ending_of(tool, [*words, file], data)
+                        self.assertEqual((status, out), (due[0], due[1].decode(errors="replace")))
 
     def test_words_of_the_package(self):
         env = dict(PYTHONPATH=str(TOP / "python"))

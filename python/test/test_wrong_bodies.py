@@ -45,7 +45,8 @@ class WrongBodies(unittest.TestCase):
         self.assertEqual(self.tried(), (1, ["must-fail high low", *bodies], ""))
 
     def test_a_crate_that_has_none(self):
-        self.assertEqual(self.tried("other"), (2, [], "usage: tools/wrong_bodies [CRATE..], each of high low\n"))
+        self.assertEqual(self.tried("other"), (
+            2, [], "tools/wrong_bodies: CRATE: other has no mutants here; there are high, low\n"))
 
     def test_each_can_be_applied(self):
         for edit in sorted((TOP / "tests/wrong_bodies").glob("*/*.edit")):

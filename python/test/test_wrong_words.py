@@ -3,13 +3,12 @@ colon, and what is wrong, with the name of the argument or the wrong word itself
 import os
 import re
 import shlex
-import subprocess
 import tempfile
 import unittest
 from pathlib import Path
 from unittest import mock
 
-from helpers import EXAMPLES, TOP, ending_of, program_for
+from helpers import EXAMPLES, ending_of, program_for, script_ending
 from robus.__main__ import TOOLS
 
 LATE = str(EXAMPLES / "late_onset.toml")
@@ -388,11 +387,8 @@ class Tools(unittest.TestCase):
     def test_words_of_scripts(self):
         for line in SCRIPTS.strip().splitlines():
             name, tool, *words = shlex.split(line)
-            command = [str(TOP / "tools" / tool), *map(self.put, words)]
             with self.subTest(line):
-                done = subprocess.run(command, capture_output=True, text=True,
-                                      stdin=subprocess.DEVNULL)
-                self.ends(name, f"tools/{tool}", 2, done.returncode, done.stdout, done.stderr)
+                self.ends(name, f"tools/{tool}", 2, *script_ending(tool, map(self.put, words)))
 
     def test_words_of_the_second_model(self):
         with mock.patch.dict(os.environ, ROBUS_ENGINE="model"):

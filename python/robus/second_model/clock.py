@@ -3,7 +3,7 @@ from __future__ import annotations
 
 from bisect import bisect_right
 
-from .bus import Segments
+from .names import Segments
 
 
 class Timeline:

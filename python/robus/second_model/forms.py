@@ -4,7 +4,7 @@ from __future__ import annotations
 from dataclasses import fields
 from typing import Any, Callable, Iterator
 
-from .bus import Plan
+from .plan import Plan
 
 Document = dict[str, Any]
 Form = Callable[[Any], bool]  # whether a value has a form

@@ -4,7 +4,8 @@ from __future__ import annotations
 from typing import Iterator
 
 from .answers import text_of
-from .bus import BIU, Bus, RMU, name_of
+from .bus import Bus
+from .names import BIU, RMU, name_of
 
 
 def drawn(seed: int) -> Iterator[int]:

@@ -5,10 +5,11 @@ from dataclasses import fields
 from typing import NoReturn
 
 from .answers import Refused
-from .bus import (
-    BIU, Bus, Event, FAULT, MAX_TICKS, Node, PLAN_RANGES, Plan, RMU, first_failing, mask_of,
-    name_of, other)
+from .bus import Bus
 from .core import Core
+from .inequalities import first_failing
+from .names import BIU, Event, FAULT, MAX_TICKS, Node, RMU, mask_of, name_of, other
+from .plan import PLAN_RANGES, Plan
 
 
 def log_header(bus: Bus, node: Node) -> bytes:

@@ -1,7 +1,8 @@
 """Messages as bytes."""
 from __future__ import annotations
 
-from .bus import Bus, FAULT_TAG, Message, SYNC_TAG, WORD_TAG
+from .bus import Bus
+from .names import FAULT_TAG, Message, SYNC_TAG, WORD_TAG
 
 
 def spell(bus: Bus, tag: int, frame: int, slot: int, stage: int, value: int = 0) -> bytes:

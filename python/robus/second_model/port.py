@@ -1,7 +1,7 @@
 """What stands behind a BIU."""
 from __future__ import annotations
 
-from .bus import FAULT, Word
+from .names import FAULT, Word
 
 
 class Port:

@@ -1,7 +1,8 @@
 """The fault premise."""
 from __future__ import annotations
 
-from .bus import BIU, Bus, Node, RMU, Row, Sight, Trusted
+from .bus import Bus
+from .names import BIU, Node, RMU, Row, Sight, Trusted
 
 
 class Judge:

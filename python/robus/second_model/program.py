@@ -6,10 +6,11 @@ import sys
 from typing import BinaryIO, Callable
 
 from .answers import Refused, refuse, text_of
-from .bus import Answer, LETTERS, LOG_LIMIT, Node, SCENARIO_LIMIT, sides_of
 from .generator import generated
+from .inequalities import sides_of
 from .logs import log_header, replay
-from .ranges import read_scenario
+from .names import Answer, LETTERS, LOG_LIMIT, Node, SCENARIO_LIMIT
+from .reading import read_scenario
 from .world import World
 
 

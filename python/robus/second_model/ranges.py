@@ -1,16 +1,13 @@
-"""A scenario from its document: the ranges of its values, and the rules on what they say
-together."""
+"""The values of a document: those that are in their ranges, and the bus that they are."""
 from __future__ import annotations
 
 import re
 
 from .answers import refuse
-from .bus import (
-    Bus, FAULT_TAG, LETTERS, MAX_TICKS, MOST_LINKS, MOST_PAIRS, MOST_SAYS, Node, PLAN_RANGES, Pair,
-    Pattern, Plan, SYNC_TAG, Segments, TAIL, WORD_TAG, first_failing)
-from .forms import Document, SAYINGS, has_unknown_key, has_wrong_form, lacks_key, tables_of
-from .scenario import LinkRule, Say, Scenario
-from .toml import read_toml
+from .bus import Bus
+from .forms import Document
+from .names import LETTERS, Node, Pair, Pattern
+from .plan import PLAN_RANGES, Plan
 
 
 def within(value: int, least: int, most: int) -> int:
@@ -82,139 +79,3 @@ def apps_in(document: Document, count: int) -> list[str]:
     if len(apps) != count or any(app not in ("table", "counter", "follow") for app in apps):
         refuse(5)
     return apps
-
-
-def clocks_in(bus: Bus, entries: list[Document]) -> dict[Node, tuple[int, Segments]]:
-    """The start and the segments of each node's clock."""
-    clocks = {}
-    for entry in entries:
-        node = node_in(bus, entry["node"])
-        if node in clocks:
-            refuse(5)
-        ticks = entry.get("ticks", [[0, bus.plan.u]])
-        for first, length in ticks:
-            within(first, 0, MAX_TICKS)
-            within(length, 1, 2_000_000)
-        clocks[node] = within(entry.get("start", 0), 0, 10**12), ticks
-    return {node: clocks.get(node, (0, [[0, bus.plan.u]])) for node in bus.nodes()}
-
-
-def links_in(bus: Bus, frames: int, entries: list[Document]) -> list[LinkRule]:
-    """The delay rules of the [[link]] entries, in their order."""
-    rules = []
-    for entry in entries:
-        source, target = pattern_in(bus, entry["from"]), pattern_in(bus, entry["to"])
-        if source[0] == target[0]:
-            refuse(5)
-        rules.append(
-            LinkRule(
-                source,
-                target,
-                within(entry["delay"], 1, 1_000_000_000),
-                pair_in(entry.get("frames", [0, frames - 1]), 0, frames - 1),
-                pair_in(entry.get("slots", [0, bus.sync]), 0, bus.sync),
-                pair_in(entry.get("stages", [1, 3]), 1, 3),
-            )
-        )
-    return rules
-
-
-def onsets_in(bus: Bus, frames: int, entries: list[Document]) -> dict[Node, tuple[int, int]]:
-    """The frame and the slot from which on each node with a [[fault]] entry is not good."""
-    onsets = {}
-    for entry in entries:
-        node = node_in(bus, entry["node"])
-        if node in onsets:
-            refuse(5)
-        onsets[node] = within(entry["frame"], 0, frames - 1), within(entry["slot"], 0, bus.sync)
-    return onsets
-
-
-def say_in(bus: Bus, frames: int, entry: Document) -> Say:
-    """What one [[say]] entry says."""
-    source, target = node_in(bus, entry["from"]), pattern_in(bus, entry["to"])
-    slots, stages = pair_in(entry["slots"], 0, bus.sync), pair_in(entry["stages"], 1, TAIL)
-    in_sync_slot = slots == (bus.sync, bus.sync)
-    if source[0] == target[0] or (stages[1] == TAIL and not in_sync_slot):
-        refuse(5)
-    is_false = False in (entry.get("fault"), entry.get("sync"))
-    if sum(key in entry for key in SAYINGS) != 1 or is_false:
-        refuse(5)
-    all_stages = range(stages[0], stages[1] + 1)
-    lengths = [bus.length_of(slot, stage) for slot in set(slots) for stage in all_stages]
-    raw = entry.get("raw", "")
-    if "raw" in entry and not re.fullmatch(r"([0-9a-fA-F]{2}){1,32}", raw, re.ASCII):
-        refuse(5)
-    tag = 0 if raw else WORD_TAG if "word" in entry else FAULT_TAG if "fault" in entry else SYNC_TAG
-    return Say(
-        source,
-        target,
-        pair_in(entry["frames"], 0, frames - 1),
-        slots,
-        stages,
-        within(entry["offset"], 0, min(lengths) - 1) if "offset" in entry else bus.plan.h,
-        within(entry.get("early", 0), 0, bus.plan.u - bus.plan.r - 1 if in_sync_slot else 0),
-        tag,
-        within(entry.get("word", 0), 0, (1 << 32) - 1),
-        bytes.fromhex(raw),
-    )
-
-
-def scenario_in(document: Document) -> Scenario:
-    """What a document says whose values are in range; else it is refused by rule 5."""
-    bus, frames = bus_in(document), within(document["frames"], 1, 4096)
-    plan = bus.plan
-    return Scenario(
-        bus,
-        frames,
-        list_in(document, "requests", bus.biu, 1, most=64),
-        list_in(document, "words", bus.biu, 0),
-        apps_in(document, bus.biu),
-        within(document.get("delay", (plan.dmin + plan.dmax) // 2), 1, 1_000_000_000),
-        clocks_in(bus, document.get("clock", [])),
-        links_in(bus, frames, document.get("link", [])),
-        onsets_in(bus, frames, document.get("fault", [])),
-        [say_in(bus, frames, entry) for entry in document.get("say", [])],
-    )
-
-
-def keeps_time(plan: Plan, ticks: Segments) -> bool:
-    """Whether a clock's segments begin with tick 0 and rise, and its ticks are as long as the plan
-    lets them be."""
-    firsts = [first for first, _ in ticks]
-    return (
-        firsts[:1] == [0]
-        and all(a < b for a, b in zip(firsts, firsts[1:]))
-        and all(plan.u - plan.r <= length <= plan.u + plan.r for _, length in ticks)
-    )
-
-
-def check_rules(scenario: Scenario) -> None:
-    """The rules that speak of what a document says: 6 to 11."""
-    bus, plan, clocks = scenario.bus, scenario.bus.plan, scenario.clocks.values()
-    if failing := first_failing(bus):
-        refuse(6, failing)
-    if not all(keeps_time(plan, ticks) for _, ticks in clocks):
-        refuse(7)
-    delays = [scenario.delay] + [rule.delay for rule in scenario.links]
-    if not all(plan.dmin <= delay <= plan.dmax for delay in delays):
-        refuse(8)
-    starts = [start for start, _ in clocks]
-    if max(starts) - min(starts) > plan.p:
-        refuse(9)
-    if any(scenario.is_good(say.source, say.frames[0], say.slots[0]) for say in scenario.says):
-        refuse(10)
-    pairs = sum(len(ticks) for _, ticks in clocks)
-    if len(scenario.says) > MOST_SAYS or len(scenario.links) > MOST_LINKS or pairs > MOST_PAIRS:
-        refuse(11)
-
-
-def read_scenario(text: bytes) -> Scenario:
-    """The scenario that a document says; Refused by the first rule that it breaks."""
-    document = read_toml(text)
-    for code, breaks in ((2, lacks_key), (3, has_unknown_key), (4, has_wrong_form)):
-        if any(breaks(*table) for table in tables_of(document)):
-            refuse(code)
-    scenario = scenario_in(document)
-    check_rules(scenario)
-    return scenario

@@ -3,8 +3,9 @@ from __future__ import annotations
 
 from dataclasses import dataclass, field
 
-from .bus import Bus, Node, Pair, Pattern, Segments, Window
+from .bus import Bus, Window
 from .messages import spell
+from .names import Node, Pair, Pattern, Segments
 
 
 @dataclass(frozen=True)

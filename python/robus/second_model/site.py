@@ -3,9 +3,10 @@ from __future__ import annotations
 
 from dataclasses import dataclass
 
-from .bus import BIU, Node, Window
+from .bus import Window
 from .clock import Timeline
 from .core import Core, Shown
+from .names import BIU, Node
 from .port import Port
 from .scenario import Scenario
 

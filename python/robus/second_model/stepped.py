@@ -4,7 +4,7 @@ from __future__ import annotations
 from collections import deque
 from dataclasses import dataclass
 
-from .bus import BIU, Node, Trusted, Row
+from .names import BIU, Node, Trusted, Row
 from .scenario import Scenario
 from .site import FrameStart
 from .world import World

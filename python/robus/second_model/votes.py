@@ -1,7 +1,8 @@
 """Votes: the majority, the middle, the owners of the data slots, and convictions."""
 from __future__ import annotations
 
-from .bus import Bus, FAULT, Word
+from .bus import Bus
+from .names import FAULT, Word
 
 
 def majority_of(values: list[Word]) -> Word:
