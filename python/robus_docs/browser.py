@@ -62,7 +62,7 @@ class Browser:
         os.close(there)
         try:
             self.begin()
-        except BrowserFails:
+        except (BrowserFails, OSError):
             self.__exit__(None, None, None)
             raise
         return self

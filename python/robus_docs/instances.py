@@ -250,15 +250,16 @@ class Instances:
         return found
 
     def of_law(self, premises: tuple[Premise, ...]) -> list[Instance]:
-        """The instances that state the most premises, with the fewest cases and the most facts, one
-        for the same cases."""
+        """The instances that meet the most premises, the same ones, with the fewest cases and the
+        most facts, one for the same cases."""
         found = [self.filled(it, premises) for it in self.extended(Instance(), premises)]
         order = [rank(it) for it in found]
         best: dict[tuple[str, ...], Instance] = {}
         for it, size in zip(found, order):
             if size == min(order) and it.facts:
                 best.setdefault(tuple(case.name for case in it.cases), it)
-        return list(best.values())
+        alike = [[premise for premise in premises if it.meets(premise)] for it in best.values()]
+        return [it for it, met in zip(best.values(), alike) if met == alike[0]]
 
     def extended(self, instance: Instance, premises: tuple[Premise, ...]) -> Iterator[Instance]:
         """The instances that state these premises as well, as far as facts do."""

@@ -4,10 +4,10 @@ from __future__ import annotations
 
 import functools
 from pathlib import Path
-from typing import Iterator
+from typing import Iterator, Optional
 
 from robus_docs.atlas import call_url, crate_of, definition_of, is_instance, is_law, url_of
-from robus_docs.instances import Instance, Instances, Premise, premises_of
+from robus_docs.instances import Fact, Instance, Instances, Premise, premises_of
 from robus_docs.library import Call
 from robus_docs.markup import anchor, count, details, escape, named, words_of_code
 from robus_docs.pages import Pages, first_sentence
@@ -98,7 +98,8 @@ class Laws:
         own = [it for it in left if not it.within]
         if not left:
             return f"<b>Computed instance</b>: {cases} all of them."
-        lacking = f"No case states {', '.join(map(self.said, own or left))}."
+        alike = " of the same values" if any(map(self.elsewhere, own or left)) else ""
+        lacking = f"No case states {', '.join(map(self.said, own or left))}{alike}."
         if not own:
             return (f"<b>Computed instance</b>: {cases} the premises of the law. Its "
                     f"conclusion has premises, too. {lacking}")
@@ -136,9 +137,19 @@ class Laws:
             return (f"{said}<br>{'by its numbers' if order.holds else 'not so there'}: "
                     f"{order.left} {escape(order.sign)} {order.right}")
         if not fact:
-            return f"{said}<br>no case states this"
+            other = self.elsewhere(premise)
+            return f"{said}<br>no case states this" + (
+                f" of the same values; {self.stating(other)}" if other else "")
+        return f"{said}<br>{self.stating(fact)}"
+
+    def elsewhere(self, premise: Premise) -> Optional[Fact]:
+        """A fact that is a premise, of whatever values."""
+        return next(iter(self.instances.stating(premise, Instance())), None)
+
+    def stating(self, fact: Fact) -> str:
+        """A fact with its case."""
         stated = words_of_code(fact.text.replace("each_of_", ""), module(fact.file), url_of)
-        return f"{said}<br>{self.pages.case(fact.case)} states {stated}"
+        return f"{self.pages.case(fact.case)} states {stated}"
 
     def cited(self, crate: str, name: str) -> str:
         """The laws and calls whose proofs rest on a law."""

@@ -195,6 +195,8 @@ class Sentences(unittest.TestCase):
         for name, said in (
                 ("one_slot_agrees", "slot_with_a_lying_relay</code></a> meets all of them."),
                 ("time_keeps_the_promise", "<b>No computed instance</b>: no case states"),
+                ("good_senders_are_heard", " of the same values; <a href"),
+                ("good_senders_are_heard", "good_sender</code></a> states"),
                 ("nothing_is_heard", "<b>No computed instance</b>: no case states one of"),
                 ("nothing_is_heard", "It stands for itself: no call and no other law rests on it"),
                 ("nobody_is_ahead", "This law has no premises"),
