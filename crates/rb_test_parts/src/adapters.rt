@@ -1,5 +1,5 @@
 //! Readers and writers of std behind sources and sinks: which of their errors are faults.
-use rb_outside::{Sink, Source, StdSink, StdSource, Unread, read_all, write_all};
+use rb_outside::{PlainSource, Sink, Source, StdSink, StdSource, Unread, read_all, write_all};
 use std::alloc::Global;
 use std::io;
 use std::io::{Cursor, ErrorKind, Read, Write};
@@ -70,6 +70,20 @@ fn readers_of_std(rt: HostRuntime) {
     ];
     let wanted = [Ok(true), Err(Unread::TooLong), Ok(true), Err(Unread::Fault)];
     assert_eq!(rt; found, wanted);
+}
+
+// A source that never fails gives its bytes in pieces as long as they are asked for, and then
+// nothing more.
+#[test]
+fn a_source_that_never_fails(rt: HostRuntime) -> Result<(), Fail> {
+    let mut source = PlainSource::new(TEXT.to_vec(rt.alloc())?);
+    let mut piece = [0; 4];
+    assert_eq!(rt; source.read(&mut piece), Ok(4));
+    assert_eq!(rt; &piece, b"fram");
+    assert_eq!(rt; source.read(&mut piece), Ok(2));
+    assert_eq!(rt; &piece[..2], b"es".as_slice());
+    assert_eq!(rt; source.read(&mut piece), Ok(0));
+    Ok(())
 }
 
 // Whether the writer took the text.

@@ -1,12 +1,12 @@
-//! Nodes by themselves, to which anything comes.
+//! Nodes by themselves, to which nothing comes or anything.
 use rb_base::{Biu, Kind, Rmu, Shape};
 use rb_node::Node;
 use rb_plan::Feasible;
 use rb_rules::{Plan, Version};
 use std::test::Fail;
 
-// The plan of a document that says nothing of it.
-const PLAN: Plan = Plan {
+/// The plan of a document that says nothing of it.
+pub(crate) const PLAN: Plan = Plan {
     u: 10000,
     r: 1,
     dmin: 5000,
@@ -21,8 +21,8 @@ const PLAN: Plan = Plan {
     probation: 0,
 };
 
-// Four BIUs, three RMUs and eight data slots.
-fn bus() -> Option<Feasible> {
+/// Four BIUs, three RMUs and eight data slots.
+pub(crate) fn bus() -> Option<Feasible> {
     Feasible::new(&Shape::new(4, 3, 8)?, &PLAN).ok()
 }
 
@@ -53,5 +53,28 @@ fn any_bytes(rt: HostRuntime) -> Result<(), Fail> {
     let of_biu = ticks_between_arrivals::<Biu>(&mut Node::new(&bus, 0));
     let of_rmu = ticks_between_arrivals::<Rmu>(&mut Node::new(&bus, 0));
     assert_eq!(rt; (of_biu, of_rmu), (10496, 10496));
+    Ok(())
+}
+
+// A node has `count` ticks, and asks for two slots if it asks.
+fn tick_often(node: &mut Node<Biu>, count: u32) {
+    for _ in 0..count {
+        let _act = node.tick(2);
+    }
+}
+
+// BIU 0 begins frame 0 with tick 0, sends its request at offset 6, and closes its first windows
+// with the ticks 14 and 29.
+#[test]
+fn ticks_that_are_not_quiet(rt: HostRuntime) -> Result<(), Fail> {
+    let Some(bus) = bus() else {
+        return Err("not feasible".into());
+    };
+    let mut node: Node<Biu> = Node::new(&bus, 0);
+    for (busy, ticks) in [(0, 1), (6, 6), (14, 8), (29, 15)] {
+        assert_eq!(rt; node.next_tick(), Some(busy));
+        tick_often(&mut node, ticks);
+    }
+    assert_eq!(rt; node.had(), 30);
     Ok(())
 }
