@@ -1,6 +1,6 @@
 //! Premises of the laws of one slot and of one stage, and of laws on whole runs, on receivers
 //! beside the bus and on letters, met by an instance each.
-#![tactic(auto, unfolding(rb_base::specs::Nodes::set_of, rb_base::specs::Nodes::set_below, rb_rules::specs::ExactStage::close_exact, rb_rules::specs::ExactStage::outcome_of, rb_rules::specs::SyncStage::close_sync, rb_rules::specs::SyncStage::sync_outcome_of, rb_laws_agreement::specs::OneSlot::state_after))]
+#![tactic(auto, unfolding(rb_base::specs::Nodes::set_of, rb_base::specs::Nodes::set_below, rb_rules::specs::ExactStage::close_exact, rb_rules::specs::ExactStage::outcome_of, rb_rules::specs::SyncStage::close_sync, rb_rules::specs::SyncStage::sync_outcome_of, rb_laws_agreement::specs::OneSlot::state_after, rb_laws_synchrony::specs::OneFrame::state_through))]
 
 ghost use Rattle.std.specs.Prelude.{◌≡◌, ◌∷◌, ◌+◌, ◌<◌, [], All, get_or, map, None, Some, true};
 ghost use Rattle.rb_base.specs.Nodes.{set_of};
@@ -11,6 +11,7 @@ ghost use Rattle.rb_laws_agreement.specs.Histories.{AreAlike};
 ghost use Rattle.rb_laws_agreement.specs.Laws.{IsAccusedByAll};
 ghost use Rattle.rb_laws_agreement.specs.OneSlot.{IsExchange, KeepsPremise, state_after, vote_after};
 ghost use Rattle.rb_laws_agreement.specs.Values.{IsGoodSender};
+ghost use Rattle.rb_laws_synchrony.specs.OneFrame.{IsFrame, KeepsPremise as MeetsPremise, state_through};
 ghost use Rattle.rb_laws_synchrony.specs.OneStage.{HearNear, middle_kept};
 ghost use Rattle.rb_laws_events.specs.OwnMoments.{IsBeforeTheBreak};
 ghost use Rattle.rb_laws_sweeps.specs.Laws.{NeedsEvent};
@@ -24,6 +25,7 @@ ghost use Rattle.rb_laws_listener_near.specs.Judged.{verdict_with};
 ghost use Rattle.rb_test_rules.specs.Buses.{steady};
 ghost use Rattle.rb_test_rules.specs.Letters.{letter_records, letter_sent, one_sender, second_word};
 ghost use Rattle.rb_test_rules.specs.Lies.{silent_rmu};
+ghost use Rattle.rb_test_rules.specs.OneFrame.{early_call};
 ghost use Rattle.rb_test_rules.specs.OneSlot.{all_trusted, lying_relay};
 ghost use Rattle.rb_test_rules.specs.OneStage.{early_listener, first_two, late_listener};
 ghost use Rattle.rb_test_rules.specs.Ordinary.{one_state, smallest_bus};
@@ -38,6 +40,7 @@ ghost use Rattle.rb_rules.specs.Middle.{middle_of};
 ghost use Rattle.rb_rules.specs.Moments.{IsComplete, IsRunning, after_slot, before_slot, before_stage};
 ghost use Rattle.rb_rules.specs.NodeState.{first_state};
 ghost use Rattle.rb_rules.specs.Plan.{longest_of, shortest_of};
+ghost use Rattle.rb_rules.specs.SyncStage.{new_epoch_of};
 
 /// A slot in which an RMU lies asymmetrically: the premise holds, all vote for the request, and
 /// both BIUs accuse the RMU, one by mismatch and one directly.
@@ -58,6 +61,17 @@ pub fn stage_with_near_calls()
     ensures premise { HearNear plan first_two 8770000 8784000 early_listener late_listener }
     ensures early { middle_kept early_listener ≡ Some 878 }
     ensures late { middle_kept late_listener ≡ Some 877 }
+{}
+
+/// A frame in whose sync slot an RMU calls one BIU early and sends noise to the other: the premise
+/// holds, and all begin the next frame near each other.
+pub fn frame_with_an_early_call()
+    ensures frame { IsFrame early_call 0 }
+    ensures premise { MeetsPremise early_call }
+    ensures bius { map (λ i. new_epoch_of plan Biu (state_through early_call 3 Biu i))
+        (0 ∷ 1 ∷ []) ≡ (Some 422 ∷ Some 422 ∷ []) }
+    ensures rmus { map (λ i. new_epoch_of plan Rmu (state_through early_call 3 Rmu i))
+        (0 ∷ 1 ∷ []) ≡ (Some 422 ∷ Some 422 ∷ []) }
 {}
 
 /// Nothing is accepted from a silent RMU up to the slot for its vector, and all good BIUs accuse it
