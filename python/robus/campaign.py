@@ -140,8 +140,8 @@ def campaign(folder: Path, count: int, seed: int, asked: Asked) -> int:
     """Runs a campaign, or goes on with it, and tells what its rows say."""
     bus, engine = bus_of(asked), engine_of(asked.get("--engine"))
     if asked.options and not is_gnu_parallel():
-        raise NoEngine(f"{asked.options[0]} is for GNU parallel, which is not there: apt-get install "
-                       "parallel, or the like")
+        raise NoEngine(f"{asked.options[0]} is for GNU parallel, which is not there: "
+                       "apt-get install parallel, or the like")
     print(f"tools/campaign: run by {engine}", file=sys.stderr)
     folder.mkdir(parents=True, exist_ok=True)
     with open(folder / "lock", "w") as lock:

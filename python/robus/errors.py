@@ -55,7 +55,8 @@ class BusError(RobusError, ValueError):
 
 
 NO_NODE = {7: "no memory was left", 11: "the numbers of BIUs, RMUs or data slots are out of range",
-           12: "the bus has no such node", 13: "a number of the plan or the version is out of range"}
+           12: "the bus has no such node",
+           13: "a number of the plan or the version is out of range"}
 
 
 class NoNode(RobusError):

@@ -9,7 +9,8 @@ from robus.keys import TABLES, may_stand
 from robus.locate import Place
 from robus.model import model
 
-FIELDS: dict[str, model.Fields] = {"root": model.ROOT_FIELDS, "plan": model.PLAN_FIELDS, **model.ENTRY_FIELDS}
+FIELDS: dict[str, model.Fields] = {
+    "root": model.ROOT_FIELDS, "plan": model.PLAN_FIELDS, **model.ENTRY_FIELDS}
 SAYINGS = model.SAYINGS
 Broken = tuple[int, Place, str]  # the code of the rule that is broken, the place, and why
 
@@ -28,7 +29,9 @@ def tables_of(document: model.Document) -> Iterator[tuple[Place, str, model.Docu
 
 def title(place: Place) -> str:
     """A table's name for a reader: `say 3` is the third [[say]]."""
-    return "the document" if not place else "plan" if place == ("plan",) else f"{place[0]} {place[1] + 1}"
+    if not place:
+        return "the document"
+    return "plan" if place == ("plan",) else f"{place[0]} {place[1] + 1}"
 
 
 def near(key: str, keys: Iterable[str]) -> str | None:
@@ -39,27 +42,33 @@ def near(key: str, keys: Iterable[str]) -> str | None:
 
 def elsewhere(key: str, table: str) -> str:
     """In which other tables a key stands, in words."""
+    spelt = {"root": "at the root", "plan": "in plan"}
     there = [name for name, keys in TABLES.items() if name != table and key in keys]
-    return ", ".join("at the root" if name == "root" else "in " + ("plan" if name == "plan" else f"[[{name}]]") for name in there)
+    return ", ".join(spelt.get(name, f"in [[{name}]]") for name in there)
 
 
 def missing(place: Place, name: str, table: model.Document) -> Iterator[Broken]:
     """The keys that a table must have and has not."""
     for key, (is_required, _) in FIELDS[name].items():
         if is_required and key not in table:
-            typo = next((it for it in table if it not in FIELDS[name] and near(it, FIELDS[name]) == key), None)
+            typo = next((it for it in table
+                         if it not in FIELDS[name] and near(it, FIELDS[name]) == key), None)
             why = f"{title(place)} has no {key}: {may_stand(name, key)}"
-            yield 2, place + ((typo,) if typo else ()), why + (f"; is it what is spelt {typo} here?" if typo else "")
+            hint = f"; is it what is spelt {typo} here?" if typo else ""
+            yield 2, place + ((typo,) if typo else ()), why + hint
     if name == "say" and not any(key in table for key in SAYINGS):
-        yield 2, place, f"{title(place)} says nothing: one of word, fault, sync and raw is to stand there"
+        yield 2, place, (
+            f"{title(place)} says nothing: one of word, fault, sync and raw is to stand there")
 
 
 def unknown(place: Place, name: str, table: model.Document) -> Iterator[Broken]:
     """The keys of a table that there are not."""
     for key in table:
         if key not in FIELDS[name]:
-            like, other = near(key, [it for it in FIELDS[name] if it not in table] or FIELDS[name]), elsewhere(key, name)
-            hint = f"did you mean {like}?" if like else "it stands " + other if other else "there are " + ", ".join(FIELDS[name])
+            left = [it for it in FIELDS[name] if it not in table] or FIELDS[name]
+            like, other = near(key, left), elsewhere(key, name)
+            hint = (f"did you mean {like}?" if like else f"it stands {other}" if other else
+                    f"there are {', '.join(FIELDS[name])}")
             yield 3, place + (key,), f"{title(place)} has no key {key}: {hint}"
 
 

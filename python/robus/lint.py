@@ -36,7 +36,9 @@ def spelt(place: Place) -> str:
     if not place:
         return ""
     is_entry = len(place) > 1 and isinstance(place[1], int) and place[0] in model.ENTRY_FIELDS
-    head, rest = (f"{place[0]} {place[1] + 1}", place[2:]) if is_entry else (str(place[0]), place[1:])
+    head, rest = str(place[0]), place[1:]
+    if is_entry:
+        head, rest = f"{place[0]} {place[1] + 1}", place[2:]
     return head + "".join(f"[{it}]" if isinstance(it, int) else f".{it}" for it in rest)
 
 
@@ -58,7 +60,8 @@ def another_kind(data: bytes) -> str | None:
         return "this is a log, which robus replay and robus listen read"
     if re.match(rb"e \d+ [BR]\d+ \d+ \d+$", data, re.MULTILINE):
         return "this is a report, which tools/table and robus_picture read"
-    if re.search(rb"^[ \t]*bridges[ \t]*=", data, re.MULTILINE) and not re.match(rb"[ \t]*biu[ \t]*=", data, re.MULTILINE):
+    has_bridges = re.search(rb"^[ \t]*bridges[ \t]*=", data, re.MULTILINE)
+    if has_bridges and not re.match(rb"[ \t]*biu[ \t]*=", data, re.MULTILINE):
         return "this is a bridge of two buses, which make bridge runs"
     return None
 
@@ -92,12 +95,14 @@ def findings_in(data: bytes) -> list[Finding]:
         return Finding(code, locator.line_of(place), visible(spelt(place)), short(stands),
                        visible(why), visible(path_of(place)))
 
-    wide = [finding(1, place, "integers are of 64 bits") for place, value in syntax.values_in(document)
+    wide = [finding(1, place, "integers are of 64 bits")
+            for place, value in syntax.values_in(document)
             if not -(1 << 63) <= value < 1 << 63]
     if wide:
         return wide
     values = ranges.Values(document)
-    found = [finding(*it) for source in (forms.findings(document), ranges.findings(values), laws.findings(values)) for it in source]
+    sources = forms.findings(document), ranges.findings(values), laws.findings(values)
+    found = [finding(*it) for source in sources for it in source]
     return sorted(found, key=lambda it: (it.line, it.code))
 
 
@@ -112,7 +117,8 @@ def lint(data: bytes) -> tuple[str | None, list[Finding]]:
     code, kind = int(refusal.split()[1]), another_kind(data)
     found = [Finding(code, 1, "", "", kind)] if kind else findings_in(data)
     if code not in [it.code for it in found]:
-        found.insert(0, Finding(code, 1, "", "", "the second model refuses it, and this tool finds no place for it"))
+        why = "the second model refuses it, and this tool finds no place for it"
+        found.insert(0, Finding(code, 1, "", "", why))
     return refusal, found
 
 

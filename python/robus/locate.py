@@ -9,7 +9,8 @@ from dataclasses import dataclass, field
 from typing import Dict, List, Tuple, Union
 
 Place = Tuple[Union[str, int], ...]
-STRING = re.compile(r'"""(?:\\.|[^\\])*?"""+|\'\'\'.*?\'\'\'+|"(?:\\.|[^"\\\n])*"|\'[^\'\n]*\'', re.DOTALL)
+STRING = re.compile(r'"""(?:\\.|[^\\])*?"""+|\'\'\'.*?\'\'\'+|"(?:\\.|[^"\\\n])*"|\'[^\'\n]*\'',
+                    re.DOTALL)
 BARE = re.compile(r"[A-Za-z0-9_-]+")
 BLANK = re.compile(r"(?:[ \t\r\n]|#[^\n]*)*")
 SPACE = re.compile(r"[ \t]*")
@@ -139,4 +140,5 @@ def unquoted(part: str) -> str:
     if part[:1] != '"':
         return part[1:-1]
     return re.sub(r"\\(x[0-9A-Fa-f]{2}|u[0-9A-Fa-f]{4}|U[0-9A-Fa-f]{8}|.)",
-                  lambda it: ESCAPES[it[1]] if it[1] in ESCAPES else chr(int(it[1][1:], 16)), part[1:-1])
+                  lambda it: ESCAPES[it[1]] if it[1] in ESCAPES else chr(int(it[1][1:], 16)),
+                  part[1:-1])

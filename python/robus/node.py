@@ -51,7 +51,8 @@ class CSeat(ctypes.Structure):
     _fields_ = ([(name, ctypes.c_uint8) for name in ("kind", "index", "biu", "rmu")]
                 + [("slots", ctypes.c_uint16), ("version", ctypes.c_uint8), ("bus", ctypes.c_uint8),
                    ("probation", ctypes.c_uint16)]
-                + [(name, ctypes.c_uint32) for name in ("u", "r", "dmin", "dmax", "l", "h", "v", "z", "c", "p")])
+                + [(name, ctypes.c_uint32)
+                   for name in ("u", "r", "dmin", "dmax", "l", "h", "v", "z", "c", "p")])
 
 
 class CEpoch(ctypes.Structure):
@@ -71,7 +72,8 @@ class CDelivery(ctypes.Structure):
 class CAct(ctypes.Structure):
     """`robus_act`."""
 
-    _fields_ = [("message", ctypes.c_uint8 * 12), ("length", ctypes.c_uint8), ("closes", ctypes.c_bool),
+    _fields_ = [("message", ctypes.c_uint8 * 12), ("length", ctypes.c_uint8),
+                ("closes", ctypes.c_bool),
                 ("epoch", CEpoch), ("delivery", CDelivery)]
 
 
@@ -180,9 +182,10 @@ class Node:
         self._calls.robus_node_tick(self._handle, word, act)
         self.had += self.had < NO_TICK
         epoch, delivery = act.epoch, act.delivery
+        convicted = tuple(names_in(epoch.biu, "B") + names_in(epoch.rmu, "R"))
         return Act(
             bytes(act.message[:act.length]) if act.length else None, act.closes,
-            Epoch(epoch.frame, epoch.tick, tuple(names_in(epoch.biu, "B") + names_in(epoch.rmu, "R"))) if epoch.begins else None,
+            Epoch(epoch.frame, epoch.tick, convicted) if epoch.begins else None,
             Delivery(delivery.frame, delivery.slot, self.name, f"B{delivery.sender}",
                      None if delivery.none else delivery.word) if delivery.delivers else None)
 

@@ -139,7 +139,8 @@ def sizes_in(asked: argparse.Namespace) -> model.Bus:
 def parser_of_words() -> argparse.ArgumentParser:
     """What reads the words of tools/plan."""
     parser = Parser("tools/plan", HELP, argparse.SUPPRESS)
-    parser.add_argument("scenario", nargs="?", metavar="SCENARIO", help="a file, or - for standard input")
+    parser.add_argument("scenario", nargs="?", metavar="SCENARIO",
+                        help="a file, or - for standard input")
     for key in SIZES:
         parser.add_argument("--" + key, type=int, help=forms.TABLES["root"][key][1])
     for key in NUMBERS:

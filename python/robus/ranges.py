@@ -21,7 +21,8 @@ class Values:
     def __init__(self, document: model.Document) -> None:
         self.document = document
         self.tables = {place: (name, table) for place, name, table in tables_of(document)}
-        self.biu, self.rmu, self.slots, self.frames = (self.ranged(key) for key in ("biu", "rmu", "slots", "frames"))
+        self.biu, self.rmu, self.slots, self.frames = (
+            self.ranged(key) for key in ("biu", "rmu", "slots", "frames"))
         sizes = self.biu, self.rmu, self.slots
         self.sync = None if None in sizes else 2 * self.biu + self.rmu + self.slots
         self.plan = self.whole_plan()
@@ -45,10 +46,12 @@ class Values:
         """The plan, where each number of it is in its range."""
         table = self.document.get("plan", {})
         keys = FIELDS["plan"]
-        if not isinstance(table, dict) or any(key not in keys or not keys[key][1](value) for key, value in table.items()):
+        if not isinstance(table, dict) or any(key not in keys or not keys[key][1](value)
+                                              for key, value in table.items()):
             return None
         plan = model.Plan(**table)
-        in_range = all(low <= getattr(plan, key) <= high for key, (low, high) in model.PLAN_RANGES.items())
+        in_range = all(low <= getattr(plan, key) <= high
+                       for key, (low, high) in model.PLAN_RANGES.items())
         return plan if in_range and plan.r < plan.u and plan.dmin <= plan.dmax else None
 
     def entries(self, name: str) -> list[Place]:
@@ -66,20 +69,25 @@ class Values:
         """A node, or (kind, None) for all of a kind."""
         return (LETTERS.index(text), None) if text in ("B", "R") else self.node(text)
 
-    def pair(self, place: Place, key: str, low: int, high: int | None, default: list[int] | None = None) -> model.Pair | None:
+    def pair(self, place: Place, key: str, low: int, high: int | None,
+             default: list[int] | None = None) -> model.Pair | None:
         """A pair, where it is one and in range."""
         value = self.get(place, key, default)
-        return tuple(value) if value is not None and high is not None and low <= value[0] <= value[1] <= high else None
+        if value is None or high is None or not low <= value[0] <= value[1] <= high:
+            return None
+        return tuple(value)
 
 
-def number(values: Values, place: Place, key: str, low: int, high: int | None, why: str = "") -> Iterator[Broken]:
+def number(values: Values, place: Place, key: str, low: int, high: int | None,
+           why: str = "") -> Iterator[Broken]:
     """A number that is out of its range; nothing where the range is not known."""
     value = values.get(place, key)
     if value is not None and high is not None and not low <= value <= high:
         yield 5, place + (key,), f"{key} is to be {low}{f' to {high}' if low < high else ''}{why}"
 
 
-def pair(values: Values, place: Place, key: str, low: int, high: int | None, why: str = "") -> Iterator[Broken]:
+def pair(values: Values, place: Place, key: str, low: int, high: int | None,
+         why: str = "") -> Iterator[Broken]:
     """A pair that is out of its range or falls; nothing where the range is not known."""
     value = values.get(place, key)
     if value is None or high is None:
@@ -90,7 +98,8 @@ def pair(values: Values, place: Place, key: str, low: int, high: int | None, why
         yield 5, place + (key,), f"{key} is to have its lower end first"
 
 
-def node_name(values: Values, place: Place, key: str, find: Callable[[str], model.Pattern | None]) -> Iterator[Broken]:
+def node_name(values: Values, place: Place, key: str,
+              find: Callable[[str], model.Pattern | None]) -> Iterator[Broken]:
     """A name of which `find` finds no node."""
     text = values.get(place, key)
     if text is None or find(text) is not None:
@@ -100,9 +109,11 @@ def node_name(values: Values, place: Place, key: str, find: Callable[[str], mode
     elif text[:1] in ("B", "R") and text[1:].isdigit() and (text[1:] == "0" or text[1:2] != "0"):
         kind = LETTERS.index(text[0])
         size = values.size(kind)
-        why = f"the bus has {text[0]}0 to {text[0]}{size - 1}" if size else "there are at most 16 of a kind"
+        why = (f"the bus has {text[0]}0 to {text[0]}{size - 1}" if size else
+               "there are at most 16 of a kind")
     else:
-        why = 'names are as "B0" and "R2"' + (', or "B" and "R" for all' if find == values.end else "")
+        has_all = find == values.end
+        why = 'names are as "B0" and "R2"' + (', or "B" and "R" for all' if has_all else "")
     yield 5, place + (key,), f"{key} names no node: {why}"
 
 
@@ -111,7 +122,8 @@ def of_root(values: Values) -> Iterator[Broken]:
     for key in ("biu", "rmu", "slots", "frames", "delay", "version", "probation"):
         yield from number(values, (), key, *RANGES[key])
     version = values.get((), "version", 1)
-    high, why = (255, "") if version == 2 else (0, " in version 1; the number of a bus wants version = 2")
+    high, why = (255, "") if version == 2 else (
+        0, " in version 1; the number of a bus wants version = 2")
     yield from number(values, (), "bus", 0, high, why)
     for key, high in (("requests", 64), ("words", WORD)):
         found = values.get((), key)
@@ -124,7 +136,8 @@ def of_root(values: Values) -> Iterator[Broken]:
     for key in ("requests", "words", "apps"):
         found = values.get((), key)
         if found is not None and values.biu is not None and len(found) != values.biu:
-            yield 5, (key,), f"{key} is to have one for each of the {values.biu} BIUs, and has {len(found)}"
+            yield 5, (key,), (
+                f"{key} is to have one for each of the {values.biu} BIUs, and has {len(found)}")
 
 
 def of_plan(values: Values) -> Iterator[Broken]:
@@ -132,12 +145,14 @@ def of_plan(values: Values) -> Iterator[Broken]:
     place = ("plan",)
     for key in FIELDS["plan"]:
         yield from number(values, place, key, *RANGES[key])
-    plan = {key: values.get(place, key, getattr(model.Plan(), key)) for key in ("u", "r", "dmin", "dmax")}
+    plan = {key: values.get(place, key, getattr(model.Plan(), key))
+            for key in ("u", "r", "dmin", "dmax")}
     if RANGES["r"][0] <= plan["r"] <= RANGES["r"][1] and plan["r"] >= plan["u"]:
         yield 5, place + ("r",), f'r is to be below u, which is {plan["u"]}'
     if plan["dmin"] > plan["dmax"]:
         key = "dmin" if values.get(place, "dmin") is not None else "dmax"
-        yield 5, place + (key,), f'dmin is to be at most dmax, and they are {plan["dmin"]} and {plan["dmax"]}'
+        yield 5, place + (key,), (
+            f'dmin is to be at most dmax, and they are {plan["dmin"]} and {plan["dmax"]}')
 
 
 def twice(values: Values, name: str) -> Iterator[Broken]:
@@ -146,7 +161,8 @@ def twice(values: Values, name: str) -> Iterator[Broken]:
     for place in values.entries(name):
         node = values.node(values.get(place, "node"))
         if node in first and node is not None:
-            yield 5, place + ("node",), f'{values.get(place, "node")} has an entry already: {title(first[node])}'
+            yield 5, place + ("node",), (
+                f'{values.get(place, "node")} has an entry already: {title(first[node])}')
         first.setdefault(node, place)
 
 
@@ -156,9 +172,10 @@ def of_clocks(values: Values) -> Iterator[Broken]:
         yield from node_name(values, place, "node", values.node)
         yield from number(values, place, "start", 0, 10**12)
         for index, (first, length) in enumerate(values.get(place, "ticks") or []):
-            for spot, value, low, high in ((0, first, 0, model.MAX_TICKS), (1, length, 1, 2_000_000)):
+            for spot, what, value, low, high in ((0, "a first tick", first, 0, model.MAX_TICKS),
+                                                 (1, "a length", length, 1, 2_000_000)):
                 if not low <= value <= high:
-                    yield 5, place + ("ticks", index, spot), f'{("a first tick", "a length")[spot]} is to be {low} to {high}'
+                    yield 5, place + ("ticks", index, spot), f"{what} is to be {low} to {high}"
     yield from twice(values, "clock")
 
 
@@ -166,7 +183,8 @@ def two_kinds(values: Values, place: Place) -> Iterator[Broken]:
     """An entry whose two ends are of one kind."""
     source, target = values.end(values.get(place, "from")), values.end(values.get(place, "to"))
     if source and target and source[0] == target[0]:
-        yield 5, place + ("to",), "to is to be of the other kind: links are between a BIU and an RMU"
+        yield 5, place + ("to",), (
+            "to is to be of the other kind: links are between a BIU and an RMU")
 
 
 def of_links(values: Values) -> Iterator[Broken]:
@@ -197,14 +215,18 @@ def of_saying(values: Values, place: Place) -> Iterator[Broken]:
     table = values.tables[place][1]
     said = [key for key in SAYINGS if key in table]
     if len(said) > 1:
-        yield 5, place + (said[1],), f'one of word, fault, sync and raw is to stand there, and there are {" and ".join(said)}'
+        yield 5, place + (said[1],), (
+            'one of word, fault, sync and raw is to stand there, and there are '
+            f'{" and ".join(said)}')
     for key in ("fault", "sync"):
         if values.get(place, key) is False:
             yield 5, place + (key,), f"{key} is to be true, or to be left out"
     yield from number(values, place, "word", 0, WORD)
     raw = values.get(place, "raw")
     if raw is not None and not re.fullmatch(r"([0-9a-fA-F]{2}){1,32}", raw, re.ASCII):
-        yield 5, place + ("raw",), f"raw is to be 2 to 64 hexadecimal digits, two for each byte, and is {len(raw)} characters"
+        yield 5, place + ("raw",), (
+            f"raw is to be 2 to 64 hexadecimal digits, two for each byte, and is {len(raw)} "
+            "characters")
 
 
 def of_says(values: Values) -> Iterator[Broken]:
@@ -223,19 +245,25 @@ def of_says(values: Values) -> Iterator[Broken]:
 
 def of_ticks(values: Values, place: Place) -> Iterator[Broken]:
     """The offset and how early, which go by the windows of the ranges."""
-    slots, stages = values.pair(place, "slots", 0, values.sync), values.pair(place, "stages", 1, TAIL)
+    slots = values.pair(place, "slots", 0, values.sync)
+    stages = values.pair(place, "stages", 1, TAIL)
     if values.plan is None or slots is None or stages is None:
         return
     in_sync_slot = slots == (values.sync, values.sync)
     if stages[1] == TAIL and not in_sync_slot:
-        yield 5, place + ("stages",), f"stage 4, the tail, is in the sync slot alone: slots is to be [{values.sync}, {values.sync}]"
+        yield 5, place + ("stages",), (
+            f"stage 4, the tail, is in the sync slot alone: slots is to be [{values.sync}, "
+            f"{values.sync}]")
         return
     bus = model.Bus(values.biu, values.rmu, values.slots, values.plan)
-    least = min(bus.length_of(slot, stage) for slot in set(slots) for stage in range(stages[0], stages[1] + 1))
+    least = min(bus.length_of(slot, stage) for slot in set(slots)
+                for stage in range(stages[0], stages[1] + 1))
     if "offset" in values.tables[place][1]:
-        yield from number(values, place, "offset", 0, least - 1, f": the shortest window of the ranges has {least} ticks")
+        why = f": the shortest window of the ranges has {least} ticks"
+        yield from number(values, place, "offset", 0, least - 1, why)
     most = values.plan.u - values.plan.r - 1 if in_sync_slot else 0
-    yield from number(values, place, "early", 0, most, "" if in_sync_slot else ": a message comes early in the sync slot alone")
+    why = "" if in_sync_slot else ": a message comes early in the sync slot alone"
+    yield from number(values, place, "early", 0, most, why)
 
 
 def findings(values: Values) -> Iterator[Broken]:

@@ -50,7 +50,8 @@ def fault_of(data: bytes) -> tuple[int, int, str] | None:
         return data[: fault.start].count(b"\n") + 1, 1, f"the text is to be UTF-8: {fault.reason}"
     deep = model.too_deep_at(text)
     if deep is not None:
-        return *line_and_column(text, deep), f"a value or a key is nested more than {model.MOST_LEVELS} levels deep"
+        return *line_and_column(text, deep), (
+            f"a value or a key is nested more than {model.MOST_LEVELS} levels deep")
     parts = older(text)
     try:
         tomllib.loads("".join(part for _, part in parts))

@@ -18,7 +18,8 @@ def loads(text: bytes) -> Dict[str, Any]:
         try:
             import tomli
         except ImportError:
-            raise ImportError("to read TOML it needs Python 3.11 or newer, or the package tomli") from None
+            raise ImportError("to read TOML it needs Python 3.11 or newer, or the package "
+                              "tomli") from None
         return tomli.loads(text.decode("utf-8-sig"))
     import tomllib
 

@@ -49,7 +49,7 @@ class Campaigns(unittest.TestCase):
         self.folder.mkdir()
 
     def campaign(self, *words, path: str = "") -> tuple[int, str, str]:
-        """The ending of tools/campaign with these words, in this process. Its workers are others."""
+        """The ending of tools/campaign with these words, in this process; workers are others."""
         if "--model" in words and "--jobs" not in words:
             words = (*words[:2], "--jobs", "1", *words[2:])  # one worker starts faster than four
         handlers = {it: signal.getsignal(it) for it in (signal.SIGINT, signal.SIGTERM)}

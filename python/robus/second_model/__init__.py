@@ -6,7 +6,8 @@ the words and the input of `robus`, and gives what `robus` writes, with the same
     tools/model gen|stress SEED FRAMES
 
 A reader begins with `votes`, `seat`, `closing` and `core`, which are the rules of one node.
-`world` and `settled` run a bus of them, and `premise` is the fault premise. The package takes all names from here."""
+`world` and `settled` run a bus of them, and `premise` is the fault premise. The package takes all
+names from here."""
 from .bus import Window, TAIL, Bus
 from .inequalities import sides_of, first_failing
 from .names import (
