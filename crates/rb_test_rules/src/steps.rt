@@ -124,9 +124,9 @@ pub fn what_is_dropped()
         ≡ row_of_stage_3 }
 {}
 
-/// One event does not settle both a stage and a frame, and a state that is handed in at a frame's
-/// record is not for the frame after that.
-pub fn one_event_at_a_time()
-    ensures one_at_a_time { length (after_both_told tick_of_nobody).book.given ≡ 1 }
+/// One event settles a stage and the frame after it, if all nodes have told of both. A state that is
+/// handed in at a frame's record is for this frame.
+pub fn settled_and_handed()
+    ensures stage_and_frame { length (after_both_told tick_of_nobody).book.given ≡ 1 }
     ensures handed { map (λ h. h.frame) (hand smallest_bus at_frame 0 77).hands ≡ (0 ∷ []) }
 {}
