@@ -108,8 +108,8 @@ pub fn running_nodes()
     ensures alike { AreAlike one_state third_stage.hands 0 1 }
 {}
 
-/// A receiver beside the smallest bus takes the call of its RMU as the BIU does: the premises of
-/// `frames_begin_near`.
+/// A receiver beside the smallest bus accepts the call of its RMU as the BIU does: what
+/// `frames_begin_near` supposes of the receiver.
 pub fn a_receiver_beside_the_bus()
     ensures lawful { IsLawful smallest_bus }
     ensures complete { IsComplete smallest_bus [] 0 4 }
