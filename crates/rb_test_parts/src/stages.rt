@@ -50,7 +50,7 @@ fn a_stage_of_relays(rt: HostRuntime) -> Result<(), Fail> {
     Ok(())
 }
 
-// Of an RMU that is accused nothing is taken: without RMU 2 there is no majority.
+// Nothing is taken of an RMU that is accused: without RMU 2 there is no majority.
 #[test]
 fn a_stage_with_an_accused_relay(rt: HostRuntime) -> Result<(), Fail> {
     let mut standing = Standing::new(5);

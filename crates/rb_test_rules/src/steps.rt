@@ -124,8 +124,8 @@ pub fn what_is_dropped()
         ≡ row_of_stage_3 }
 {}
 
-/// One event settles a stage and the frame after it, if all nodes have told of both. A state that is
-/// handed in at a frame's record is for this frame.
+/// One event settles a stage and the frame after it, if all nodes have told of both. A state that
+/// is handed in at a frame's record is for this frame.
 pub fn settled_and_handed()
     ensures stage_and_frame { length (after_both_told tick_of_nobody).book.given ≡ 1 }
     ensures handed { map (λ h. h.frame) (hand smallest_bus at_frame 0 77).hands ≡ (0 ∷ []) }
