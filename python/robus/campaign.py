@@ -29,9 +29,9 @@ usage: tools/campaign FOLDER COUNT SEED [--generator COMMAND] [--engine ENGINE] 
        tools/campaign FOLDER scenario NUMBER
 
 FOLDER is the campaign's. If it has *.toml files, they are the scenarios, in an order that SEED
-shuffles. Else scenario NUMBER is what COMMAND prints for the seed SEED + NUMBER - 1, which takes the
-place of {} in COMMAND, or is put behind it. Without --generator COMMAND is tools/scenario, if that
-is there, and else `robus gen {} 8`.
+shuffles. Else scenario NUMBER is what COMMAND prints for the seed SEED + NUMBER - 1. The seed takes
+the place of {} in COMMAND, or is put behind it. Without --generator COMMAND is tools/scenario, if
+that is there, and else `robus gen {} 8`.
 
 With --bus the scenarios are the one in FILE with faults that the seed draws: N faulty nodes, a
 number or a range a..b (0..1 if it is not given), each of one of the KINDs silent, symmetric,
