@@ -4,7 +4,7 @@
     report = robus.run("examples/one_silent_rmu.toml")
     print(report.convicted, report.spread)
 
-docs/LIBRARY.md is its page. The bus is run by the proved programs where they are there; this
+docs/LIBRARY.md is its page. The bus is run by the proved programs if they are there; this
 package around them is not proved."""
 from robus.bus import Bus
 from robus.calls import (bridge, check, explain, gen, group, letters, listen, record, replay, run,

@@ -5,7 +5,7 @@
             if isinstance(record, robus.Frame):
                 bus.hand("B0", 7)
 
-It is the bus of robus.h (librobus.so), or the second model's where no library is there.
+It is the bus of robus.h (librobus.so), or the second model's if no library is there.
 docs/COSIMULATION.md is its page."""
 from __future__ import annotations
 

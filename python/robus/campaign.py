@@ -29,9 +29,9 @@ usage: tools/campaign FOLDER COUNT SEED [--generator COMMAND] [--engine ENGINE] 
        tools/campaign FOLDER scenario NUMBER
 
 FOLDER is the campaign's. If it has *.toml files, they are the scenarios, in an order that SEED
-shuffles. Else scenario NUMBER is what COMMAND prints for the seed SEED + NUMBER - 1, which stands
-for {} in COMMAND, or behind it. Without --generator it is tools/scenario, if that is there, and
-else `robus gen {} 8`.
+shuffles. Else scenario NUMBER is what COMMAND prints for the seed SEED + NUMBER - 1. The seed takes
+the place of {} in COMMAND, or is put behind it. Without --generator COMMAND is tools/scenario, if
+that is there, and else `robus gen {} 8`.
 
 With --bus the scenarios are the one in FILE with faults that the seed draws: N faulty nodes, a
 number or a range a..b (0..1 if it is not given), each of one of the KINDs silent, symmetric,
@@ -42,7 +42,7 @@ latencies by the number and kinds of faulty nodes.
 --jobs N runs N workers at a time, as many as there are processors if it is not given. --unit is the
 time of a reference unit, as 1ps: the summary has times in seconds then. What is not named here, as
 --sshlogin 8/host, goes to GNU parallel as it is, which then starts the workers. Options of this
-tool may stand before FOLDER, too. The same line again goes on where the last run stopped; a greater
+tool may be before FOLDER, too. The same line again goes on where the last run stopped; a greater
 COUNT adds to it.
 
 The scenarios are run by the library or the proved program (make build), or if none is up to date by

@@ -27,7 +27,7 @@ from robus.arguments import shown
 from robus.errors import BadArgument, Failed, NoEngine
 
 PACKAGE = Path(__file__).resolve().parent
-# The top of the repository, where the package lies in one; and the prefix, where it is installed
+# The top of the repository, where the package lies in one; and the prefix, if it is installed
 TOP = PACKAGE.parents[1]
 PREFIX = PACKAGE.parents[3] if PACKAGE.parent.name == "dist-packages" else None
 FIRST_LENGTH = 1 << 20
@@ -72,7 +72,7 @@ class Engine:
 
     def stream(self, words: Sequence[str], data: Optional[bytes], sink: Sink,
                program: str = "robus") -> int:
-        """Runs the words and hands what is written to the sink, as it comes where the engine can;
+        """Runs the words and hands what is written to the sink, as it comes if the engine can;
         the status. Without `data` the input is standard input."""
         found = self.raw(words, sys.stdin.buffer.read() if data is None else data, program)
         sink(found.output)
@@ -102,7 +102,7 @@ def function_of(path: str, program: str) -> Optional[Callable[..., CAnswer]]:
 
 @dataclass(frozen=True)
 class Library(Engine):
-    """The shared library, by ctypes. It is used only where one is found."""
+    """The shared library, by ctypes. It is used only if one is found."""
 
     name = "library"
 

@@ -1,4 +1,4 @@
-"""What is raised where a program gives no result."""
+"""What is raised if a program gives no result."""
 from __future__ import annotations
 
 import sys
@@ -75,7 +75,7 @@ class Refused(RobusError):
 
     Of a scenario `findings` are all that tools/lint finds, and `file`, `line` (from 1) and `key`
     (as Scenario.with_ takes it) tell the place of the first that breaks this rule; they are None
-    where no place shows it, for a log, for a bridge, and below Python 3.11. The linter is no part
+    if no place shows it, for a log, for a bridge, and below Python 3.11. The linter is no part
     of the proved programs."""
 
     def __init__(self, refusal: Refusal, data: Optional[bytes] = None, file: Optional[str] = None):

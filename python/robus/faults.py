@@ -173,7 +173,7 @@ def liars_in(words: list[str], scenario: model.Scenario, is_aware: bool) -> list
     for word in words:
         if "=" in word or "/" in word:
             if not liars:
-                raise BadArgument(f"{word} stands before the node that says it")
+                raise BadArgument(f"{word} is before the node that says it")
             lie = lie_in(word, scenario, liars[-1].node)
             if not is_aware and liars[-1].node in lie.targets:
                 raise BadArgument(f"{word} names self, and with --unaware the right word is kept")

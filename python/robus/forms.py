@@ -41,7 +41,7 @@ def near(key: str, keys: Iterable[str]) -> str | None:
 
 
 def elsewhere(key: str, table: str) -> str:
-    """In which other tables a key stands, in words."""
+    """In which other tables there is a key of this name, in words."""
     spelt = {"root": "at the root", "plan": "in plan"}
     there = [name for name, keys in TABLES.items() if name != table and key in keys]
     return ", ".join(spelt.get(name, f"in [[{name}]]") for name in there)
@@ -58,7 +58,7 @@ def missing(place: Place, name: str, table: model.Document) -> Iterator[Broken]:
             yield 2, place + ((typo,) if typo else ()), why + hint
     if name == "say" and not any(key in table for key in SAYINGS):
         yield 2, place, (
-            f"{title(place)} says nothing: one of word, fault, sync and raw is to stand there")
+            f"{title(place)} says nothing: one of word, fault, sync and raw is wanted")
 
 
 def unknown(place: Place, name: str, table: model.Document) -> Iterator[Broken]:
@@ -67,7 +67,7 @@ def unknown(place: Place, name: str, table: model.Document) -> Iterator[Broken]:
         if key not in FIELDS[name]:
             left = [it for it in FIELDS[name] if it not in table] or FIELDS[name]
             like, other = near(key, left), elsewhere(key, name)
-            hint = (f"did you mean {like}?" if like else f"it stands {other}" if other else
+            hint = (f"did you mean {like}?" if like else f"it is a key {other}" if other else
                     f"there are {', '.join(FIELDS[name])}")
             yield 3, place + (key,), f"{title(place)} has no key {key}: {hint}"
 

@@ -1,4 +1,4 @@
-"""The keys of a scenario in words, table by table: what may stand at each, and what it is.
+"""The keys of a scenario in words, table by table: what may be at each, and what it is.
 docs/SCENARIOS.md is where they come from."""
 
 NODE = 'a node name, as "B0" or "R2"'
@@ -14,10 +14,10 @@ ROOT = {
     "words": ("an array of biu integers, 0 to 4294967295",
               "the state with which the application at each BIU begins"),
     "apps": ('an array of biu strings: "table", "counter", "follow"',
-             "what stands behind each BIU"),
+             "the application at each BIU"),
     "plan": ("a table, as { h = 7 }", "the timing plan"),
     "delay": ("an integer, 1 to 1000000000",
-              "the delay of a message for which no link entry stands"),
+              "the delay of a message that no link entry speaks of"),
     "version": ("an integer, 1 or 2", "how messages are spelled"),
     "bus": ("an integer, 0 to 255; 0 in version 1", "the number of the bus"),
     "probation": ("an integer, 0 to 4096",
@@ -46,7 +46,7 @@ CLOCK = {
     "node": (NODE, "whose clock it is"),
     "start": ("an integer, 0 to 1000000000000", "the time of tick 0, in units"),
     "ticks": ("an array of pairs [first tick, length], as [[0, 10000]]",
-              "from which tick on which length stands"),
+              "the first ticks and the lengths of what follows"),
 }
 LINK = {
     "from": (ENDS, "who sends"),
@@ -67,10 +67,10 @@ SAY = {
     "to": (ENDS + "; of the other kind", "to whom"),
     "frames": (PAIR + " within 0 to frames - 1", "the frames"),
     "slots": (PAIR + " within 0 to the sync slot's number", "the slots"),
-    "stages": (PAIR + " within 1 to 4; 4 only where slots is the sync slot alone", "the stages"),
+    "stages": (PAIR + " within 1 to 4; 4 only if slots is the sync slot alone", "the stages"),
     "offset": ("an integer from 0, below the length of each window of the ranges",
                "the tick of the window at which it comes"),
-    "early": ("an integer, 0 to u - r - 1; other than 0 only where slots is the sync slot alone",
+    "early": ("an integer, 0 to u - r - 1; other than 0 only if slots is the sync slot alone",
               "by how many units it comes before that tick"),
     "word": ("an integer, 0 to 4294967295", "says this word"),
     "fault": ("true", "says that there is no word"),
@@ -87,5 +87,5 @@ RANGES = {
 
 
 def may_stand(table: str, key: str) -> str:
-    """What may stand at a key, in words."""
+    """What may be at a key, in words."""
     return TABLES[table][key][0]

@@ -41,7 +41,7 @@ def stages(bus: model.Bus, slot: int) -> str:
 
 
 def listens(bus: model.Bus, slot: int, stage: int, kind: int) -> bool:
-    """Whether nodes of a kind expect messages in a stage where the slot is not idle."""
+    """Whether nodes of a kind expect messages in a stage if the slot is not idle."""
     if stage == 4:
         return False
     if slot == bus.sync:

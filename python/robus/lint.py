@@ -21,7 +21,7 @@ status: 0 accepted, 2 wrong words or no such file, 3 refused, 4 longer than a sc
 
 @dataclass
 class Finding:
-    """What is found at a line: a rule's code, or 0 where it is a warning."""
+    """What is found at a line: a rule's code, or 0 if it is a warning."""
 
     code: int
     line: int
@@ -54,7 +54,7 @@ def short(text: str) -> str:
 
 
 def another_kind(data: bytes) -> str | None:
-    """What the bytes are where they are no scenario, but something else that robus reads or
+    """What the bytes are if they are no scenario, but something else that robus reads or
     writes."""
     if data.startswith((b"RBL1", b"RBL2")):
         return "this is a log, which robus replay and robus listen read"
@@ -67,7 +67,7 @@ def another_kind(data: bytes) -> str | None:
 
 
 def refusal_of(data: bytes) -> str | None:
-    """The line with which the scenario is refused; nothing where it is accepted."""
+    """The line with which the scenario is refused; nothing if it is accepted."""
     try:
         read(data)
     except model.Refused as refusal:
@@ -76,7 +76,7 @@ def refusal_of(data: bytes) -> str | None:
 
 
 def findings_in(data: bytes) -> list[Finding]:
-    """All that is wrong with a document, in the order of its lines; nothing where it is
+    """All that is wrong with a document, in the order of its lines; nothing if it is
     accepted."""
     fault = syntax.fault_of(data)
     if fault:

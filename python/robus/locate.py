@@ -1,4 +1,4 @@
-"""Where things stand in a TOML document: for each key, entry and element its line and its text.
+"""Where things are in a TOML document: for each key, entry and element its line and its text.
 
 A place is a tuple of keys and numbers, as ("say", 2, "slots", 0) for the first number of `slots` in
 the third `[[say]]`. The document must be one that a TOML reader has accepted."""
@@ -43,7 +43,7 @@ class Locator:
             self.skip(BLANK)
 
     def skip(self, pattern: re.Pattern[str]) -> str:
-        """Goes behind what the pattern finds here; the text of it, which is empty where it finds
+        """Goes behind what the pattern finds here; the text of it, which is empty if it finds
         nothing."""
         found = pattern.match(self.text, self.at)
         self.at = found.end() if found and found.end() > self.at else self.at
@@ -58,13 +58,13 @@ class Locator:
         return low + 1
 
     def note(self, place: Place, begin: int) -> None:
-        """Keeps that a place stands from a character on up to here, where it has not been met
+        """Keeps that a place stands from a character on up to here, if it has not been met
         before."""
         self.lines.setdefault(place, self.line_at(begin))
         self.texts.setdefault(place, self.text[begin : self.at].strip())
 
     def key(self) -> Place:
-        """Reads a key, which has several parts where points stand in it."""
+        """Reads a key, which has several parts if it has points."""
         parts: List[str] = []
         while True:
             self.skip(SPACE)
@@ -97,7 +97,7 @@ class Locator:
         return place
 
     def entry(self, table: Place) -> None:
-        """Reads a key and its value in a table, and keeps where they stand."""
+        """Reads a key and its value in a table, and keeps where they are."""
         begin = self.at
         place = table + self.key()
         self.at += 1
@@ -107,7 +107,7 @@ class Locator:
             self.note(place[:shorter], begin)
 
     def value(self, place: Place) -> None:
-        """Reads the value at a place, and keeps where it and each part of it stand."""
+        """Reads the value at a place, and keeps where it and each part of it are."""
         self.skip(BLANK)
         begin, mark = self.at, self.text[self.at : self.at + 1]
         if mark in "[{" and mark:

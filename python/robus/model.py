@@ -28,7 +28,7 @@ class TooLong(Exception):
 
 
 def read(text: bytes) -> model.Scenario:
-    """The scenario that a document says; model.Refused with the line of the refusal where none."""
+    """The scenario that a document says; else model.Refused with the line of the refusal."""
     if len(text) > model.SCENARIO_LIMIT:
         raise TooLong
     return model.read_scenario(text)

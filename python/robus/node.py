@@ -1,6 +1,6 @@
 """One node of a bus as a core that a program of yours drives: the ticks of its clock and what comes
 on its links go in, what it says and delivers comes out. It is the node core of robus.h by ctypes,
-and is there where librobus.so is (docs/LIBRARY.md)."""
+and is there if librobus.so is (docs/LIBRARY.md)."""
 from __future__ import annotations
 
 import ctypes
@@ -85,7 +85,7 @@ class CWant(ctypes.Structure):
 
 @lru_cache(maxsize=None)
 def calls_of(path: str) -> Optional[ctypes.CDLL]:
-    """The calls of a library, with their types; None where it has no node cores."""
+    """The calls of a library, with their types; None if it has no node cores."""
     library, handle = ctypes.CDLL(path), ctypes.POINTER(CHandle)
     if not hasattr(library, "robus_node_new"):
         return None
@@ -191,7 +191,7 @@ class Node:
 
     def next_tick(self) -> Optional[int]:
         """The number of the first tick from the next on at which something happens: a frame begins,
-        the node speaks, or a window ends. None where the node comes to its last tick before that.
+        the node speaks, or a window ends. None if the node comes to its last tick before that.
         It does not depend on what comes."""
         tick = self._calls.robus_node_next_tick(self._handle)
         return tick if tick < NO_TICK else None

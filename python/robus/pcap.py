@@ -35,7 +35,7 @@ def block(kind: int, body: bytes) -> bytes:
 
 
 def header(run: Run, it: Message, place: Stage) -> bytes:
-    """What stands before the bytes of a message."""
+    """What is before the bytes of a message."""
     bus, (frame, slot, stage) = run.bus, place
     nodes = (*it.source, *it.target)
     sizes = bus.version, bus.number, bus.biu, bus.rmu, bus.slots

@@ -1,5 +1,5 @@
 """Refusals of a scenario for values out of their range: numbers, names, pairs, lengths, entries
-that stand twice."""
+that are there twice."""
 from __future__ import annotations
 
 import re
@@ -15,7 +15,7 @@ LETTERS = "BR"
 
 
 class Values:
-    """A document's values, asked for by place: nothing where a value is missing or of another
+    """A document's values, asked for by place: nothing if a value is missing or of another
     form."""
 
     def __init__(self, document: model.Document) -> None:
@@ -28,22 +28,22 @@ class Values:
         self.plan = self.whole_plan()
 
     def get(self, place: Place, key: str, default: Any = None) -> Any:
-        """The value at a key of the table at this place, or the default where it is missing or of
+        """The value at a key of the table at this place, or the default if it is missing or of
         another form."""
         name, table = self.tables.get(place, ("root", {}))
         return table[key] if key in table and FIELDS[name][key][1](table[key]) else default
 
     def ranged(self, key: str) -> int | None:
-        """The number at a key of the root, where it is in its range."""
+        """The number at a key of the root, if it is in its range."""
         value = self.get((), key)
         return value if value is not None and RANGES[key][0] <= value <= RANGES[key][1] else None
 
     def size(self, kind: int) -> int | None:
-        """How many nodes of a kind there are, where that is known."""
+        """How many nodes of a kind there are, if that is known."""
         return self.rmu if kind else self.biu
 
     def whole_plan(self) -> model.Plan | None:
-        """The plan, where each number of it is in its range."""
+        """The plan, if each number of it is in its range."""
         table = self.document.get("plan", {})
         keys = FIELDS["plan"]
         if not isinstance(table, dict) or any(key not in keys or not keys[key][1](value)
@@ -59,7 +59,7 @@ class Values:
         return [place for place, (it, _) in self.tables.items() if it == name]
 
     def node(self, text: str | None) -> model.Node | None:
-        """The node of a name, as (kind, number), where the bus has one."""
+        """The node of a name, as (kind, number), if the bus has one."""
         if text is None or not re.fullmatch(r"[BR](0|[1-9][0-9]?)", text, re.ASCII):
             return None
         kind, number = LETTERS.index(text[0]), int(text[1:])
@@ -71,7 +71,7 @@ class Values:
 
     def pair(self, place: Place, key: str, low: int, high: int | None,
              default: list[int] | None = None) -> model.Pair | None:
-        """A pair, where it is one and in range."""
+        """A pair, if it is one and in range."""
         value = self.get(place, key, default)
         if value is None or high is None or not low <= value[0] <= value[1] <= high:
             return None
@@ -80,7 +80,7 @@ class Values:
 
 def number(values: Values, place: Place, key: str, low: int, high: int | None,
            why: str = "") -> Iterator[Broken]:
-    """A number that is out of its range; nothing where the range is not known."""
+    """A number that is out of its range; nothing if the range is not known."""
     value = values.get(place, key)
     if value is not None and high is not None and not low <= value <= high:
         yield 5, place + (key,), f"{key} is to be {low}{f' to {high}' if low < high else ''}{why}"
@@ -88,7 +88,7 @@ def number(values: Values, place: Place, key: str, low: int, high: int | None,
 
 def pair(values: Values, place: Place, key: str, low: int, high: int | None,
          why: str = "") -> Iterator[Broken]:
-    """A pair that is out of its range or falls; nothing where the range is not known."""
+    """A pair that is out of its range or falls; nothing if the range is not known."""
     value = values.get(place, key)
     if value is None or high is None:
         return
@@ -216,7 +216,7 @@ def of_saying(values: Values, place: Place) -> Iterator[Broken]:
     said = [key for key in SAYINGS if key in table]
     if len(said) > 1:
         yield 5, place + (said[1],), (
-            'one of word, fault, sync and raw is to stand there, and there are '
+            'one of word, fault, sync and raw is wanted, and there are '
             f'{" and ".join(said)}')
     for key in ("fault", "sync"):
         if values.get(place, key) is False:

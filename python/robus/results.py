@@ -19,7 +19,7 @@ from robus.summary import Summary, convicted_in, spread_of, summary_of
 
 @dataclass(frozen=True)
 class Result:
-    """The output of a call: `output` as the program wrote it, `status` 0, or 1 where the run ended
+    """The output of a call: `output` as the program wrote it, `status` 0, or 1 if the run ended
     with a breach of the fault premise, and the engine that ran it."""
 
     engine: Engine
@@ -47,12 +47,12 @@ class Result:
 
     @property
     def breach(self) -> Optional[Breach]:
-        """Where the fault premise was broken, and how; None where the run came to its end."""
+        """Where the fault premise was broken, and how; None if the run came to its end."""
         return next(iter(self.by_kind["breach"]), None)
 
     @property
     def frames(self) -> Optional[int]:
-        """After how many frames the run came to its end; None where it has a breach."""
+        """After how many frames the run came to its end; None if it has a breach."""
         return next((it.frames for it in self.by_kind["end"]), None)
 
     def to_dicts(self) -> List[Dict[str, Any]]:
@@ -122,7 +122,7 @@ class Report(Result):
     @property
     def spread(self) -> Optional[int]:
         """The greatest difference between the times at which good nodes began one frame, in
-        reference units; None where no good node began one, and for a log, which has no times."""
+        reference units; None if no good node began one, and for a log, which has no times."""
         return spread_of(self.epochs)
 
     @property

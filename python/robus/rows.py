@@ -2,7 +2,7 @@
 
 docs/robus.md and docs/robus_bridge.md say when which line is written. Times are in reference units,
 ticks are those of the node's clock, frames and slots count from 0, stages from 1. Nodes are named
-as `B0` or `R12`; a word is None where the line has `none`."""
+as `B0` or `R12`; a word is None if the line has `none`."""
 from __future__ import annotations
 
 import csv
@@ -71,7 +71,7 @@ class Letter:
 
 @dataclass(frozen=True)
 class GroupValue:
-    """What the receiver found for the group in the frame; None where there was nothing."""
+    """What the receiver found for the group in the frame; None if there was nothing."""
 
     frame: int
     receiver: str
@@ -163,7 +163,7 @@ NODE = r"[BR](?:\d|1[0-5])"
 FIELDS = {"node": NODE, "receiver": NODE, "sender": NODE, "word": r"\d+|none", "bus": "left|right",
           "hex": "(?:[0-9a-f]{2})+", "cause": "[A-Za-z]+", "name": "[A-Za-z]+",
           "inequality": "[1-7]", "total": "frames|deliveries|convicted|spread"}
-# What makes a value of the text of a field, which is None where it is missing
+# What makes a value of the text of a field, which is None if it is missing
 Maker = Callable[[Optional[str]], Any]
 TEXTS = set("node receiver sender bus hex cause name total".split())
 
@@ -206,7 +206,7 @@ def row_of(line: str) -> Row:
 
 
 def rows_of(lines: Iterable[str]) -> Iterator[Row]:
-    """Each line as its row; NoRow with the line's number where one is none."""
+    """Each line as its row; NoRow with the line's number if one is none."""
     for number, line in enumerate(lines, 1):
         try:
             yield row_of(line.rstrip("\n"))
@@ -249,7 +249,7 @@ def dict_of(row: Row) -> Dict[str, Any]:
 
 
 def cell(value: Any) -> Any:
-    """A value as CSV has it: nothing is empty, and names stand with a space between them."""
+    """A value as CSV has it: nothing is empty, and names have a space between them."""
     if value is None:
         return ""
     return " ".join(value) if isinstance(value, (list, tuple)) else value

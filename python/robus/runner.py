@@ -76,7 +76,7 @@ def say(tool: str, what: str) -> None:
 
 
 def built(program: str) -> Optional[Engine]:
-    """An unproved build of the program, made now if none is kept; None where none can be made."""
+    """An unproved build of the program, made now if none is kept; None if none can be made."""
     if not quick.is_there():
         return None
     robus = quick.program_of("robus")

@@ -1,6 +1,6 @@
 """A scenario as a value: read from TOML or a dict, changed by path, written as TOML.
 
-docs/SCENARIOS.md has its keys. What may stand at a key is looked at by the program that runs it and
+docs/SCENARIOS.md has its keys. What may be at a key is checked by the program that runs it and
 by nothing here, so a scenario that is refused can be made, and is refused when it is run."""
 from __future__ import annotations
 
@@ -112,7 +112,7 @@ def written(name: str, document: Any) -> bytes:
 
 @dataclass(frozen=True, repr=False)
 class Scenario:
-    """A scenario that does not change; two are equal where their texts are. `text` is handed to the
+    """A scenario that does not change; two are equal if their texts are. `text` is handed to the
     program byte for byte: that of the file it was read from, or the document written as TOML."""
 
     text: bytes

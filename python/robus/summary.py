@@ -12,9 +12,9 @@ class Summary:
     """What a campaign keeps of a run (docs/CAMPAIGNS.md).
 
     `status` is that of the program. `frame`, `slot` and `stage` are the place of a breach, `cause`
-    its cause, or the rule where the scenario was refused; None and empty where it ended. `spread`
+    its cause, or the rule if the scenario was refused; None and empty if it ended. `spread`
     is the greatest difference between the times at which good nodes begin one frame, in reference
-    units, and None where no good node began one. `none` counts the deliveries that are none."""
+    units, and None if no good node began one. `none` counts the deliveries that are none."""
 
     status: int
     frame: Optional[int] = None

@@ -43,7 +43,7 @@ def values_in(document: Any) -> Iterator[tuple[Place, int]]:
 
 
 def fault_of(data: bytes) -> tuple[int, int, str] | None:
-    """Line, column and reason of the first fault in the syntax; nothing where there is none."""
+    """Line, column and reason of the first fault in the syntax; nothing if there is none."""
     try:
         text = data.decode("utf-8")
     except UnicodeDecodeError as fault:

@@ -12,7 +12,7 @@ from robus.tool import Parser, lines_of
 
 HELP = """Makes rows of what robus run, letters, group, check, stress, spell, replay or listen
 wrote, or robus_bridge run: CSV of one kind of line with its columns named, or with --json a line of
-JSON for each line of any kind. It reads a file, or standard input where none is named, and is not
+JSON for each line of any kind. It reads a file, or standard input if none is named, and is not
 proved.
 
 kinds and their columns (times in reference units, ticks of the node's clock; a word that is `none`

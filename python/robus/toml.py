@@ -50,7 +50,7 @@ def value_text(value: Any) -> str:
 
 
 def key_text(key: str) -> str:
-    """A key, in quotes where it needs them."""
+    """A key, in quotes if it needs them."""
     is_bare = key != "" and all(it.isascii() and (it.isalnum() or it in "-_") for it in key)
     return key if is_bare else value_text(key)
 

@@ -1,5 +1,5 @@
 """A run as a value change dump (IEEE 1364) for GTKWave and other viewers of waveforms, with a save
-file of GTKWave. A vector is z where nothing is said or heard, and x for anything but a word."""
+file of GTKWave. A vector is z if nothing is said or heard, and x for anything but a word."""
 from __future__ import annotations
 
 import math

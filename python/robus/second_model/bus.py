@@ -31,7 +31,7 @@ class Bus:
     plan: Plan = Plan()
     version: int = 1
     number: int = 0
-    # After how many frames without new evidence an accusation lapses; 0 where none does
+    # After how many frames without new evidence an accusation lapses; 0 if none does
     probation: int = 0
 
     def size(self, kind: int) -> int:

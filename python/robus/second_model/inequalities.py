@@ -23,6 +23,6 @@ def sides_of(bus: Bus) -> list[tuple[int, int]]:
 
 
 def first_failing(bus: Bus) -> int | None:
-    """The number, 1 to 7, of the first inequality that fails; nothing where the plan is
+    """The number, 1 to 7, of the first inequality that fails; nothing if the plan is
     feasible."""
     return next((i for i, (left, right) in enumerate(sides_of(bus), 1) if left < right), None)

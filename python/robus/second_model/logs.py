@@ -30,14 +30,14 @@ class LogReader:
         self.text, self.place = text, 0
 
     def take(self, length: int) -> bytes:
-        """The next bytes, as many as are asked for; refused where the log has fewer."""
+        """The next bytes, as many as are asked for; refused if the log has fewer."""
         if self.place + length > len(self.text):
             raise Refused(f"refused 3 Truncated {len(self.text)}")
         self.place += length
         return self.text[self.place - length : self.place]
 
     def number(self, length: int, least: int, most: int) -> int:
-        """The number in the next bytes; refused at its place where it is out of the range."""
+        """The number in the next bytes; refused at its place if it is out of the range."""
         place = self.place
         value = int.from_bytes(self.take(length))
         if not least <= value <= most:

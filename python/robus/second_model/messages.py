@@ -23,7 +23,7 @@ def xor_of(text: bytes) -> int:
 
 
 def read_message(bus: Bus, text: bytes) -> Message | None:
-    """(tag, frame, slot, stage, value), or nothing where the bytes spell no message of this bus."""
+    """(tag, frame, slot, stage, value), or nothing if the bytes spell no message of this bus."""
     if len(text) != 10 + bus.version or text[-1] != xor_of(text[:-1]):
         return None
     if bus.version == 2 and text[10] != bus.number:

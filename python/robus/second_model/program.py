@@ -52,14 +52,14 @@ def do_stress(seed: int, frames: int) -> Answer:
 
 
 def number_in(word: str, least: int, most: int) -> int | None:
-    """The number that a word is; nothing where it is none, or out of the range."""
+    """The number that a word is; nothing if it is none, or out of the range."""
     if not re.fullmatch(r"0|[1-9][0-9]*", word, re.ASCII) or not least <= int(word) <= most:
         return None
     return int(word)
 
 
 def call_of(words: list[str]) -> tuple[Callable[[bytes], Answer], int] | None:
-    """What the words ask for: a function of the input, and how long this may be; nothing where they
+    """What the words ask for: a function of the input, and how long this may be; nothing if they
     have no form."""
     match words:
         case ["run"]:

@@ -11,14 +11,14 @@ from .plan import PLAN_RANGES, Plan
 
 
 def within(value: int, least: int, most: int) -> int:
-    """The value, where it is in the range; else refused by rule 5."""
+    """The value, if it is in the range; else refused by rule 5."""
     if not least <= value <= most:
         refuse(5)
     return value
 
 
 def node_in(bus: Bus, text: str) -> Node:
-    """The node of a name; refused by rule 5 where the bus has none of it."""
+    """The node of a name; refused by rule 5 if the bus has none of it."""
     if not re.fullmatch(r"[BR](0|[1-9][0-9]?)", text, re.ASCII):
         refuse(5)
     kind, number = LETTERS.index(text[0]), int(text[1:])
@@ -32,7 +32,7 @@ def pattern_in(bus: Bus, text: str) -> Pattern:
 
 
 def pair_in(pair: list[int], least: int, most: int) -> Pair:
-    """The pair, where its first is not above its last and both are in the range; else refused by
+    """The pair, if its first is not above its last and both are in the range; else refused by
     rule 5."""
     within(pair[0], least, most)
     within(pair[1], pair[0], most)

@@ -42,7 +42,7 @@ class Say:
     stages: Pair
     offset: int  # the tick of the window at which it comes
     early: int  # by how many reference units it comes before that tick
-    tag: int  # 0 where the bytes are raw
+    tag: int  # 0 if the bytes are raw
     value: int
     raw: bytes
 
@@ -56,7 +56,7 @@ class Say:
         )
 
     def bytes_of(self, bus: Bus, frame: int, window: Window) -> bytes:
-        """The bytes that are said, with the header of the window where they are not given as they
+        """The bytes that are said, with the header of the window if they are not given as they
         are."""
         if not self.tag:
             return self.raw

@@ -74,7 +74,7 @@ class Seat:
         self.send_tick = self.when_to_say()
 
     def sender_of(self, slot: int) -> tuple[str, int, int | None]:
-        """The role of a slot below the sync slot, and its sender's kind and number; no number where
+        """The role of a slot below the sync slot, and its sender's kind and number; no number if
         the slot is idle."""
         role, kind, number = self.bus.sender_place(slot)
         if role == "data":

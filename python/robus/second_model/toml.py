@@ -84,7 +84,7 @@ MOST_LEVELS = 80  # of arrays and inline tables in each other, and of parts of a
 
 def too_deep_at(text: str) -> int | None:
     """Where a document first nests arrays and inline tables, or the parts of a key, deeper than it
-    may; nothing where it does not."""
+    may; nothing if it does not."""
     marks: list[str] = []
     in_key, dots = True, 0
     for it in TOML_PART.finditer(text):
@@ -111,7 +111,7 @@ def too_deep_at(text: str) -> int | None:
 
 
 def read_toml(text: bytes) -> Document:
-    """The document that the bytes are; refused by rule 1 where they are none, nest too deeply, or
+    """The document that the bytes are; refused by rule 1 if they are none, nest too deeply, or
     have an integer of more than 64 bits."""
     try:
         characters = text.decode("utf-8")

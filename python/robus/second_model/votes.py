@@ -6,7 +6,7 @@ from .names import FAULT, Word
 
 
 def majority_of(values: list[Word]) -> Word:
-    """The value that more than half of the list is; FAULT where there is none."""
+    """The value that more than half of the list is; FAULT if there is none."""
     return next((value for value in values if 2 * values.count(value) > len(values)), FAULT)
 
 
