@@ -4,8 +4,9 @@ use Rattle.rb_world_book.specs.declared.turn.Turn.{Turn}
 use Rattle.rb_top.specs.declared.form.Form.{Form}
 use Rattle.rb_top.specs.declared.status.Status.{Status}
 use Rattle.rb_top.specs.Answers.{CommandAnswers, command_of}
-use Rattle.rb_top.specs.Calls.{AnswersAlone, AnswersDriven}
-use Rattle.rb_top.specs.Statuses.{RunsNothing, WritesNothing}
+use Rattle.rb_top.specs.declared.form.Form.TheVariants.{Run}
+use Rattle.rb_top.specs.Calls.{AnswersAlone, AnswersDriven, AnswersRun, DrivesTheInput}
+use Rattle.rb_top.specs.Statuses.{HasEnded, RunsNothing, WritesNothing}
 use Rattle.rb_top.proofs.Completeness.{IsSound, completes}
 use Rattle.rb_top.proofs.Promised.{promised}
 
@@ -32,4 +33,19 @@ answers_driven form sound status left reads source source' held writes sink sink
   complete = completes (command_of form) sound status _ _ _ _ _ _ _ _ _ _ _ answers;
   unwritten = unwritten;
   not_driven = not_driven;
+}
+
+-- the answers of `run`, with what has become of the drive
+pub with_drive : {S K D : Type 0} (status : Status) (left : S → Option (List ℕ)) (reads : S → ℕ) (source source' : S) (held : K → Option (List ℕ)) (writes : K → ℕ) (sink sink' : K)
+    (is_plain : D → Bool) (told : D → Option (List Turn)) (gives : D → Turn → Turn → Type 0) (keeps : D → D → Turn → Type 0) (drive drive' : D)
+    → AnswersDriven Run status left reads source source' held writes sink sink' is_plain told drive drive'
+    → (HasEnded status → DrivesTheInput (left source) (left source') gives keeps drive drive')
+    → AnswersRun status left reads source source' held writes sink sink' is_plain told gives keeps drive drive'
+with_drive status left reads source source' held writes sink sink' is_plain told gives keeps drive drive' is driven = record {
+  promise = is.promise;
+  answers = is.answers;
+  complete = is.complete;
+  unwritten = is.unwritten;
+  not_driven = is.not_driven;
+  driven = driven;
 }

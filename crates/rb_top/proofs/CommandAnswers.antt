@@ -73,7 +73,7 @@ group_tells accepted which members there =
       so_far = λ input is_plain told told' text r is. record { report = r; there = subst P (sym is) there };
     }
 
-never_both : (status : Status) → MayRefuse status → HasEnded status → ⊥
+pub never_both : (status : Status) → MayRefuse status → HasEnded status → ⊥
 never_both Done may ended = may
 never_both Breach may ended = may
 never_both Usage may ended = ended

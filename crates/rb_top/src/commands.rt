@@ -1,6 +1,6 @@
 //! Commands that read a source: each is a word of the program as a call of its own.
-ghost use Rattle.rb_top.specs.Calls.{AnswersAlone, AnswersDriven};
-ghost use Rattle.rb_top.specs.declared.form.Form.TheVariants.{Check, Group, Letters, Listen, Record, Replay, Run};
+ghost use Rattle.rb_top.specs.Calls.{AnswersAlone, AnswersDriven, AnswersRun};
+ghost use Rattle.rb_top.specs.declared.form.Form.TheVariants.{Check, Group, Letters, Listen, Record, Replay};
 
 use crate::checking::show_sides;
 use crate::listening::listen_to;
@@ -32,8 +32,9 @@ pub fn run<S: Source, K: Sink, D: Drive>(
     apps: &Apps,
     drive: &mut D,
 ) -> Status
-    ensures { AnswersDriven Run result S.left S.faults input.old input.new
-        K.held K.faults output.old output.new D.is_plain D.told drive.old drive.new }
+    ensures { AnswersRun result S.left S.faults input.old input.new
+        K.held K.faults output.old output.new D.is_plain D.told D.gives D.keeps drive.old
+        drive.new }
 {
     match read_scenario(alloc, input, output) {
         Ok(scenario) => report(alloc, scenario, output, apps, drive),

@@ -5,6 +5,7 @@ ghost use Rattle.rb_outside.specs.Writing.{Writes};
 ghost use Rattle.rb_rules.specs.Lawful.{IsLawful};
 ghost use Rattle.rb_report.specs.Report.{summary_text};
 ghost use Rattle.rb_scenario.specs.Acceptance.{as_scenario};
+ghost use Rattle.rb_run.specs.Histories.{HasDriven};
 ghost use Rattle.rb_run.specs.Runs.{WritesPart};
 ghost use Rattle.rb_top.specs.Commands.{status_of};
 ghost use Rattle.rb_top.specs.Promise.{SumsTheHeadline};
@@ -46,6 +47,8 @@ pub(crate) fn report<K: Sink, D: Drive>(
     ensures ended { HasEnded result
         → IsReported (as_scenario scenario) result (D.is_plain drive.old) (D.told drive.old)
         (D.told drive.new) (K.held output.old) (K.held output.new) }
+    ensures driven { HasEnded result
+        → HasDriven (as_scenario scenario) D.gives D.keeps drive.old drive.new }
     ensures part { result ≡ Status.WriteFault
         → WritesPart (as_scenario scenario) (D.is_plain drive.old) (D.told drive.old)
         (D.told drive.new) (K.held output.old) (K.held output.new) }
