@@ -6,7 +6,7 @@
  * A call reads `words` and `input`, writes `output`, and keeps nothing: no pointer is stored, no
  * file is opened, and nothing is left from one call to the next. The caller owns all three and may
  * free or change them when the call returns. They may not overlap while it runs, and a pointer may
- * be anything but NULL where its length is 0. Several threads may call at once, each with an
+ * be anything but NULL if its length is 0. Several threads may call at once, each with an
  * `output` of its own. A call takes memory by malloc, realloc and free and gives all of it back; it
  * may not be made from a signal handler, or from the forked child of a process with threads.
  *
@@ -58,13 +58,13 @@ enum {
  * robus_c::robus_call, IsBusAnswer (specs/Bus.antt). For each form that the words ask for:
  *   promise          at 0 and 1 of `run`, `letters` and `group`: the input is the text of an
  *                    accepted scenario, the output is exactly what is told of its rounds, 1 comes
- *                    exactly where they end with a breach, and up to it the bus keeps its promise
+ *                    if and only if they end with a breach, and up to it the bus keeps its promise
  *   ended            at 0 and 1 the output is the form's text for that input, for every form
  *   refused          at 3 the output is the line of the first rule that the input breaks
  *   too_long         at 4 the input is longer than the form allows
  *   complete         within that length the status that is due comes, or 7, or 9 with its output
  *                    cut off
- *   unknown, usage   2 comes exactly where the words ask for no form, unless 7 comes first
+ *   unknown, usage   2 comes if and only if the words ask for no form, unless 7 comes first
  *   reads, writes    5 and 6, with which the program says that reading or writing failed, never
  *                    come
  *   nothing          at 2, 4 and 7 nothing is written
@@ -176,7 +176,7 @@ typedef struct robus_epoch {
 } robus_epoch;
 
 /* A delivery, at BIUs alone: in that case `delivers`, the slot and the frame, the BIU whose slot it
- * is, and the word; where that is none, `none`, and the word is 0. Else all is 0. */
+ * is, and the word; if that is none, `none`, and the word is 0. Else all is 0. */
 typedef struct robus_delivery {
     bool delivers;
     bool none;
@@ -190,7 +190,7 @@ typedef struct robus_delivery {
 typedef struct robus_act {
     uint8_t message[12];     /* what it sends to all nodes of the other kind: the first `length`
                                 bytes */
-    uint8_t length;          /* 11 or 12; 0 where it sends nothing */
+    uint8_t length;          /* 11 or 12; 0 if it sends nothing */
     bool closes;             /* whether a window ended with this tick */
     robus_epoch epoch;
     robus_delivery delivery; /* of the window that ended */
@@ -225,7 +225,7 @@ uint32_t robus_node_new(robus_node *node, const robus_seat *seat);
  * Arrives: the node then stands for what `arrive` makes of the core that it stood for. */
 bool robus_node_arrive(robus_node *node, uint8_t from, const uint8_t *bytes, size_t length);
 
-/* What the node wants to be handed for its next tick; nothing where there is no node.
+/* What the node wants to be handed for its next tick; nothing if there is no node.
  *
  * IsHostWant: that is what the core wants (wants of Core.antt), and the node stays as it is. */
 robus_want robus_node_wants(robus_node *node);
@@ -233,7 +233,7 @@ robus_want robus_node_wants(robus_node *node);
 /* A tick, with the request or the word that the node wants for it; if it wants none, `word` counts
  * for nothing. At the tick of its next epoch the node begins the next frame; then it says its
  * message, if this is the tick of one; then it closes the window, if this is its last tick, on what
- * came since the last close. Whether there is a node; where there is none, `act` is as it was.
+ * came since the last close. Whether there is a node; if there is none, `act` is as it was.
  *
  * Ticks: the node then stands for the core after `tick`, and `act` is what that gives: the message
  * spelled in the plan's version, the frame, and the delivery of the window that it closed
@@ -241,14 +241,14 @@ robus_want robus_node_wants(robus_node *node);
 bool robus_node_tick(robus_node *node, uint32_t word, robus_act *act);
 
 /* The number of the first tick from the next on at which something happens: a frame begins, the
- * node speaks, or a window ends. ROBUS_NO_TICK where the node comes to its last tick before that,
- * and where there is no node. It does not depend on what comes.
+ * node speaks, or a window ends. ROBUS_NO_TICK if the node comes to its last tick before that,
+ * and if there is no node. It does not depend on what comes.
  *
  * IsNextTick: it is `next_tick` of the core, and the node stays as it is. */
 uint64_t robus_node_next_tick(robus_node *node);
 
 /* Has ticks at which nothing happens: at most `ticks`, and no more than there are before the tick
- * that robus_node_next_tick gives. How many it has had; 0 where there is no node.
+ * that robus_node_next_tick gives. How many it has had; 0 if there is no node.
  *
  * Passes: the node then stands for the core after that many ticks with word 0. */
 uint64_t robus_node_pass(robus_node *node, uint64_t ticks);

@@ -7,7 +7,7 @@
 
 It prints a line for each class as it is done, then the whole text of each failure, and which tests
 were skipped and why. The status is 0 if all tests passed or were skipped, 1 if one failed, and 2 if
-there is no such test."""
+a file cannot be loaded or has no such test."""
 from __future__ import annotations
 
 import argparse
@@ -146,6 +146,9 @@ def main(words: list[str]) -> int:
     start, found = time.monotonic(), []
     with compiled_package():
         classes = classes_of([Path(it).name.removesuffix(".py") for it in asked.names])
+        if unittest.defaultTestLoader.errors:
+            print("\n".join(unittest.defaultTestLoader.errors))
+            return 2
         jobs = max(1, min(asked.jobs, len(classes)))
         for it in outcomes(classes, jobs):
             print(it.line(), flush=True)

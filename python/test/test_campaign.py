@@ -10,6 +10,7 @@ import signal
 import stat
 import subprocess
 import tempfile
+import time
 import unittest
 from math import sqrt
 from pathlib import Path
@@ -72,6 +73,20 @@ class Campaigns(unittest.TestCase):
     def take(self, *names: str):
         for name in names:
             shutil.copy(EXAMPLES / name, self.folder)
+
+    def test_an_interrupted_one_keeps_its_rows(self):
+        words = [str(TOP / "tools/campaign"), str(self.folder), "400", "1", "--model", "--jobs", "1"]
+        with subprocess.Popen(words, stderr=subprocess.PIPE, text=True) as tool:
+            rows = self.folder / "rows.csv"
+            while tool.poll() is None and not (rows.exists() and rows.read_text().count("\n") > 2):
+                time.sleep(0.05)
+            tool.send_signal(signal.SIGINT)
+            said = tool.stderr.read().splitlines()
+        self.assertEqual((tool.returncode, len(said)), (130, 2), said)
+        left = 400 - (len(self.rows()) - 1)
+        self.assertLess(left, 400)
+        self.assertEqual(said[1], f"tools/campaign: interrupted; {left} of 400 scenarios have no row "
+                         "yet: the same line again goes on")
 
     def test_options_may_stand_first(self):
         asked = asked_in(["--model", "--jobs", "2", "FOLDER", "9", "1", "--generator", "COMMAND",

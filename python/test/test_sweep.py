@@ -4,7 +4,7 @@ import io
 import unittest
 
 import robus
-from helpers import EXAMPLES, output_of
+from helpers import EXAMPLES, ending_of, output_of
 from robus import Scenario, SweepRow
 
 LATE = EXAMPLES / "late_onset.toml"
@@ -51,6 +51,14 @@ class Sweeps(unittest.TestCase):
 
 
 class Tool(unittest.TestCase):
+    def test_a_key_that_is_nested_too_deeply(self):
+        """docs/SCENARIOS.md: a key has at most 80 parts, so the document is no TOML to robus."""
+        deep = ".".join(["x"] * 2000) + " = 1\n"
+        text = (EXAMPLES / "late_onset.toml").read_bytes() + deep.encode()
+        status, out, said = ending_of("sweep", ["-", "frames=1"], text)
+        self.assertEqual((status, out), (3, ""))
+        self.assertIn("refused 1 NotToml", said)
+
     def test_rows_of_csv(self):
         status, text = output_of("sweep", [LATE, "fault[0].slot=5..6", "fault[0].node=B2,R2"])
         rows = list(csv.DictReader(io.StringIO(text)))
