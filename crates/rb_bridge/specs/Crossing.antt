@@ -106,7 +106,8 @@ pub record GiveSome (x : BridgeRun) : Type 0 where
   pub left : GivesSome x.b Left x.both x.left
   pub right : GivesSome x.b Right x.both x.right
 
--- the drives of both sides gave all turns of their runs
+-- the drives of both sides gave all turns of their runs, with what these were handed up to the
+-- start of this frame
 pub record GiveAll (x : BridgeRun) (frame : ℕ) : Type 0 where
   pub left : GivesAll x.b Left frame x.both x.left
   pub right : GivesAll x.b Right frame x.both x.right
@@ -144,8 +145,8 @@ pub record MayCross (pairs : List Pair) (frame : ℕ) (d : Drives) (l r : Side) 
   pub run : AtFrame frame d l r
   pub pairs_are : run.b.pairs ≡ pairs
 
--- both sides went through a frame, with this breach or none. A bus with a breach gave all of its
--- turns
+-- without a breach both sides went through a frame; with this breach its bus gave all of its turns.
+-- If both drives are plain, the breach, or none, is that of the frame
 pub record GoThrough (x : BridgeRun) (frame : ℕ) (l r : Side) (breach : Option Break) : Type 0 where
   pub some : GiveSome x
   pub through : breach ≡ None → AreThrough x frame l r
@@ -191,8 +192,10 @@ pub record MayBegin (pairs : List Pair) (frames : ℕ) (l r : Side) : Type 0 whe
   pub frames_are : b.left.frames ≡ frames
   pub opened : HaveOpened b l r
 
--- The bridge ends so. All that crosses was handed in by then, or all up to the start of the frame
--- with the breach
+-- The bridge ends so. Without a breach both buses gave all their turns; if both drives are plain,
+-- each was handed all that crosses. With a breach its bus gave all its turns; if both drives are
+-- plain, the breach is that of the bridge, and the bus was handed what crosses up to the start of
+-- some frame
 abbrev pub EndsAs : BridgeRun → Ending → Type 0
 EndsAs x ending.Ended =
     (x.both ≡ true → break_of x.b ≡ None) × GiveAll x x.b.left.frames
@@ -200,7 +203,7 @@ EndsAs x ending.Breach =
     (k : Break) × ((x.both ≡ true → break_of x.b ≡ Some k) × ((frame : ℕ) × GivesAllOn x frame k.bank))
 
 -- all that is said of the bridge was written, if both drives are plain. The drives gave turns of
--- its runs
+-- its runs, and the bridge ended so
 pub record WritesAll (x : BridgeRun) (held after : Option (List ℕ)) (e : Ending) : Type 0 where
   pub some : GiveSome x
   pub text : x.both ≡ true → Appends held after (bridge_text x.b)

@@ -10,7 +10,7 @@ abbrev pub value_by : List SlotLine → ℕ → Option Heard
 value_by [] biu = None
 value_by (l ∷ ls) biu = if l.receiver == biu then Some l.value else value_by ls biu
 
--- the values of a slot of a frame with those of a record, if it is the record of that slot
+-- the value that a BIU delivered by a record, if it is the record of this slot of this frame
 abbrev pub value_with : ℕ → ℕ → Option Record → ℕ → Option Heard
 value_with frame slot None biu = None
 value_with frame slot (Some (Frame f nodes ports)) biu = None

@@ -32,8 +32,8 @@ page_text Help = help_text
 page_text ShortHelp = help_text
 page_text Version = codes "robus_bridge 1.0\n"
 
--- the answer to a flag: its text is written, or a first part of it if the count of the sink's
--- faults rose
+-- the answer to a flag: its text is written; or a first part of it, and then the count of the
+-- sink's faults rose
 pub record Shows (flag : Flag) (status : Status) (held held' : Option (List ℕ)) (faults faults' : ℕ) : Type 0 where
   pub one_of : (status ≡ answer.Done) ⊎ (status ≡ answer.WriteFault)
   pub done : status ≡ answer.Done → Appends held held' (page_text flag)

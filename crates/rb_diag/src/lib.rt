@@ -27,7 +27,7 @@ impl<K: Kind> Model for Ballot<K> {
 }
 
 impl<K: Kind> Ballot<K> {
-    /// A ballot with no vector, if there are `others` nodes of the other kind.
+    /// A ballot with no vector, for `others` nodes of the other kind.
     pub fn new(others: u8) -> Ballot<K>
         requires { others ≤ 16 }
         ensures { result ≡ record { others = others; vectors = no_vectors } }

@@ -110,8 +110,8 @@ fn are_same(value: Option<Heard>, other: Option<Heard>) -> bool
     }
 }
 
-// The group with a run whose sources have one value, or the larger of the two if the run has a
-// value.
+// The group with the run added, if the run has the same value as the group. Otherwise the run if it
+// has a value and more sources than the group, and else the group.
 fn with_run<K: Copy>(lead: Group<K>, run: NodeSet<K>, value: Option<Heard>) -> Group<K>
     ensures { (j : ℕ) → j < 16 → has result.sources j ≡ true
         → ((has lead.sources j ≡ true) × (result.value ≡ lead.value))

@@ -80,7 +80,7 @@ abbrev pub ending_in : ℕ → Option Record → List ℕ
 ending_in frames None = []
 ending_in frames (Some r) = ending_text frames r
 
--- the frame of a record, or `newest` if it has none
+-- the frame of a record, or `newest` if there is no record
 abbrev pub frame_or : ℕ → ℕ → Option Record → ℕ
 frame_or frames newest None = newest
 frame_or frames newest (Some r) = frame_of frames r

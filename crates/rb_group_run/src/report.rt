@@ -119,11 +119,11 @@ fn write_ending<K: Sink>(turn: &Turn, frames: u32, output: &mut K) -> Result<(),
     }
 }
 
-/// Writes what a turn says, if the ports are as all turns before it left them: with the first turn
-/// of a later frame, for each BIU that is good in the last data slot of this frame, the value that
-/// it finds; and `end` or `breach`. A breach leaves the values of its frame out. Each write asks
-/// for the rest of one line. `Failed` is the answer only if a write failed; a first part of the
-/// text has then been written.
+/// Writes what a turn says: with the first turn of a later frame, for each BIU that is good in the
+/// last data slot of this frame, the value that it finds; and `end` or `breach`. The ports must be
+/// as all turns before this one left them. A breach leaves the values of its frame out. Each write
+/// asks for the rest of one line. `Failed` is the answer only if a write failed; a first part of
+/// the text has then been written.
 pub fn write_turn<K: Sink>(
     turn: &Turn,
     ports: &Ports,

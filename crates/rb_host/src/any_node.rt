@@ -70,7 +70,8 @@ impl AnyNode {
         }
     }
 
-    /// Lets at most `ticks` quiet ticks pass; gives how many did.
+    /// Lets quiet ticks pass: as many as there are before the next that is not quiet, and at most
+    /// `ticks`; gives how many did.
     pub fn pass(&mut self, ticks: u64) -> u64
         ensures { Passes self.old ticks result self.new }
     {

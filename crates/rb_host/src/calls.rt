@@ -101,7 +101,7 @@ pub fn tick(alloc: Global, node: &mut Handle, word: u32, act: &mut HostAct) -> b
 }
 
 /// The number of the first tick from the next on that is not quiet; 2^31 if that would not be below
-/// 2^31, and if there is no node.
+/// 2^31, or if there is no node.
 pub fn next_tick(alloc: Global, node: &mut Handle) -> u64
     ensures next { IfSome (node_in node.old) (λ n. IsNextTick n result) }
     ensures none { node_in node.old ≡ None → result ≡ 2 ^ 31 }

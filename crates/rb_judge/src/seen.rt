@@ -32,7 +32,7 @@ pub struct SourceSights {
 }
 
 impl SourceSights {
-    /// A source from which nobody saw anything.
+    /// The sights of a source of which nobody saw anything.
     pub fn none() -> SourceSights
         ensures { (eps good : ℕ) → ShowsSource eps good (λ i. Nothing) result }
     {

@@ -12,7 +12,8 @@ abbrev pub value_in_lines : List SlotLine → Option Heard
 value_in_lines [] = None
 value_in_lines (line ∷ lines) = Some line.value
 
--- what the bus delivers in a slot: a value in a data slot that is not idle, and otherwise nothing
+-- what the bus delivers in a complete slot: a value in a data slot that is not idle, and otherwise
+-- nothing
 abbrev pub delivered_in : Scenario → List HandIn → ℕ → ℕ → Option Heard
 delivered_in sc hands frame slot = value_in_lines (before_stage sc hands frame slot 3).book.lines
 

@@ -42,8 +42,8 @@ GoodSendersAreHeard =
     → (p : ℕ) (st : NodeState) → IsGoodSender sc hands frame slot p st
     → HasValue sc hands frame slot (value_of_sender sc hands frame slot p st)
 
--- all good BIUs deliver one value, and if the owner is good, it is the word that its application
--- offered
+-- in each complete slot that has an owner all good BIUs deliver one value, and if the owner is
+-- good, it is the word that its application offered
 abbrev pub DeliveriesAreRight : Type 0
 DeliveriesAreRight = (sc : Scenario) (hands : List HandIn) → IsLawful sc → DeliverAlike sc hands × DeliverTheWord sc hands
 

@@ -22,7 +22,7 @@ use Rattle.rb_laws_agreement.specs.Values.{vote_on}
 
 -- One stage at one node.
 
--- a node accepts more values from these good sources than from others in a stage
+-- these good sources outnumber the other sources from which a node accepts something in a stage
 abbrev pub GoodOutnumber : (ℕ → Bool) → (ℕ → Option Heard) → Type 0
 GoodOutnumber good takes = count_if (λ j. not (good j) && is_some (takes j)) (numbers 16) < count_if good (numbers 16)
 

@@ -19,10 +19,10 @@ pub fn votes_agree()
 {}
 
 /// In one slot below the sync slot, whatever nodes that are not good do: all good nodes that vote
-/// on it vote alike, for what the sender says if the sender is good; in a data slot each good BIU
-/// delivers that vote; and no good node accuses a good one. The premise is that in stages 2 and 3
-/// each good node accepts more from good sources than from others, and that no node of one of the
-/// kinds is asymmetric.
+/// on it vote alike, for what the sender says if the sender is good; in a data slot with an owner
+/// each good BIU delivers that vote; and no good node accuses a good one. The premise is that in
+/// stages 2 and 3 good sources outnumber the others from which a good node accepts something, and
+/// that no node of one of the kinds is asymmetric.
 pub fn one_slot_agrees()
     ensures { OneSlotAgrees }
 {}
@@ -39,8 +39,9 @@ pub fn good_senders_are_heard()
     ensures { GoodSendersAreHeard }
 {}
 
-/// In each complete slot all good BIUs deliver one value, and if the slot's owner is good, the word
-/// that its application offered.
+/// In each complete slot that has an owner all good BIUs deliver one value, and if the owner is
+/// good, it is the word that its application offered. In the other complete slots nothing is
+/// delivered.
 pub fn deliveries_are_right()
     ensures { DeliveriesAreRight }
 {}

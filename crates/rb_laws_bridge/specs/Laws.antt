@@ -92,8 +92,8 @@ BeginsOrEnds sc frame r = (frame_in (Some r) ≡ Some frame) ⊎ EndsDeserted sc
 abbrev pub AreUpTo : ℕ → ℕ → List Record → Type 0
 AreUpTo frames frame records = (before after : List Record) (r : Record) → records ≡ before ++ r ∷ after → frame_told frames r ≤ frame
 
--- the first record of a later frame is the one with which the next frame begins, or the last one if
--- no BIU is good there
+-- the first record of a later frame is the one with which the next frame begins; or it is the last
+-- record, and no BIU is good at the start of the next frame
 abbrev pub FramesBeginInOrder : Type 0
 FramesBeginInOrder =
     (sc : Scenario) → IsLawful sc → (hands : List HandIn) (records rest : List Record) (r : Record) (frame : ℕ)
@@ -156,8 +156,9 @@ SoundPairsOutnumber b bank owner frame =
 abbrev pub word_on : Bridge → Bank → ℕ → ℕ
 word_on b bank frame = word_of (delivered_in (bus_on b bank) (hands_on bank (hands_of b)) frame (carried_slot b bank))
 
--- in the next frame each BIU on the far bank that is good in all of it finds the word of the near
--- bus
+-- if no breach of either bus comes up to the end of the next frame, and in it the sound pairs
+-- outnumber the others that count on a bank, each BIU on this bank that is good in all of that
+-- frame finds the word that the bus across the bridge delivered in this frame
 abbrev pub WordsCrossOn : Bridge → Type 0
 WordsCrossOn b =
     (bank : Bank) (frame : ℕ) → AreUnbroken b (frame + 1)

@@ -27,9 +27,9 @@ pub fn frames_are_told_in_order()
     ensures { FramesAreToldInOrder }
 {}
 
-/// In every lawful scenario, once a record of a later frame is given, the next frame begins with
-/// it. If no BIU is good at that frame's start, it is the last of the run, so nothing is handed in
-/// there.
+/// In every lawful scenario, the first record of a later frame is the one with which the next frame
+/// begins; or it is the last of the run, and no BIU is good at that frame's start, so nothing is
+/// handed in there.
 pub fn frames_begin_in_order()
     ensures { FramesBeginInOrder }
 {}

@@ -99,8 +99,8 @@ NodesVoteAlike sc w =
     → (voted : ℕ) → voted < slot → votes_on sc.sizes voted me ≡ true → votes_on sc.sizes voted you ≡ true
     → vote_on (state_of sc mine) voted ≡ vote_on (state_of sc yours) voted
 
--- in the first slot of a frame each node holds convicted whomever all good nodes of the other kind
--- accused in the frame before
+-- in the first slot of the frame after a complete one each running node holds convicted whomever
+-- all good nodes of the other kind accused when they sent their vectors
 abbrev pub NodesConvictWhomAllAccused : Scenario → World → Type 0
 NodesConvictWhomAllAccused sc w =
     (frame : ℕ) → IsComplete sc w.hands frame (sync_slot_of sc.sizes)

@@ -120,10 +120,11 @@ pub fn running_ports_agree()
 
 /// All that is promised of running nodes holds in every world that choices lead to; and in the
 /// rounds, whatever is handed in, every window is timely, good BIUs that are alike have equal
-/// ports, and whoever all good nodes of the other kind accuse is convicted. Running nodes hold such
-/// a node convicted in the next frame. Whom no good node heard has no valid vector. The port of a
-/// good BIU is what the bus's values and the hand-ins make of it, in the rounds after each complete
-/// slot, and at a running BIU as a frame begins, too.
+/// ports, and whoever all good nodes of the other kind accuse when they send their vectors is
+/// convicted when the frame has ended. Running nodes hold such a node convicted in the first slot
+/// of the next frame. Whom no good node heard in a frame has no valid vector in it. The port of a
+/// good BIU is what the bus's values and the hand-ins make of it: in the rounds after each complete
+/// slot, and at a running BIU as a frame begins and after each complete slot.
 pub fn running_nodes_keep_the_promise()
     ensures { RunningNodesKeepThePromiseInLawful }
 {}

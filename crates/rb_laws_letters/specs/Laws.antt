@@ -21,7 +21,7 @@ pub record IsRead (letter : List ℕ) : Type 0 where
 abbrev pub LettersAreRead : Type 0
 LettersAreRead = (letter : List ℕ) → IsLetter letter → IsRead letter
 
--- If words are the first of these letters' words, with zeros anywhere between them, the letters
+-- If words are, apart from any zeros among them, the first of these letters' words, the letters
 -- that they give are the first of these, each whole and once, and all of these if all their words
 -- are there
 pub record GivesTheFirst (letters : List (List ℕ)) (words : List ℕ) : Type 0 where
@@ -32,8 +32,8 @@ abbrev pub WordsGiveTheirLetters : Type 0
 WordsGiveTheirLetters =
     (letters : List (List ℕ)) (words : List ℕ) → All IsLetter letters → IsFirstPart (without_zeros words) (words_of letters) → GivesTheFirst letters words
 
--- What a sender gives are the first words of its letters, with zeros between them, whatever is
--- pushed and whenever it is asked. All the words are there once nothing waits
+-- The words that a sender gives are, apart from any zeros among them, the first words of its
+-- letters, whatever is pushed and whenever it is asked. All the words are there once nothing waits
 pub record SendsItsLetters (s : Sent) : Type 0 where
   pub first : IsFirstPart (without_zeros s.words) (words_of s.taken)
   pub all : s.waiting ≡ [] → without_zeros s.words ≡ words_of s.taken

@@ -8,8 +8,8 @@ pub fn letters_are_read()
     ensures { LettersAreRead }
 {}
 
-/// Words that are the first of some letters' words, with zeros anywhere between them, give the
-/// first of these letters, each whole and once, and all of them if all their words are there.
+/// Words that are, apart from any zeros among them, the first of some letters' words give the first
+/// of these letters, each whole and once, and all of them if all their words are there.
 pub fn words_give_their_letters()
     ensures { WordsGiveTheirLetters }
 {}
@@ -27,9 +27,9 @@ pub fn good_ports_receive_alike()
 {}
 
 /// In every lawful scenario, whatever is handed in: if the sender is good, a good port receives the
-/// words that it offers, each once and in order. If these are the first of some letters' words,
-/// with zeros between them, it receives the first of these letters, each whole and once, and all of
-/// them once all their words were delivered.
+/// words that it offers, each once and in order. If these are, apart from any zeros among them, the
+/// first of some letters' words, it receives the first of these letters, each whole and once, and
+/// all of them once all their words were delivered.
 pub fn good_senders_are_received()
     ensures { GoodSendersAreReceived }
 {}

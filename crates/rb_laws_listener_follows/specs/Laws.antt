@@ -14,8 +14,8 @@ use Rattle.rb_laws_listener_learns.specs.Receivers.{IsCalm}
 use Rattle.rb_laws_listener_follows.specs.InTime.{BeginsNear, HearsTheStage}
 
 -- a listener that begins a frame near the good nodes hears in each window below the sync slot what
--- good RMUs send in it, and nothing else from them: up to the first breach, and also in the stage
--- that breaks the premise
+-- good RMUs send in it, and nothing else from those that are good in the next stage, too: up to the
+-- first breach, and also in the stage that breaks the premise
 abbrev pub RmusAreHeardInTime : Type 0
 RmusAreHeardInTime =
     (sc : Scenario) (hands : List HandIn) → IsLawful sc → (ear : Ear) → IsEar sc ear → HearsTheRun sc hands ear

@@ -15,9 +15,9 @@ pub fn a_frame_after_the_learned_one()
     ensures { IsReachedWell two_frames [] ear 1 decided.lesson.records 2 }
 {}
 
-/// A listener that starts a frame at most `p` reference units from each good node hears in its
-/// window of each stage below the sync slot what good RMUs send in that stage, and nothing else of
-/// them.
+/// A listener that begins a frame at most `p` reference units from each good node hears in its
+/// window of each stage below the sync slot to which the run comes what good RMUs send in that
+/// stage, and nothing else from those that are good in the next stage, too.
 pub fn rmus_are_heard_in_time()
     ensures { RmusAreHeardInTime }
 {}

@@ -49,8 +49,8 @@ EarsAreFedEvents =
     (sc : Scenario) (ear : Ear) (word : ℕ → ℕ) (n : ℕ)
     → told_of sc.sizes sc.plan (now.Searching first_search) (events_from ear word 0 n) ≡ told_from sc ear 0 n
 
--- the frame sought is a frame of the bus. For this no premise on faults is needed but that most
--- RMUs are good
+-- the frame sought is the one after a frame of the bus in which the RMUs called. For this no
+-- premise on faults is needed but that most RMUs are good
 abbrev pub TheFrameSoughtIsReal : Type 0
 TheFrameSoughtIsReal =
     (sc : Scenario) (hands : List HandIn) → IsLawful sc → (ear : Ear) → HearsTheRun sc hands ear
@@ -77,7 +77,7 @@ GoodRmusAreHeardToCall =
 abbrev pub GoodCallsComeTogether : Type 0
 GoodCallsComeTogether = (sc : Scenario) (hands : List HandIn) → IsLawful sc → (ear : Ear) → IsEar sc ear → CallsComeTogether sc hands ear
 
--- no two calls of different frames fall into one pass
+-- no two calls of good RMUs in different frames fall into one pass
 abbrev pub FramesComeApart : Type 0
 FramesComeApart = (sc : Scenario) (hands : List HandIn) → IsLawful sc → (ear : Ear) → IsEar sc ear → LaterCallsComeLater sc hands ear
 
@@ -87,7 +87,8 @@ DecisionsComeAfterTheCalls =
     (sc : Scenario) (hands : List HandIn) → IsLawful sc → (ear : Ear) → IsEar sc ear → HearsTheRun sc hands ear
     → (k : ℕ) → k < ear.ticks → DecidesAfterTheCalls sc hands ear k
 
--- a listener has whole what it learned
+-- if a listener decides, it has recorded all that an RMU, good in the learned frame up to its sync
+-- slot, sent in that frame in the places that are recorded
 abbrev pub RecordsOfTheGoodAreWhole : Type 0
 RecordsOfTheGoodAreWhole =
     (sc : Scenario) (hands : List HandIn) → IsLawful sc → (ear : Ear) → IsEar sc ear → HearsTheRun sc hands ear

@@ -17,7 +17,8 @@ CallsComeTogether sc hands ear =
     → (a b : ℕ) → 1 ≤ a → IsStamp ear.clock (coming_to sc ear i (moment sc hands n).frame s).time a
     → IsStamp ear.clock (coming_to sc ear j (moment sc hands n).frame t).time b → b ≤ a + reach_of sc.plan
 
--- the calls of a later frame come later than these, and by more than that
+-- the calls of good RMUs in a later frame come later than those in an earlier one, by more than the
+-- reach of a pass, those of before the listener's first tick left out
 abbrev pub LaterCallsComeLater : Scenario → List HandIn → Ear → Type 0
 LaterCallsComeLater sc hands ear =
     (m n i j : ℕ) (s t : Sending) → (moment sc hands m).window ≡ 3 * sync_slot_of sc.sizes + 1 → (moment sc hands n).window ≡ 3 * sync_slot_of sc.sizes + 1

@@ -32,8 +32,8 @@ pub record BringsComings (before due after : List Coming) : Type 0 where
 abbrev pub IsHeardIfDue : Scenario → Side → ℕ → ℕ → Coming → Type 0
 IsHeardIfDue sc me i until c = c.time < until → (c.from < count_of (other me) sc.sizes) × (stamp_of (clock_of sc me i) c.time < 2 ^ 31)
 
--- each message on its way to a node that is due comes from a node that there is, with a stamp that
--- the node may have
+-- each message on its way to a node, if it is due, comes from a node that there is, with a stamp
+-- that is a tick which a node may have
 abbrev pub MayBeHeard : Scenario → Side → ℕ → ℕ → Site → Type 0
 MayBeHeard sc me i until s = All (IsHeardIfDue sc me i until) s.coming
 

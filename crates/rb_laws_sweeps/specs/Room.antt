@@ -28,7 +28,7 @@ abbrev pub StoppedStayEmptyInEach : Type 0
 StoppedStayEmptyInEach = (sc : Scenario) → StoppedStayEmpty sc
 
 -- whatever was chosen, room for `most_pending` events at each node is enough also in a world of
--- which that world is ahead
+-- which the reached world is ahead, if at nodes that have stopped in it nothing is pending
 abbrev pub PendingBehindIsFew : Type 0
 PendingBehindIsFew =
     (sc : Scenario) → IsLawful sc → (choices : List Choice) (until : Side → ℕ → ℕ) (w : World) → world_after sc choices ≡ ahead_of sc until w → StoppedHaveNothing w

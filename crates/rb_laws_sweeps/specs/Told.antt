@@ -51,8 +51,9 @@ if_told name (Some s) (Some e) = if same_node e.node name then (record { frame =
 unfoldable pub told_next : Scenario → Side → ℕ → World → List Told
 told_next sc me i w = if_told (name_of me i) (slice_get (of_kind me w.sites) i) (event_at sc w 0)
 
--- node j of kind side, with this site, is told by a run that goes from tick to tick, if node i of
--- kind me has this tick: its own arrivals up to the tick, and the tick
+-- what node j of kind side, with this site, is told by a run that goes from tick to tick, when node
+-- i of kind me has this tick: if it is that node, its own arrivals up to the tick, and the tick;
+-- otherwise nothing
 abbrev pub told_alone : Scenario → World → Side → ℕ → Timed → Side → ℕ → Site → List Told
 told_alone sc w me i a side j s =
     if same_node (name_of me i) (name_of side j)

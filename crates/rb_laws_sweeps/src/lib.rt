@@ -92,9 +92,10 @@ pub fn some_tick_is_first()
 /// whose nodes lacks only arrivals before a time, and the first tick is pending there, takes of the
 /// first due event lead to the tick. One more take, that of the tick, leads to a world that is
 /// ahead of what the tick alone makes of the other: one node is swept, takes its tick, and what
-/// that completes is settled. The times of the nodes only rise. What each node is told in these
-/// takes is what the other world had left for it, then its tick if it is the tick's node, without
-/// what is left behind again. A run may therefore tell a node's arrivals when it takes them.
+/// that completes is settled. The times of the nodes only rise. What the other world had left for a
+/// node, and then what the node is told in these takes, is what the tick alone tells it (its
+/// arrivals up to the tick, and the tick, if it is the tick's node), and then what is left behind
+/// for it after that. A run may therefore tell a node's arrivals when it takes them.
 pub fn worlds_go_on_ahead()
     ensures { WorldsGoOnAhead }
 {}

@@ -39,7 +39,7 @@ EachWindowIsTimely sc hands =
 abbrev pub WindowsAreTimely : Type 0
 WindowsAreTimely = (sc : Scenario) (hands : List HandIn) → IsLawful sc → EachWindowIsTimely sc hands
 
--- good nodes begin a slot at most p apart, and as far as their clocks have drifted since the
+-- good nodes begin a slot at most p apart, plus what their clocks may have drifted apart since the
 -- frame's first tick
 abbrev pub SlotsBeginNear : Type 0
 SlotsBeginNear = (sc : Scenario) (hands : List HandIn) → IsLawful sc → BeginSlotsNear sc hands

@@ -1,6 +1,7 @@
--- One frame, from any states before its sync slot, and whatever nodes that are not good do. If the
--- plan is feasible and good nodes begin the frame within p, all their windows are timely, and they
--- begin the next frame within p.
+-- One frame, from the states before its sync slot, and whatever nodes that are not good do. If the
+-- plan is feasible, good nodes begin the frame within p, find each other eligible and hear each
+-- other, and the fault premise holds in the sync slot, all their windows are timely, and they begin
+-- the next frame within p.
 use Rattle.std.specs.Prelude.{ℕ, zero, suc, ◌≡◌, ◌+◌, ◌-◌, ◌*◌, ◌<◌, ◌≤◌, ◌⊎◌, not, ◌&&◌, Bool, true, false, Some, is_some}
 use Rattle.rb_base.specs.Counting.{count_if, numbers}
 use Rattle.rb_base.specs.Nodes.{Side, other}
@@ -91,9 +92,9 @@ pub record HearsGoodNodes (x : Frame) (q : ℕ) (me : Side) (i j : ℕ) : Type 0
 
 -- What holds before.
 
--- good nodes have good clocks, begin the frame from `low` on and within p, trust each other, accuse
--- none of each other directly, and hear each other in the sync slot. From other nodes anything may
--- come
+-- good nodes have clocks within the plan's drift, and begin the frame from `low` on and within p.
+-- Good nodes of unlike kinds trust each other, accuse none of each other directly, and hear each
+-- other in the sync slot. From other nodes anything may come
 pub record IsFrame (x : Frame) (low : ℕ) : Type 0 where
   pub shape : IsShape x.sizes
   pub plan : IsPlan x.plan
@@ -131,8 +132,8 @@ pub record KeepsPremise (x : Frame) : Type 0 where
 abbrev pub state_in : Frame → ℕ → Side → ℕ → NodeState
 state_in x n me i = state_through x (n - 3 * sync_slot_of x.sizes) me i
 
--- good source j sends in the window of this number at a tick of its own window, and what it sends
--- has a stamp in the window of node i, whatever its delay
+-- good source j has a tick of its own window of this number at which it sends, if it sends in it,
+-- and what is sent then has a stamp in the window of node i, whatever its delay
 pub record IsTimelyMessage (x : Frame) (n : ℕ) (me : Side) (i j : ℕ) : Type 0 where
   pub tick : ℕ
   pub sent : send_tick_of x.sizes x.plan (state_in x n (other me) j) (window_in x n me i).slot (window_in x n me i).stage ≡ Some tick
@@ -140,8 +141,8 @@ pub record IsTimelyMessage (x : Frame) (n : ℕ) (me : Side) (i j : ℕ) : Type 
   pub heard : (time : ℕ) → MayArrive x.plan (x.clock (other me) j) tick time
       → IsTickOf (span_in x n me i) (stamp_of (x.clock me i) time)
 
--- every window of the frame is timely: if a good node listens in it, each good node of the other
--- kind sends in time
+-- every window of the frame is timely: if a good node listens in it, what a good node of the other
+-- kind sends in it, if it sends, is sent and comes in time
 abbrev pub EachMessageIsTimely : Frame → Type 0
 EachMessageIsTimely x =
     (n : ℕ) → n < 3 * sync_slot_of x.sizes + 3
@@ -159,10 +160,11 @@ pub record KeepsTime (x : Frame) : Type 0 where
   pub timely : EachMessageIsTimely x
   pub later : ℕ
   pub next : (me : Side) (i : ℕ) → x.good me i ≡ true → BeginsNext x me i later
-  -- good nodes still trust each other, and accuse none of each other directly
+  -- good nodes of unlike kinds still trust each other, and accuse none of each other directly
   pub eligible : (me : Side) (i j : ℕ) → x.good me i ≡ true → x.good (other me) j ≡ true
       → is_eligible (state_through x 3 me i).far j ≡ true
 
--- a frame that good nodes begin within p is timely, and they begin the next one within p
+-- a frame that good nodes begin within p, and whose sync slot keeps the fault premise, is timely,
+-- and they begin the next one within p
 abbrev pub OneFrameKeepsTime : Type 0
 OneFrameKeepsTime = (x : Frame) (low : ℕ) → IsFrame x low → KeepsPremise x → KeepsTime x

@@ -1,5 +1,5 @@
 -- One stage of the sync slot, whatever nodes that are not good do: where the middle of a good node
--- lies, how near the middles of two are, and that no good node is accused.
+-- lies, how near the middles of two are, and that no good node is accused directly.
 use Rattle.std.specs.Prelude.{ℕ, ◌≡◌, ◌+◌, ◌-◌, ◌<◌, ◌≤◌, ◌==◌, ◌&&◌, ◌⊎◌, not, Bool, true, false, if◌then◌else◌, Option, Some, None, is_some}
 use Rattle.rb_base.specs.Counting.{count_if, numbers}
 use Rattle.rb_base.specs.Nodes.{Side, has}
@@ -18,7 +18,7 @@ use Rattle.rb_rules.specs.Standing.{is_eligible, taken_of}
 use Rattle.rb_rules.specs.SyncStage.{close_sync, expects_call}
 
 -- a node in a stage of the sync slot: its kind and clock, its state before, its window's first
--- tick, and what comes of each source
+-- tick, and what comes from each source
 pub record Listener : Type 0 where
   pub sizes : Sizes
   pub me : Side
@@ -51,8 +51,8 @@ pub record IsCalledBetween (clock : Timeline) (low high : ℕ) (sense : Sense) :
   pub not_early : low ≤ time
   pub not_late : time ≤ high
 
--- good sources call a good node between two times, and more of what it takes comes of them than of
--- others. Of the others anything may come
+-- good sources call a good node between two times, and outnumber the others from which it accepts a
+-- call. From the others anything may come
 pub record HearsGoodCalls (plan : Plan) (good : ℕ → Bool) (low high : ℕ) (x : Listener) : Type 0 where
   pub listening : listens x.me Sync x.stage ≡ true
   pub a_stage : (1 ≤ x.stage) × (x.stage ≤ 3)
@@ -65,7 +65,7 @@ pub record HearsGoodCalls (plan : Plan) (good : ℕ → Bool) (low high : ℕ) (
   pub most : count_if (λ j. not (good j) && is_some (stamp_taken x j)) (numbers 16) < count_if good (numbers 16)
 
 -- the node keeps a middle, whose time is at least `low` and at most a longest tick after `high`;
--- and it accuses none of the good sources
+-- and it accuses none of the good sources directly
 pub record KeepsMiddle (plan : Plan) (good : ℕ → Bool) (low high : ℕ) (x : Listener) : Type 0 where
   pub tick : ℕ
   pub kept : middle_kept x ≡ Some tick
@@ -73,7 +73,8 @@ pub record KeepsMiddle (plan : Plan) (good : ℕ → Bool) (low high : ℕ) (x :
   pub not_late : time_of x.clock tick ≤ high + longest_of plan
   pub accuses_none : (j : ℕ) → good j ≡ true → has (state_after x).far.direct j ≡ false
 
--- validity: the middle of a good node lies among the good calls
+-- validity: the middle of a good node lies between the bounds of the good calls, or at most a
+-- longest tick after them
 abbrev pub MiddlesLieAmongGoodCalls : Type 0
 MiddlesLieAmongGoodCalls =
     (plan : Plan) (good : ℕ → Bool) (low high : ℕ) (x : Listener) → HearsGoodCalls plan good low high x

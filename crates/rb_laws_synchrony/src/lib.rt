@@ -9,7 +9,7 @@ ghost use Rattle.rb_laws_synchrony.specs.OneStage.{MiddlesAreNear, MiddlesLieAmo
 /// In one stage of the sync slot, whatever nodes that are not good do: if good sources call a good
 /// node between two reference times, and the node accepts more from them than from others, the
 /// middle that it keeps is not before the first of these times and at most a longest tick after the
-/// second, and it accuses none of them.
+/// second, and it accuses none of them directly.
 pub fn middles_lie_among_good_calls()
     ensures { MiddlesLieAmongGoodCalls }
 {}
@@ -20,12 +20,13 @@ pub fn middles_are_near()
     ensures { MiddlesAreNear }
 {}
 
-/// One frame, from `p` to `p`, in a feasible plan, from any states before its sync slot, and
-/// whatever nodes that are not good do. If good nodes begin the frame within `p`, trust each other
-/// and do not accuse each other directly, if in each stage of the sync slot they outnumber the
-/// others from which something is accepted, and if no node of one of the kinds is asymmetric, then
-/// every window is timely, good nodes begin the next frame within `p`, and they still do not accuse
-/// each other directly.
+/// One frame, from `p` to `p`, in a feasible plan, and whatever nodes that are not good do. If good
+/// nodes begin the frame within `p`, if those of unlike kinds trust each other, do not accuse each
+/// other directly before the sync slot, and get each other's calls within the delays, if in each
+/// stage of the sync slot they outnumber the others from which something is accepted, and if no
+/// node of one of the kinds is asymmetric, then every window is timely, good nodes begin the next
+/// frame within `p`, and those of unlike kinds still trust each other and do not accuse each other
+/// directly.
 pub fn one_frame_keeps_time()
     ensures { OneFrameKeepsTime }
 {}

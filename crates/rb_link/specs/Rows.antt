@@ -52,7 +52,8 @@ abbrev pub IsSender : ℕ → NodeName → Type 0
 IsSender sender from = (i : ℕ) → i < 16
     → (sender_of (16 * sender + i) ≡ from) × (receiver_of (16 * sender + i) ≡ name_of (other (kind_of from)) i)
 
--- each of the at most 16 delays in the row is that of the sender's pair with this number
+-- the row has at most 16 delays, and each is that of the sender's pair whose number is the delay's
+-- place in the row, at this place of the run
 abbrev pub IsRowOf : ℕ → List Rule → ℕ → Place → List ℕ → Type 0
 IsRowOf base rules sender place row = (i : ℕ) → (delay : ℕ) → slice_get row i ≡ Some delay
     → (i < 16) × (delay ≡ delay_after base rules (sender_of (16 * sender + i)) (receiver_of (16 * sender + i)) place)

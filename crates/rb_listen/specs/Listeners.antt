@@ -42,7 +42,7 @@ pub record IsSearching (s : Search) : Type 0 where
   pub most : s.had ≤ 2 ^ 31
   pub soon : AreSoon s.lesson.records
 
--- what holds of a listener that has waited `had` ticks for its first frame
+-- what holds of a listener that has had `had` ticks and waits for its first frame
 pub record IsWaiting (had : ℕ) (first : First) : Type 0 where
   pub frame : first.frame < 65536
   pub ahead : had ≤ first.epoch

@@ -26,7 +26,8 @@ abbrev pub ticks_in : List Event → ℕ
 ticks_in [] = 0
 ticks_in (e ∷ events) = ticks_given e + ticks_in events
 
--- the numbers are those of a bus, the node is on it, and this number of events can happen there
+-- the numbers are those of a bus with a feasible plan, the node is on it, and these events can
+-- happen there: each of them may, and together they have at most 2^31 ticks
 pub record IsTellable (t : Timetable) (node : NodeName) (events : List Event) : Type 0 where
   pub shape : IsShape t.sizes
   pub plan : IsPlan t.plan

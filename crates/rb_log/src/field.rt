@@ -6,7 +6,7 @@ use crate::refusal::LogRefusal;
 use byteorder::{BigEndian, ByteOrder};
 
 /// The number of the field of one to four bytes at a place. It is refused if the bytes end before
-/// it is whole, and if the number is out of bounds.
+/// it is whole, or if the number is out of bounds.
 #[tactic(auto, unfolding(crate::specs::Fields::field, crate::specs::Fields::number_at))]
 pub(crate) fn field(
     bytes: &[u8],

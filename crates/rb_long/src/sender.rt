@@ -70,7 +70,8 @@ impl LongSender {
     }
 
     /// Takes a letter to be sent after those that wait. It is refused if and only if it has not 1
-    /// to 255 bytes, or else if eight letters are not wholly sent; then nothing changes.
+    /// to 255 bytes (`Length`), or it has and eight letters are not wholly sent (`Full`); then
+    /// nothing changes.
     pub fn push(&mut self, letter: &[u8]) -> Result<(), LongRefusal>
         ensures answer { error_in result ≡ refusal_of self.old letter.now }
         ensures waits { OnOk result (self.new ≡ with_letter self.old letter.now) }

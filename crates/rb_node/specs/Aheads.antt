@@ -23,8 +23,9 @@ pub record IsSooner (had : ℕ) (candidate : Option ℕ) (before after : ℕ) : 
   pub not_before : (k : ℕ) → had ≤ k → k < after → is_tick candidate k ≡ false
   pub either : (after ≡ before) ⊎ (is_tick candidate after ≡ true)
 
--- the earlier of two ticks, if the candidate is the tick of a message of a stage; at one tick the
--- lower stage comes first
+-- the earlier of the tick in `before` and the candidate, which is the tick of a message of this
+-- stage; at one tick the candidate is taken. A candidate that is absent or over at the tick `had`
+-- is ignored
 pub record IsChosen (had : ℕ) (candidate : Option ℕ) (stage : ℕ) (before after : Busy) : Type 0 where
   pub later : had ≤ after.tick
   pub most : after.tick ≤ before.tick

@@ -350,8 +350,8 @@ fn look_anew<K: Kind>(engine: &Engine<K>, ahead: &mut Ahead, had: u64)
     look_ahead(engine, ahead, had);
 }
 
-// The tick of what is said next in a window below the sync slot, or its last tick if nothing is
-// said, if no frame begins in it.
+// The tick of what is said next in a window below the sync slot in which no frame begins, or the
+// window's last tick if nothing is said.
 #[inline(always)]
 fn word_or_end<K: Kind>(engine: &Engine<K>, window: &Window, had: u64, last: u64) -> Busy
     requires index { engine.now.index < 16 }

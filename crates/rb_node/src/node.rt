@@ -284,8 +284,8 @@ impl<K: Kind> Node<K> {
         }
     }
 
-    /// Gives the node a tick, and its act as a whole: the message as bytes of the plan's version,
-    /// 11 or 12, and what was seen of each source.
+    /// Does what `step` does, and returns the act as a whole: the message as bytes of the plan's
+    /// version, 11 or 12, and what was seen of each source if a window was closed.
     pub fn tick(&mut self, word: u32) -> Act
         ensures core { (c : Core) → IsCore self.old c
             → IsCore self.new (tick_of (side_of K.CODE) self.old c word).core }

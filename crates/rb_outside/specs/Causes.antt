@@ -22,6 +22,6 @@ pub record HasCause {T E : Type 0} (before after : ℕ) (result : Result T E) : 
   pub later : before ≤ after
   pub rose : OnErr result (Rose before after)
 
--- if there is a byte to take, at least one is taken
+-- if the call did not fail and there is a byte to take, at least one is taken
 abbrev pub TakesSome : {E : Type 0} → Result ℕ E → List ℕ → Type 0
 TakesSome result bytes = IfOk result (λ n. 0 < length bytes → 0 < n)

@@ -10,7 +10,7 @@ use crate::traits::{Failed, Sink, Source};
 use std::io::{ErrorKind, Read, Write};
 use std::marker::Model;
 
-/// One read, made again if a signal interrupts it, up to 2^64-1 times.
+/// One read, made again if a signal interrupts it, with at most 2^64-1 reads in all.
 fn read_again<R: Read>(reader: &mut R, into: &mut [u8]) -> Result<usize, Failed>
     ensures bound { ReadsAtMost result into.new }
     ensures bytes { ReadConsumes (R.remaining reader.old) (R.remaining reader.new) result into.new }
@@ -25,7 +25,7 @@ fn read_again<R: Read>(reader: &mut R, into: &mut [u8]) -> Result<usize, Failed>
     Err(Failed)
 }
 
-/// One write, made again if a signal interrupts it, up to 2^64-1 times.
+/// One write, made again if a signal interrupts it, with at most 2^64-1 writes in all.
 fn write_again<W: Write>(writer: &mut W, from: &[u8]) -> Result<usize, Failed>
     ensures bound { WritesAtMost result from.now }
     ensures bytes { WriteAppends (W.contents writer.old) (W.contents writer.new) result from.now }
@@ -40,7 +40,7 @@ fn write_again<W: Write>(writer: &mut W, from: &[u8]) -> Result<usize, Failed>
     Err(Failed)
 }
 
-/// A flush, made again if a signal interrupts it, up to 2^64-1 times.
+/// A flush, made again if a signal interrupts it, with at most 2^64-1 flushes in all.
 fn flush_again<W: Write>(writer: &mut W) -> Result<(), Failed>
     ensures { Keeps (W.contents writer.old) (W.contents writer.new) }
 {

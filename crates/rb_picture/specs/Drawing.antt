@@ -43,8 +43,8 @@ unfoldable pub with_cell : Extent → List ℕ → DeliveryLine → List ℕ
 with_cell extent text l =
     with_label (with_box text (cell_area extent l) (cell_look l.sender l.value)) (column_left extent l.slot + cell_width extent / 2) (row_top extent l.frame l.receiver + 15) (word_look l.value) [] (heard_text l.value)
 
--- the mark of a node that begins a frame `after` units after the first; behind the panels it is not
--- drawn
+-- the mark of a node that begins a frame `after` units after the first; it is not drawn for the
+-- frame that would follow the run
 unfoldable pub with_tick : Extent → List ℕ → ℕ → NodeName → ℕ → List ℕ
 with_tick extent text frame node after =
     if is_behind extent frame then text else with_box text (tick_area extent frame node after) (codes "tick")

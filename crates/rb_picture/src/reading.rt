@@ -26,7 +26,7 @@ use std::alloc::Global;
 pub enum Fault {
     /// What begins here is no line of a report.
     NoLine,
-    /// The line does not come after the one before it.
+    /// The place of the line in a report is not behind that of the line before it.
     OutOfOrder,
     /// The bytes end before a line that tells how the run ended.
     NoEnd,
@@ -268,8 +268,8 @@ fn line_length(bytes: &[u8]) -> Option<usize>
     None
 }
 
-// What the bytes begin with, behind the place at which the lines before end: a line, and how many
-// bytes it has.
+// The line with which the bytes begin, and how many bytes it has. Its place in a report must be
+// behind `newest`, the place of the line before it.
 #[tactic(auto, using(crate::proofs::Orders::reading_steps))]
 fn next_line(bytes: &[u8], newest: u64) -> Result<(Line, usize), Fault>
     requires { 0 < length bytes.now }

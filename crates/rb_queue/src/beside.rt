@@ -64,8 +64,9 @@ pub(crate) fn count_takeable(lane: &Lane, more: &[Pending], time: u64) -> usize
     count_tick(lane.tick(), time) + count_beside(more, time, 256, 257)
 }
 
-// The place of what is kept beside the lane of a source and a time, after `others` such arrivals.
-// If there is none, how many of those others are still to be found elsewhere.
+// The place, among what is kept beside the lane, of what comes from a source at a time, after
+// `others` such arrivals. If there is none, how many of those others are still to be found
+// elsewhere.
 fn beside_among(more: &[Pending], time: u64, source: u16, others: usize) -> Result<usize, usize>
     ensures { MatchResult result (λ place. IsBeside (beside_at time more.now source) others more.now place)
         (λ left. left + length (beside_at time more.now source) ≡ others) }

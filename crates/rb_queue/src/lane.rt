@@ -39,7 +39,7 @@ impl Model for Lane {
     ghost invariant = { λ l. IsLane l.kept.items l.start l.room (vec_capacity l.kept) l.latest };
 }
 
-// If those before the start are gone, and there is no room behind, the others move to the front.
+// The arrivals before `start` are gone. If there is no room behind, the others move to the front.
 // Returns the new start.
 #[inline(always)]
 fn make_room(kept: &mut Vec<Arrival>, start: usize, room: usize) -> usize
@@ -244,7 +244,8 @@ impl Lane {
     }
 
     /// The place, among the arrivals in the order of pushing, of the first that is ready, if it is
-    /// due before this time. `None` if and only if nothing is due before then but the tick.
+    /// due before this time. `None` if and only if nothing is due before this time, or the tick is
+    /// what is ready: it is due before all arrivals.
     #[inline(always)]
     pub fn first_before(&self, until: u64) -> Option<usize>
         ensures { IsFirstBefore until self.now result }

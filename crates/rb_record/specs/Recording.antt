@@ -74,7 +74,7 @@ pub record IsRecorded (sc : Scenario) (name : NodeName) (n : ℕ) (k : KeptWorld
   pub stands : Stands k (first_run sc n)
   pub passes : PassesNext fresh_log log [] waiting (given_in sc name n) held since
 
--- the log is recorded so after `records` records and at least as many steps, and the run goes on
+-- the log is recorded so after at least `records` steps, and the run goes on
 pub record IsRecordedSoFar (sc : Scenario) (name : NodeName) (records : ℕ) (k : KeptWorld) (log : Tally) (waiting : List ℕ) (held since : Option (List ℕ)) : Type 0 where
   pub steps : ℕ
   pub many : records ≤ steps

@@ -122,8 +122,8 @@ fn find_tick(log: &mut LogReader<'_>, skip: u32) -> bool
     }
 }
 
-// Gives the listener what is left of the log and writes what it tells, and then the end. `begun`
-// frames have begun.
+// Gives the listener what is left of the log and writes what it tells, and then the end. `first`
+// frames have begun before.
 fn listen_on<S: Sink>(
     mut listener: Listener,
     mut log: LogReader<'_>,

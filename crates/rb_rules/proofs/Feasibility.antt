@@ -71,7 +71,7 @@ a_number : (found : Option ℕ) (n : ℕ) → option_map suc found ≡ Some n �
 a_number None n h = absurd (cc)
 a_number (Some i) n h = (i, refl, cc)
 
--- none is the first that fails if and only if all hold
+-- `first_failing` is none if and only if all seven inequalities hold
 pub feasible_exactly : (sizes : Sizes) (plan : Plan) → (first_failing sizes plan ≡ None) ↔ IsFeasible sizes plan
 feasible_exactly sizes plan =
     let rows : List Sides = inequalities_of sizes plan in

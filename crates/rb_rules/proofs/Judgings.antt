@@ -1,5 +1,6 @@
--- For readers of the laws; no contract cites it yet: whoever was seen unlike was taken: so the
--- three classes leave nothing out, and none of them meets another.
+-- For readers of the laws; no contract cites this yet. If two good receivers saw a node
+-- differently, one of them accepted something from it. So the three classes leave nothing out, and
+-- no two of them have a node in common.
 use Rattle.std.proofs.Common.{◌≡◌, ℕ, Bool, true, false, ◌&&◌, ◌||◌, not, List, [], ◌∷◌, ◌⊎◌, inl, inr, sym, subst, refl}
 use Rattle.std.specs.List.{list_any}
 use Rattle.std.proofs.lemmas.Bool.{and_from, or_cases, or_right}

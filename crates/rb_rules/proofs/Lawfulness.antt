@@ -37,8 +37,8 @@ ticks_by : (below : Bool) (l in_sync offset : ℕ) → (below ≡ true → offse
 ticks_by true l in_sync offset h k = h refl
 ticks_by false l in_sync offset h k = k refl
 
--- the offset lies in all windows below the sync slot, or there are none, and in all stages of the
--- sync slot, or there are none
+-- the offset is in each covered window, if it is in a window of `l` ticks or the slots begin at the
+-- sync slot, and if it is in each covered stage of the sync slot or the slots end before it
 pub lies_in_each : (sizes : Sizes) (plan : Plan) (frames slots stages : ℕ × ℕ) (offset : ℕ)
     → (sync_slot_of sizes ≤ slots.0) ⊎ (offset < plan.l)
     → (slots.1 < sync_slot_of sizes) ⊎ ((stage : ℕ) → is_in_range stages stage ≡ true → offset < ticks_in_sync plan stage)

@@ -10,7 +10,8 @@ use Rattle.rb_base.specs.declared.values.Heard.TheVariants.{Fault}
 use Rattle.rb_base.proofs.Plain.{filter-fewer}
 use Rattle.rb_rules.specs.Owners.{request_in, owners_in_pass, owners_in_passes, owners_of}
 
--- lists that start alike begin alike after a list
+-- if `ys` and `zs` have the same first e items for each e up to d, then `xs ++ ys` and `xs ++ zs`
+-- have the same first d items
 same_beginning : {X : Type 0} (xs ys zs : List X) (d : ℕ) → ((e : ℕ) → e ≤ d → take e ys ≡ take e zs) → take d (xs ++ ys) ≡ take d (xs ++ zs)
 same_beginning [] ys zs d same = same d (omega arith)
 same_beginning (x ∷ xs) ys zs zero same = refl

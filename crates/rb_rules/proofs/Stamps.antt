@@ -13,8 +13,8 @@ one_more : (clock : Timeline) (time stamp : ℕ) → ((tick : ℕ) → tick < st
 one_more clock time stamp before here tick h =
     elim (cases_lt tick stamp) [ inl lt ↦ before tick lt | inr le ↦ let same : tick ≡ stamp = omega arith in rw same here ]
 
--- the search finds the stamp where all ticks before its first are before the time, and it may go on
--- to the time
+-- the search finds the stamp if all ticks before its first are before the time, and `others` is at
+-- least the time that is left from `now` to `time`
 first_among-is : (clock : Timeline) → Moves clock → (others tick now time : ℕ) → now ≡ time_of clock tick → time ≤ now + others
     → ((earlier : ℕ) → earlier < tick → time_of clock earlier < time) → IsStamp clock time (first_among clock others tick now time)
 first_among-is clock moves zero tick now time is enough before = record { reached = omega arith; least = before }

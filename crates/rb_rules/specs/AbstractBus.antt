@@ -59,8 +59,9 @@ IsOfGood sc bus offered (DiagBiu i) value = SparesGood sc bus Rmu value
 IsOfGood sc bus offered (DiagRmu i) value = SparesGood sc bus Biu value
 IsOfGood sc bus offered Sync value = ⊤
 
--- the value that a slot may have: Fault if it is idle, what a good sender says, and any value where
--- the sender is not good; `offered` is the word that each BIU is offered
+-- the value that a slot may have: Fault if it is idle, what the sender says if it is good, and any
+-- value if the sender is not good or each trusted node sends; `offered` is the word that each BIU
+-- is offered
 abbrev pub MayHave : Scenario → AbstractBus → (ℕ → ℕ) → Role → Sender → Heard → Type 0
 MayHave sc bus offered role Nobody value = value ≡ Fault
 MayHave sc bus offered role (Node i) value =
@@ -98,8 +99,8 @@ bus_after_frame sizes low bus = record {
   rmus = without bus.rmus (convicted_on sizes Rmu bus);
 }
 
--- from one frame to the next: a frame takes at least the shortest ticks of all windows, and nobody
--- who is good in the next frame is convicted
+-- from one frame to the next: `low` rises by at least the time of all ticks before the tail if each
+-- has the shortest length, and nobody who is good at the start of the next frame is convicted
 pub record FrameStep (sc : Scenario) (before after : AbstractBus) : Type 0 where
   pub later : before.low + tail_start_of sc.sizes sc.plan * shortest_of sc.plan ≤ after.low
   pub after_is : after ≡ bus_after_frame sc.sizes after.low before

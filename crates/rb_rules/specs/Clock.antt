@@ -33,8 +33,8 @@ pub record ComesBy (last : ℕ) (clock : Timeline) (time : ℕ) : Type 0 where
   pub in_time : tick ≤ last
   pub come : time ≤ time_of clock tick
 
--- the first tick, counted from `tick`, whose time is at least `time`, or the one after `others`
--- more ticks; `now` is the time of `tick`
+-- the first of the `others` ticks from `tick` on whose time is at least `time`, or tick `tick +
+-- others` if there is none among them; `now` is the time of `tick`
 abbrev pub first_among : Timeline → ℕ → ℕ → ℕ → ℕ → ℕ
 first_among clock zero tick now time = tick
 first_among clock (suc others) tick now time =
@@ -55,13 +55,13 @@ abbrev pub are_rising : List (ℕ × ℕ) → Bool
 are_rising [] = false
 are_rising (s ∷ ss) = (s.0 == 0) && rise_above 0 ss
 
--- the length of each segment is within the bounds
+-- the ticks of each segment have a length within the bounds, both included
 abbrev pub are_within : ℕ → ℕ → List (ℕ × ℕ) → Bool
 are_within shortest longest [] = true
 are_within shortest longest (s ∷ ss) = (nat_le shortest s.1 && nat_le s.1 longest) && are_within shortest longest ss
 
--- the clock starts early enough, and its segments begin at tick 0, rise, and have lengths within
--- the bounds
+-- the clock starts early enough, its segments begin at tick 0 and rise, and the lengths of its
+-- ticks are within the bounds
 pub record IsClock (shortest longest : ℕ) (clock : Timeline) : Type 0 where
   pub start : clock.start ≤ 1000000000000
   pub rising : are_rising clock.segments ≡ true

@@ -35,7 +35,7 @@ unfoldable pub convicted_by : ℕ → ℕ → ℕ → (ℕ → Heard) → ℕ
 convicted_by others senders trusted vector =
     set_of (λ j. has trusted j && nat_lt (sparing others senders vector j) (naming others senders vector j))
 
--- the vote of a node of kind me on the vector of node i of kind `senders`
+-- the vote of a node with state `st` on the vector of node i of kind `senders`
 abbrev pub voted_vector : Sizes → Side → NodeState → ℕ → Heard
 voted_vector sizes senders st i = get_or st.votes (first_diagnosis_of senders sizes + i) Fault
 

@@ -122,7 +122,8 @@ act_at sizes plan me index c word =
     let message = said_at sizes plan me index st word c.had in
     act_on sizes plan me index c st message (state_kept sizes me index st word message)
 
--- the act of the next tick; `word` is the request or the word, in case that the node sends it
+-- the act of the next tick; `word` is the request or the word, in case the node sends one. A spent
+-- core does nothing
 unfoldable pub tick : Sizes → Plan → Side → ℕ → Core → ℕ → Act
 tick sizes plan me index c word =
     elim (is_spent c) [

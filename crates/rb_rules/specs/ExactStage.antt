@@ -107,8 +107,8 @@ taken_of_sender EachTrusted c = None
 abbrev pub votes_in : Side → Role → ℕ → Bool
 votes_in me role stage = listens me role stage && not (stage == 1)
 
--- the value with which accepted values are compared: in stage 2 the sender's own, in stage 3 the
--- voter's vote
+-- the value with which a node compares the accepted values: in stage 2, if it is the slot's sender,
+-- the value that it sent; in stage 3, if it votes, its vote; otherwise none
 abbrev pub reference_value : Side → ℕ → NodeState → Role → Sender → ℕ → Closing → Option Heard
 reference_value me index st role sender stage c =
     if (stage == 2) && is_sender me index role sender then st.sent

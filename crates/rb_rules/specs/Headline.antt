@@ -50,7 +50,8 @@ abbrev pub DeliversOneValue : Scenario → List HandIn → ℕ → ℕ → Optio
 DeliversOneValue sc hands frame slot None = HasRecord sc hands frame slot []
 DeliversOneValue sc hands frame slot (Some owner) = (value : Heard) × HasRecord sc hands frame slot (lines_of sc frame slot owner value)
 
--- in each complete slot all good BIUs deliver one value, by the schedule of any good node
+-- in each complete slot below the sync slot that has an owner by the schedule of any good node, all
+-- good BIUs deliver one value; in every other complete slot below the sync slot they deliver none
 abbrev pub DeliverAlike : Scenario → List HandIn → Type 0
 DeliverAlike sc hands =
     (frame slot : ℕ) → slot < sync_slot_of sc.sizes → IsComplete sc hands frame slot
@@ -76,8 +77,8 @@ HoldOneSchedule sc hands =
     → IsGoodBefore sc hands frame slot me i mine → IsGoodBefore sc hands frame slot you j yours
     → mine.owners ≡ yours.owners
 
--- all good nodes hold the same nodes of each kind convicted, in each complete slot and at the start
--- of each frame
+-- all good nodes hold the same nodes of each kind convicted, before each complete slot and at the
+-- start of each frame that is reached
 abbrev pub ConvictAlike : Scenario → List HandIn → Type 0
 ConvictAlike sc hands =
     (frame slot : ℕ) → slot ≤ sync_slot_of sc.sizes → IsSettled sc hands frame slot
@@ -85,7 +86,8 @@ ConvictAlike sc hands =
     → IsGoodBefore sc hands frame slot me i mine → IsGoodBefore sc hands frame slot you j yours
     → (kind : Side) → convicted_of sc.sizes kind me mine ≡ convicted_of sc.sizes kind you yours
 
--- no good node holds a good node convicted, in a complete slot or at the start of a frame
+-- no good node holds a good node convicted, before a complete slot or at the start of a frame that
+-- is reached
 abbrev pub ConvictNoGoodNode : Scenario → List HandIn → Type 0
 ConvictNoGoodNode sc hands =
     (frame slot : ℕ) → slot ≤ sync_slot_of sc.sizes → IsSettled sc hands frame slot

@@ -166,8 +166,8 @@ judged_see time Nothing = Nothing
 judged_see time (Value v) = Value v
 judged_see time (Time stamp) = Time time
 
--- what node i of kind me reports of a stage that it closed in this state, having heard this from
--- each source
+-- what node i of kind me reports of a stage that it closed, having heard this from each source;
+-- `st` is its state after the close
 unfoldable pub row_of : Side → ℕ → NodeState → (ℕ → List Coming) → Closed → Row
 row_of me i st heard c = record {
   place = c.place;

@@ -92,12 +92,12 @@ pub record ClassSets : Type 0 where
   pub symmetric : ℕ  -- not good, and always seen alike
   pub asymmetric : ℕ  -- not good, and seen unlike
 
--- two good receivers saw node j unlike in one of the stages
+-- two good receivers saw node j differently in one of the stages
 abbrev pub is_asymmetric : Side → List JudgedStage → ℕ → Bool
 is_asymmetric kind stages j = list_any (was_unlike kind j) stages
 
--- no good receiver accepted anything from node j in any of the stages. If two saw it unlike, one of
--- them accepted something
+-- no good receiver accepted anything from node j in any of the stages. If two saw it differently,
+-- one of them accepted something
 abbrev pub is_benign : Side → List JudgedStage → ℕ → Bool
 is_benign kind stages j = not (list_any (was_taken kind j) stages)
 

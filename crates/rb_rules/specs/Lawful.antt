@@ -95,7 +95,8 @@ pub record IsDelay (plan : Plan) (delay : ℕ) : Type 0 where
   pub least : plan.dmin ≤ delay
   pub greatest : delay ≤ plan.dmax
 
--- a rule is for messages between nodes of different kinds, in places of the run
+-- a rule is for messages from nodes of one kind to nodes of the other, in places of the run, and
+-- its delay is within the plan's bounds
 pub record IsRuleOf (sc : Scenario) (r : Rule) : Type 0 where
   pub from : IsPatternOf sc.sizes r.from
   pub to : IsPatternOf sc.sizes r.to
@@ -124,7 +125,7 @@ IsContent (Raw bytes) = IsRaw bytes.items
 
 -- An entry is said by a node that is not good at the entry's first place, to nodes of the other
 -- kind, in windows of the run. It comes in each window at one of the window's ticks, or in the sync
--- slot less than a tick before the window
+-- slot less than a tick before one of them
 pub record IsSayOf (sc : Scenario) (s : Say) : Type 0 where
   pub from : IsNodeOf sc.sizes s.from
   pub faulty : is_node_good sc s.from s.frames.0 s.slots.0 ≡ false

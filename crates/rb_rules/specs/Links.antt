@@ -43,7 +43,7 @@ abbrev pub covers : ℕ × ℕ → ℕ × ℕ → ℕ × ℕ → Place → Bool
 covers frames slots stages place =
     is_in_range frames place.frame && is_in_range slots place.slot && is_in_range stages place.stage
 
--- the rule is for messages of this place between these two nodes
+-- the rule is for messages of this place from the first of these nodes to the second
 abbrev pub applies : Rule → NodeName → NodeName → Place → Bool
 applies r from to place = stands_for r.from from && stands_for r.to to && covers r.frames r.slots r.stages place
 

@@ -45,8 +45,8 @@ abbrev pub BeginsFrame : Scenario → List HandIn → ℕ → ℕ → Type 0
 BeginsFrame sc hands frame zero = IsReached sc hands frame
 BeginsFrame sc hands frame (suc slot) = ⊥
 
--- the start of the slot is before the first breach: the slot is complete, or a frame that is
--- reached begins with it
+-- the slot is complete, or a frame that is reached begins with it. In both cases the slot starts
+-- before the first breach
 abbrev pub IsSettled : Scenario → List HandIn → ℕ → ℕ → Type 0
 IsSettled sc hands frame slot = IsComplete sc hands frame slot ⊎ BeginsFrame sc hands frame slot
 

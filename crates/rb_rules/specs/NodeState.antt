@@ -21,7 +21,7 @@ pub record NodeState : Type 0 where
   pub k2 : Option ℕ
   pub k3 : Option ℕ
 
--- the state at the start of a frame has no votes, owners and middles
+-- the state at the start of a frame has no votes, owners or middles
 abbrev pub fresh_state : Sizes → ℕ → ℕ → Standing → ℕ → NodeState
 fresh_state sizes frame epoch far near = record {
   frame = frame;

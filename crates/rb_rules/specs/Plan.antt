@@ -41,8 +41,8 @@ drift_in plan ticks = 2 * plan.r * ticks
 abbrev pub skew_of : Sizes → Plan → ℕ
 skew_of sizes plan = plan.p + drift_in plan (f0_of sizes plan + plan.h)
 
--- the least time that the ticks of a window of `ticks` ticks take after the sending tick; negative
--- if the window has no such tick
+-- the least time from the sending tick, which has offset `h` in the window, to the last tick of a
+-- window of `ticks` ticks; negative if the window ends before the sending tick
 abbrev pub rest_of : Plan → ℕ → ℤ
 rest_of plan ticks = (pos ticks -ℤ pos (1 + plan.h)) *ℤ pos (shortest_of plan)
 

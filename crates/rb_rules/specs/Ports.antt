@@ -4,8 +4,8 @@ use Rattle.rb_base.specs.Counting.{count_if}
 use Rattle.rb_base.specs.declared.values.Heard.{Heard}
 use Rattle.rb_base.specs.declared.values.Heard.TheVariants.{Word, Fault}
 
--- the word that an application offers for a slot: `table` (0) and `counter` (1) offer their state,
--- `follow` (2) its state plus the number of the slot
+-- the word that an application offers for a slot, modulo 2 ^ 32: `table` (0) and `counter` (1)
+-- offer their state, `follow` (2) its state plus the number of the slot
 abbrev pub offered_by : ℕ → ℕ → ℕ → ℕ
 offered_by app state slot = (if app == 2 then state + slot else state) % 2 ^ 32
 

@@ -14,7 +14,7 @@ newest_with evidence frame newest j = if evidence j then frame else newest j
 
 -- the standing says in frame `frame` that the newest evidence against node `j` is of frame `e`: if
 -- node `j` is in `fresh`, `e` is this frame; otherwise `e` is earlier, and `calm` counts the frames
--- between
+-- between, up to 4096
 pub record StandsForNewest (s : Standing) (frame j e : ℕ) : Type 0 where
   pub fresh : has s.fresh j ≡ true → e ≡ frame
   pub earlier : has s.fresh j ≡ false → e < frame

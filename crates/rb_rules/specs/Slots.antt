@@ -47,8 +47,8 @@ has_third_stage (DiagBiu i) = true
 has_third_stage (DiagRmu i) = true
 has_third_stage Sync = true
 
--- the kind that sends in stage 1 listens in stage 2, and the other kind in stages 1 and 3. A kind
--- sends in the stages in which the other kind listens
+-- the kind that sends in stage 1 listens in stage 2, and the other kind in stage 1, and in stage 3
+-- if the slot has a third stage. A kind sends in the stages in which the other kind listens
 abbrev pub listens : Side → Role → ℕ → Bool
 listens me role stage =
     if same_side me (sender_kind role) then stage == 2 else ((stage == 1) || ((stage == 3) && has_third_stage role))
@@ -76,8 +76,9 @@ sender_in bius rmus owners (DiagBiu i) = if_trusted bius i
 sender_in bius rmus owners (DiagRmu i) = if_trusted rmus i
 sender_in bius rmus owners Sync = EachTrusted
 
--- whether a node that listens in a stage expects source j: in stage 1 the sender alone, and each
--- trusted source in the stages in which all relay or repeat
+-- whether a node that listens in a stage expects source j: in an idle slot none; in stage 1 of a
+-- slot with one sender that sender alone; in the other stages, and in each stage of the sync slot,
+-- each trusted source
 abbrev pub expects_of : Sender → ℕ → ℕ → ℕ → Bool
 expects_of Nobody trusted stage j = false
 expects_of (Node i) trusted stage j = if stage == 1 then j == i else has trusted j

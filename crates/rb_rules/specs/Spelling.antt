@@ -50,7 +50,7 @@ body_of (Two bus) m = fields_of m ++ bus ∷ []
 abbrev pub spelling_of : Version → Message → List ℕ
 spelling_of version m = body_of version m ++ check_of (body_of version m) ∷ []
 
--- the bytes are the spelling of the message
+-- the numbers of the message are in range, and the bytes are its spelling
 abbrev pub Spells : Version → List ℕ → Message → Type 0
 Spells version bytes m = IsMessage m × (bytes ≡ spelling_of version m)
 

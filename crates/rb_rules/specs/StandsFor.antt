@@ -59,8 +59,8 @@ abbrev pub SparesAllGood : Scenario → ℕ → ℕ → Side → NodeState → T
 SparesAllGood sc frame slot me st =
     (j : ℕ) → is_good sc (other me) j frame slot ≡ true → (has st.far.direct j ≡ false) × (has st.far.mismatch j ≡ false)
 
--- after the sync slot the node knows the tick of its next epoch, and how many ticks after the epoch
--- of this frame it comes
+-- after the sync slot the node knows the tick of its next epoch, and that tick is within these
+-- bounds after the epoch of this frame, the least included and the greatest not
 pub record FrameTakes (sizes : Sizes) (plan : Plan) (me : Side) (st : NodeState) : Type 0 where
   pub epoch : ℕ
   pub known : new_epoch_of plan me st ≡ Some epoch
@@ -102,7 +102,7 @@ pub record SlotAgrees (sc : Scenario) (hands : List HandIn) (frame slot : ℕ) (
 
 -- What holds of the start of a frame.
 
--- the first time of the bus in a frame is that of a node that starts it
+-- the bus's `low` in a frame is the time at which some good node begins the frame
 pub record IsLow (sc : Scenario) (hands : List HandIn) (frame low : ℕ) : Type 0 where
   pub me : Side
   pub i : ℕ

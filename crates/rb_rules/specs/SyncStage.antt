@@ -1,5 +1,6 @@
--- The sync slot, in which all nodes resynchronize: the BIUs call, the RMUs call at the middle of
--- the BIUs' calls, and the BIUs call once more at the middle of the RMUs' calls.
+-- The sync slot, in which all nodes resynchronize: the BIUs call, the RMUs call a fixed time after
+-- the middle of the BIUs' calls, and the BIUs call once more a fixed time after the middle of the
+-- RMUs' calls.
 use Rattle.std.specs.Prelude.{ℕ, ◌+◌, ◌%◌, ◌==◌, ◌&&◌, Bool, if◌then◌else◌, Option, Some, None, option_map, unwrap_or, map}
 use Rattle.rb_base.specs.Nodes.{Side, other}
 use Rattle.rb_base.specs.Nodes.Side.{Biu, Rmu}
@@ -43,7 +44,8 @@ sync_closing_of s expected sense first =
 abbrev pub expects_call : Side → NodeState → ℕ → ℕ → Bool
 expects_call me st stage j = expects me Sync EachTrusted st.far.trusted stage j
 
--- the middle of a stage, kept if the node listens in the stage
+-- the middle of stage `of_stage` after the close of `stage`: `middle` if the two are the same stage
+-- and the node listens in it, and otherwise `before`
 abbrev pub middle_after : Side → ℕ → Option ℕ → ℕ → ℕ → Option ℕ
 middle_after me of_stage before stage middle = if listens me Sync stage && (stage == of_stage) then Some middle else before
 

@@ -106,8 +106,8 @@ needs_no_event sc (Begin frame) = nobody_good sc frame 0
 needs_no_event sc (Stage place) = nobody_good sc place.frame place.slot
 needs_no_event sc End = true
 
--- the events of the least time, node by node. None may be taken if the next record needs none, nor
--- after the last record
+-- the events of the least time, node by node. None may be taken if the next milestone needs none,
+-- nor after the last record
 unfoldable pub due_of : Scenario → World → List Due
 due_of sc w =
     elim (w.book.ended || needs_no_event sc w.book.upcoming) [
@@ -175,7 +175,7 @@ unfoldable pub after_act : Scenario → List PortState → Side → ℕ → Act 
 after_act sc ports me i x s =
     proceed sc me i (with_epoch sc ports me i x.epoch (with_close me i x.core.state x.closed (record s { core = x.core })))
 
--- a node after the arrival that was at this place. The ticks up to its stamp pass first
+-- a node after the arrival that was at this place. The ticks before its stamp pass first
 unfoldable pub after_arrival : Scenario → Side → ℕ → ℕ → Coming → Site → Site
 after_arrival sc me i place c s = record s {
   core = arrive sc.sizes me (pass_to (stamp_of (clock_of sc me i) c.time) s.core) c.from c.bytes;

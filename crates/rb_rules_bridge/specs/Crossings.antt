@@ -23,7 +23,7 @@ abbrev pub value_in : ℕ → List Delivery → Option Heard
 value_in slot [] = None
 value_in slot (d ∷ ds) = if d.slot == slot then Some d.value else value_in slot ds
 
--- the word of a delivery: 0 if none was delivered, or Fault
+-- the word of a delivery: 0 if none was delivered or if Fault was
 abbrev pub word_of : Option Heard → ℕ
 word_of None = 0
 word_of (Some value) = word_or_0 (word_in value)

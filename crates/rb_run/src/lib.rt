@@ -14,9 +14,9 @@ pub use ending::Ending;
 pub use report::write_run;
 pub use totals::Totals;
 
-/// A drive that keeps its turns (`MemDrive`) and has room for all turns of a run has kept exactly
-/// these after the run; with a mask, these with Fault in place of each value. It still tells its
-/// turns if it did before.
+/// A drive that keeps its turns (`MemDrive`) and has room left for all turns of a run has, after
+/// the run, exactly these behind the turns that it had before; with a mask, these with Fault in
+/// place of each value. It still tells its turns if it did before.
 pub fn mem_drives_keep_the_run()
     ensures { MemDrivesKeepTheRun }
 {}

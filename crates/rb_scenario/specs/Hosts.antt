@@ -21,8 +21,8 @@ app_in _ = None
 abbrev pub is_app : Data → Bool
 is_app d = is_some (app_in (Some d))
 
--- the requests, the words and the applications are each a list with one item for each BIU, or not
--- there
+-- the requests, from 0 to 64, the words, below 2^32, and the applications are each a list with one
+-- such item for each BIU, or not there
 abbrev pub has_lists : ℕ → Members → Bool
 has_lists bius t =
     may_have_list (codes "requests") bius (is_within 0 64) t

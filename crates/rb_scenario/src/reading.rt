@@ -72,8 +72,8 @@ fn base_delay_of(bus: &Bus, table: &Table) -> u32
     number_else(table, "delay", midway, 1, 1000000000) as u32
 }
 
-/// The delays of a document. `DelayBounds` is the answer if and only if one is outside the plan's
-/// bounds.
+/// The delays of a document. `DelayBounds` is the answer only if one is outside the plan's bounds,
+/// and `Ok` only if none is. `OutOfMemory` may be the answer in both cases.
 pub(crate) fn delays_of(
     alloc: Global,
     bus: &Bus,
@@ -98,8 +98,9 @@ pub(crate) fn delays_of(
     }
 }
 
-/// What a document's say entries say. `SayOfGood` is the answer if and only if a node says
-/// something that is good at its first place.
+/// What a document's say entries say. `SayOfGood` is the answer only if a node says something that
+/// is good at its first place, and `Ok` only if none does. `OutOfMemory` may be the answer in both
+/// cases.
 pub(crate) fn sayings_of(
     alloc: Global,
     bus: &Bus,

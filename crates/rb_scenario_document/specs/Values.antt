@@ -51,7 +51,7 @@ range_or default (Some d) = pair_of d
 abbrev pub range_at : List ℕ → ℕ × ℕ → Members → ℕ × ℕ
 range_at key default t = range_or default (get_member key t)
 
--- the value is an array of a number of items, and each passes
+-- the value is an array of `count` items, and each passes
 abbrev pub is_list : ℕ → (Data → Bool) → Data → Bool
 is_list count test d = has_length count d && is_array_of test d
 

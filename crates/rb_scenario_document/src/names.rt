@@ -33,7 +33,7 @@ fn spelled_below(count: u8, digits: &[u8]) -> Option<u8>
     }
 }
 
-/// The number below the count that follows the letter in the text.
+/// The number that follows the letter in the text, if it is below `count`.
 fn named(letter: u8, count: u8, text: &str) -> Option<u8>
     requires { count ≤ 16 }
     ensures value { result ≡ named letter count text.now }

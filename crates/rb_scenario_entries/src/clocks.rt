@@ -138,8 +138,8 @@ fn whole_run(alloc: Global, unit: u32) -> Result<Vec<(u64, u32)>, AllocError>
     Ok(segments)
 }
 
-/// The clock with these segments. `ClockBounds` is the answer if and only if it does not keep the
-/// plan's time.
+/// The clock with these segments. `ClockBounds` is the answer only if it does not keep the plan's
+/// time, and `Ok` only if it does. `OutOfMemory` may be the answer too.
 fn make_clock(
     alloc: Global,
     bus: &Bus,
@@ -235,8 +235,8 @@ fn add_clocks<K: Kind>(
     Ok(())
 }
 
-/// The clocks of all nodes, BIUs first. `ClockBounds` is the answer if and only if one does not
-/// keep the plan's time.
+/// The clocks of all nodes, BIUs first. `ClockBounds` is the answer only if one does not keep the
+/// plan's time, and `Ok` only if all do. `OutOfMemory` may be the answer in both cases.
 #[tactic(auto, unfolding(crate::specs::Clocks::clocks_of))]
 pub fn clocks_of(alloc: Global, bus: &Bus, table: &Table) -> Result<Vec<Clock>, Refusal>
     requires plan { IsPlan bus.now.plan }

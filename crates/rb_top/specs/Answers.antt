@@ -75,8 +75,9 @@ pub record NothingFails (limit : Option ℕ) (input : List ℕ) (reads reads' wr
   pub no_read : ¬ Rose reads reads'
   pub no_write : ¬ Rose writes writes'
 
--- the answers that must be given if the source tells its input. Only out of memory may be the
--- answer in their place
+-- the answers that must be given if the source tells its input and nothing fails; only out of
+-- memory may be the answer in their place. Whatever fails, the answer for a refused input is one of
+-- those that it may have
 pub record CommandCompletes (command : Command) (status : Status) (left : Option (List ℕ)) (reads reads' writes writes' : ℕ) : Type 0 where
   pub ended : (input : List ℕ) (end : Status) → IsLeft command.limit left input → command.is_end input end
       → NothingFails command.limit input reads reads' writes writes' → (status ≡ end) ⊎ (status ≡ answer.OutOfMemory)

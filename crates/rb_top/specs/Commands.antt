@@ -107,7 +107,7 @@ pub record IsAlone (told told' : Option (List Turn)) (status : Status) : Type 0 
   pub done : status ≡ answer.Done
   pub silent : told' ≡ told
 
--- what is told of the turns that the drive gave so far is due, of a run that goes on
+-- what is told of the turns that the drive gave so far is due
 pub record IsReportSoFar (tells : Telling) (input : List ℕ) (is_plain : Bool) (told told' : Option (List Turn)) (text : List ℕ) : Type 0 where
   pub scenario : Scenario
   pub turns : List Turn

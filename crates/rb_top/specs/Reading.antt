@@ -27,7 +27,8 @@ pub record RefusesText (left left' held held' : Option (List ℕ)) : Type 0 wher
   pub refused : BreaksRule input line
   pub written : Appends held held' line
 
--- only the first bytes of that line are written, and the count of the sink's faults rose
+-- the source had no such text left, and a first part of the line that says why is written, perhaps
+-- none and perhaps all of it; the count of the sink's faults rose
 pub record FailsToRefuse (left left' held held' : Option (List ℕ)) (faults faults' : ℕ) : Type 0 where
   pub input : List ℕ
   pub line : List ℕ

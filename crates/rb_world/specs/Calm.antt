@@ -27,7 +27,8 @@ pub record IsRestless (onsets : List (Option (ℕ × ℕ))) (sayings : KeptSayin
   pub first : r.first ≡ first_restless (get_or onsets i None) (first_frame (entries_for sayings (name_of me i)))
   pub last : r.last ≡ last_restless (get_or onsets i None) (last_frame (entries_for sayings (name_of me i)))
 
--- each of the first `count` nodes of kind me is restless as kept
+-- of each of the first `count` nodes of kind me the first and the last frame in which it is
+-- restless are kept
 abbrev pub AreRestless : List (Option (ℕ × ℕ)) → KeptSayings → Side → ℕ → List Restless → Type 0
 AreRestless onsets sayings me count nodes =
     (i : ℕ) → i < count → IsRestless onsets sayings me i (get_or nodes i (record { first = 0; last = 0 }))

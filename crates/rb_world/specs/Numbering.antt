@@ -17,7 +17,8 @@ pub record IsNextRecord (sc : Scenario) (before after : World) (r : Record) : Ty
   pub added : after.book.given ≡ before.book.given ++ r ∷ []
 
 -- An event that is taken gives no record, and then none is added; or it gives the next record. The
--- run has ended if that is the last of a run, and then all records of the rounds are given
+-- run has ended if and only if that is the last of a run, and then all records of the rounds are
+-- given
 pub record TakesInRounds (sc : Scenario) (before after : World) (given : Option Record) : Type 0 where
   pub none : given ≡ None → after.book.given ≡ before.book.given
   pub one : (r : Record) → given ≡ Some r → IsNextRecord sc before after r
@@ -32,7 +33,7 @@ pub record IsLastAgain (sc : Scenario) (before after : World) (r : Record) : Typ
   pub stays : after ≡ before
 
 -- Until the run has ended the next record is given, and after that the last one again. The run has
--- ended if it is the last of a run, and then all records of the rounds are given
+-- ended if and only if it is the last of a run, and then all records of the rounds are given
 pub record GivesInRounds (sc : Scenario) (before after : World) (r : Record) : Type 0 where
   pub going : before.book.ended ≡ false → IsNextRecord sc before after r
   pub over : before.book.ended ≡ true → IsLastAgain sc before after r

@@ -85,7 +85,8 @@ pub record AlongTold (S : Type 0) (step : S → Told → S → Type 0) (name : N
   pub was : WasTold S step a held b
   pub all : told_to sc name on.steps (record { world = w0; draws = d }) ≡ held ++ left_for sc until on.back.sites name
 
--- the observer was told all steps, of which the last may have given a record
+-- The observer was told all steps, of which the last may have given a record, but for what is left
+-- behind
 pub record ComesTold (S : Type 0) (step : S → Told → S → Type 0) (name : NodeName) (a b : S) (sc : Scenario) (kept : Each KeptSite) (scene : Scene) (until : Side → ℕ → ℕ) (n : ℕ) (w0 : World) (d : ℕ) (turn : Turn) : Type 0 where
   pub on : Comes sc kept scene until n w0 d turn
   pub held : List Told

@@ -226,7 +226,8 @@ pub record Along (sc : Scenario) (kept : Each KeptSite) (scene : Scene) (until :
   pub going : back.book.ended ≡ false
   pub quiet : (m : ℕ) → 1 ≤ m → m ≤ steps → (after_steps sc First m (record { world = w0; draws = d })).world.turn ≡ None
 
--- one step more or some were taken, of which the last has this turn
+-- n + 1 steps or more were taken, of which only the last may have given a record: its turn is this
+-- one. What is kept now stands for a world behind
 pub record Comes (sc : Scenario) (kept : Each KeptSite) (scene : Scene) (until : Side → ℕ → ℕ) (n : ℕ) (w0 : World) (d : ℕ) (turn : Turn) : Type 0 where
   pub others : ℕ
   pub many : n ≤ others

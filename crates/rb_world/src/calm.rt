@@ -30,7 +30,8 @@ fn restless_in(onset: Option<(u32, u16)>, first: u64, last: u64) -> Restless
     }
 }
 
-/// The restless nodes among the first `count` of a kind.
+/// For each of the first `count` nodes of a kind, at its number, the frames in which it may not be
+/// good or something may be said to it.
 pub(crate) fn restless_nodes<K: Kind>(
     count: u8,
     onsets: &[Option<(u32, u16)>; 16],

@@ -119,7 +119,7 @@ impl World {
         self.last = last_of(turn);
     }
 
-    // The run goes on to its next record if no node is observed. It is a call of its own, so that
+    // The run goes on to its next record, with no node observed. It is a call of its own, so that
     // the turn which `next` gives is made where it is wanted, and not copied.
     #[inline(never)]
     fn run_unobserved(&mut self, apps: &Apps, turn: &mut Turn)

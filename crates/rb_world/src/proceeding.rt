@@ -56,7 +56,8 @@ fn stop_at(bus: &Bus, node: NodeName, scene: &mut Scene)
     }
 }
 
-// The node goes on to its next tick if it may stop, or be told something, in a window that begins.
+// The node goes on to its next tick, as in `proceed`. This is the way for a node that may stop, or
+// be told something, in a window that begins.
 #[inline(always)]
 fn proceed_in_full<K: Kind>(bus: &Bus, node: NodeName, site: &mut Site<K>, scene: &mut Scene)
     requires name { node ≡ name_of (side_of K.CODE) (number_of site.old) }

@@ -197,7 +197,7 @@ fn catch_up_at<K: Kind, T: Observer>(
     sweep_for(setup, node, until, site, agenda, observer);
 }
 
-// Sweeps every node of one kind.
+// Sweeps every node of one kind up to the tick of a node at a time.
 fn catch_up_all<K: Kind, T: Observer>(
     setup: &Setup<'_>,
     tick: (NodeName, u64),

@@ -24,9 +24,9 @@ use rb_base::{Kind, NodeName};
 use rb_port::Apps;
 use rb_world_book::{Turn, Way};
 
-// Whether the node, which is not the one that is observed, may take in unstamped what came to it
-// before its next tick: that ends a window of a slot before the sync slot, and gives the same for
-// any stamps. This is the short cut "sweep without stamps" of docs/PERFORMANCE.md.
+// Whether the node is not the one that is observed, and may take in unstamped what came to it
+// before its next tick: that tick ends a window of a slot before the sync slot, and gives the same
+// for any stamps. This is the short cut "sweep without stamps" of docs/PERFORMANCE.md.
 #[inline(always)]
 fn needs_no_stamps<K: Kind>(node: NodeName, observed: Option<NodeName>, site: &Site<K>) -> bool
     ensures other { IsTrue result → (name : NodeName) → observed ≡ Some name

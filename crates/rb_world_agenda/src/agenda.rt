@@ -26,9 +26,9 @@ use std::marker::Model;
 #[derive(Drop)]
 pub struct Agenda {
     lanes: RunLanes,
-    // For each node, by its position, the mark of its tick: the time times 32 and the position if
-    // the time is below 2^59, and otherwise 2^64 - 1. All 32 are there, also of positions without a
-    // node.
+    // For each node, by its position, the mark of its tick: 32 times the time, plus the position,
+    // if the time is below 2^59, and otherwise 2^64 - 1. All 32 are there, also of positions
+    // without a node.
     ticks: Marks,
     bius: usize,
     nodes: usize,
@@ -182,7 +182,7 @@ impl Agenda {
 
     /// The place, among the arrivals of the node in the order of pushing, of the first that is
     /// ready, if it is due before this time. `None` if and only if nothing is due at the node
-    /// before then but its tick.
+    /// before this time, or its tick is what is ready: it is due before all arrivals at the node.
     #[inline(always)]
     pub fn first_before(&self, node: NodeName, until: u64) -> Option<usize>
         requires in_shape { HasLane self.now node }

@@ -8,8 +8,8 @@ ghost use Rattle.rb_world_agenda.specs.Fours.{AreFours, four_at};
 #[derive(Drop)]
 pub struct Marks {
     pub(crate) all: [u64; 32],
-    // The least of each four marks. It is not kept for the four that are open: there is the last
-    // number in its place.
+    // The least of each four marks. It is not kept for the four that are open: 2^64 - 1 is in its
+    // place.
     pub(crate) leasts: [u64; 8],
     // Which four are open.
     pub(crate) opened: usize,

@@ -6,8 +6,8 @@ use Rattle.rb_world_book.specs.declared.milestone.Milestone.{Milestone}
 use Rattle.rb_world_book.specs.declared.told.Told.{Told}
 use Rattle.rb_world_book.specs.Telling.{has_told}
 
--- this is what the node told last now, and the node is awaited if it is good and has not told of
--- the milestone
+-- this is what the node told last now, and the node is awaited if and only if it is good and has
+-- not told of the milestone; the other nodes are awaited as before
 pub record IsNoted {K : Type 0} (before after : Group K) (node : ℕ) (m : Milestone) (t : Told) : Type 0 where
   pub told : after.told ≡ slice_set before.told node t
   pub good : after.good ≡ before.good

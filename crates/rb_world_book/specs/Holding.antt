@@ -53,8 +53,8 @@ IsComing sc (Begin frame) = frame ≤ sc.frames
 IsComing sc (Stage place) = IsStageOf sc place
 IsComing sc End = Unit {0}
 
--- a node is good to the end of a frame, `lasting` being the nodes that are, if the upcoming
--- milestone is a stage of it
+-- the upcoming milestone is a stage of this frame, and node j is good to the end of the frame:
+-- `lasting` are the nodes that are
 pub record Lasts (m : Milestone) (frame lasting j : ℕ) : Type 0 where
   pub place : Place
   pub upcoming : m ≡ Stage place
@@ -72,7 +72,8 @@ pub record HoldsKind {K : Type 0} (sc : Scenario) (kind : Side) (m : Milestone) 
   -- what each node saw of each source in its latest stage
   pub saw : ℕ → ℕ → See
   pub rows : map (λ s. s.row) (of_kind kind sites) ≡ map_from 0 (λ i t. row_seeing (saw i) t) (take (count_of kind sc.sizes) g.told)
-  -- what is kept of sources that are not good to the end of their frame
+  -- what is kept of what node i saw of source j in its latest stage, if j is not good to the end of
+  -- the frame of that stage
   pub sights : (i j : ℕ) → is_good sc (other kind) j (told_at g.told i).place.frame (sync_slot_of sc.sizes) ≡ false → saw i j ≡ see_of (told_at g.told i) j
   pub begins : map (λ s. s.begun) (of_kind kind sites) ≡ map (begun_told kind) (take (count_of kind sc.sizes) g.told)
   -- nobody sees nodes that are not on the bus

@@ -16,11 +16,11 @@ use Rattle.rb_world_book.specs.declared.milestone.Milestone.{Milestone}
 use Rattle.rb_world_book.specs.declared.told.Told.{Told}
 use Rattle.rb_world_book.specs.Telling.{begun_told, has_told, row_seeing, row_told, see_of, told_at}
 
--- the good ones of the first `count` nodes that have not told of a milestone
+-- those of the first `count` nodes that are good and have not told of a milestone
 unfoldable pub waiting_for : ℕ → ℕ → Milestone → List Told → ℕ
 waiting_for count good m told = set_of (λ i. nat_lt i count && (has good i && not (has_told m (told_at told i))))
 
--- the first `count` nodes that are not in a set
+-- those of the first `count` nodes that are not in a set
 abbrev pub all_but : ℕ → ℕ → ℕ
 all_but count out = set_of (λ j. nat_lt j count && not (has out j))
 
@@ -35,7 +35,7 @@ row_if place good t = elim good [ true ↦ row_for place (row_told t) | false �
 abbrev pub row_at : ℕ → Place → ℕ → Told → Option Row
 row_at good place i t = row_if place (has good i) t
 
--- node i's row of a stage, if each node saw this
+-- node i's row of a stage, if it is good and told of it, each node having seen this
 abbrev pub row_saw : (ℕ → ℕ → See) → ℕ → Place → ℕ → Told → Option Row
 row_saw saw good place i t = elim (has good i) [ true ↦ row_for place (row_seeing (saw i) t) | false ↦ None ]
 

@@ -29,7 +29,7 @@ pub struct Group<K> {
     pub counted: NodeSet<K>,
 }
 
-/// The first `count` nodes that are not in the set.
+/// The nodes with numbers below `count` that are not in the set.
 pub(crate) fn all_but<K: Copy>(count: u8, set: NodeSet<K>) -> NodeSet<K>
     requires { count ≤ 16 }
     ensures { result ≡ all_but count set }

@@ -40,7 +40,7 @@ fn is_awaited(told: &Told, milestone: Milestone) -> bool
     !told.has_told(milestone)
 }
 
-/// The good ones of the first `count` nodes that have not told of the milestone.
+/// The nodes below `count` that are good and have not told of the milestone.
 pub(crate) fn waiting_for<K: Copy>(
     count: u8,
     good: NodeSet<K>,
@@ -97,7 +97,7 @@ fn slot_line(told: &Told, place: Place) -> Option<SlotLine>
     }
 }
 
-/// Adds the lines of the good ones of the first `count` nodes that began the frame.
+/// Adds the lines of the nodes below `count` that are good and began the frame.
 pub(crate) fn add_node_lines<K: Copy>(
     lines: &mut ArrayVec<NodeLine, 32>,
     count: u8,
@@ -118,7 +118,7 @@ pub(crate) fn add_node_lines<K: Copy>(
     }
 }
 
-/// The ports of the good ones of the first `count` BIUs that began the frame.
+/// The ports of the BIUs below `count` that are good and began the frame.
 pub(crate) fn port_lines<K: Copy>(
     count: u8,
     good: NodeSet<K>,
@@ -166,8 +166,8 @@ fn trusted_in(told: &Told, place: Place) -> Option<(u16, u16)>
     }
 }
 
-/// The trusted nodes of both kinds, as masks, as the first good one of the first `count` nodes that
-/// told of a stage held them.
+/// The trusted nodes of both kinds, as masks, as they were held by the first of the nodes below
+/// `count` that is good and told of a stage; None if there is no such node.
 pub(crate) fn first_trusted<K: Copy>(
     count: u8,
     good: NodeSet<K>,

@@ -61,7 +61,7 @@ fn is_good_among(
     index < count && is_before(onset_at(onsets, index), frame, slot)
 }
 
-// The nodes among the first `count` that are good in this slot of this frame.
+// The nodes with numbers below `count` that are good in this slot of this frame.
 fn good_among<K: Copy>(
     count: u8,
     onsets: &[Option<(u32, u16)>; 16],

@@ -122,8 +122,8 @@ fn add_list(lists: &mut Vec<Numbers>, list: Numbers) -> Result<(), OutOfMemory>
     lists.push(list).map_err(|_| OutOfMemory)
 }
 
-// For each of the first `count` nodes of the kind that `sender` sends to, the numbers of its
-// entries.
+// For each of the first `count` nodes of the kind that `sender` sends to, the numbers of the
+// entries for it, from the first `senders` nodes of `sender`'s kind.
 pub(crate) fn lists_for(
     alloc: Global,
     says: &SayList,

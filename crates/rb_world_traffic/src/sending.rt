@@ -100,8 +100,9 @@ fn spread(
     }
 }
 
-// Sends the message to every receiver, by the row of delays and the message as all get it. If it is
-// called for a BIU or an RMU alone, the kind of the receivers is known when it is compiled.
+// Sends the message to each node of the other kind that is in `running`, by the row of delays and
+// the message as all get it. If it is called for a BIU or an RMU alone, the kind of the receivers
+// is known when it is compiled.
 #[inline(always)]
 fn spread_from(
     agenda: &mut Agenda,

@@ -7,6 +7,7 @@ pub record Held : Type 0 where
   pub bytes : List ℕ
   pub failed : Bool
 
--- the sink's count of faults goes to the end at the first of them
+-- the sink's count of faults: 0 before the first of them, and from then on the last count that
+-- there is
 abbrev pub faults_of : Held → ℕ
 faults_of sink = if sink.failed then last_count else 0

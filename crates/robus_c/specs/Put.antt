@@ -27,7 +27,7 @@ pub record IsAnswered (Says : List (List ℕ) → List ℕ → List ℕ → ℕ 
   pub says : Says words input output number
   pub put : IsPut number output before after answer
 
--- the call answers, or memory runs out, and nothing is put there
+-- the call answers; or memory runs out, and then nothing is put there
 abbrev pub MayAnswer : (List (List ℕ) → List ℕ → List ℕ → ℕ → Type 0) → List (List ℕ) → List ℕ → List ℕ → List ℕ → Answer → Type 0
 MayAnswer Says words input before after answer = IsPut 7 [] before after answer ⊎ IsAnswered Says words input before after answer
 

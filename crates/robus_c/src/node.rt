@@ -63,7 +63,7 @@ pub extern "C" fn robus_node_tick(
 }
 
 /// The number of the first tick from the next on that is not quiet; 2^31 if that would not be below
-/// 2^31, and if there is no node.
+/// 2^31, or if there is no node.
 #[unsafe(no_mangle)]
 pub extern "C" fn robus_node_next_tick(alloc: Global, node: &mut Handle) -> u64
     ensures next { IfSome (node_in node.old) (λ n. IsNextTick n result) }
