@@ -157,7 +157,7 @@ fn nothing_of<K: Copy>(due: NodeSet<K>) -> Partial<K>
 
 // Accepts what came from those sources of the set that are left. There is one arrival from each.
 // The sources are taken in runs: the first source that is left is read, and what it said is
-// accepted from all after it that spell as it does.
+// accepted from those after it, up to the first that spells otherwise.
 #[inline(never)]
 fn take_runs<K: Copy>(
     inbox: &Inbox<K>,

@@ -216,8 +216,8 @@ fn sooner_call<K: Kind>(before: Busy, had: u64, engine: &Engine<K>, slot: u16) -
     sooner_send(second, had, engine, slot, 1)
 }
 
-// The earlier of `before` and the tick of the node's message in any window, which ends no sooner
-// than the tick before.
+// The earlier of `before` and the tick of the node's message in any window. If the window is not
+// over, it ends no sooner than the tick of `before`.
 #[inline(always)]
 fn sooner_said<K: Kind>(before: Busy, had: u64, engine: &Engine<K>, window: &Window) -> Busy
     requires had { had ≤ before.tick }

@@ -141,8 +141,8 @@ pub record IsTickReady (time : ℕ) (lane : Held) : Type 0 where
   pub ready : ready_of lane ≡ Ticks ∷ []
   pub tick : lane.tick ≡ Some time
 
--- the place of the first arrival that is ready, if it is due before this time. If there is none,
--- nothing but the tick is due before then
+-- the place of the first arrival that is ready, if it is due before this time. There is none if
+-- nothing is due before this time, or if the tick is what is ready
 abbrev pub IsFirstBefore : ℕ → Held → Option ℕ → Type 0
 IsFirstBefore until lane None = (time : ℕ) → head_of lane ≡ Some time → (until ≤ time) ⊎ IsTickReady time lane
 IsFirstBefore until lane (Some place) = IsReadyBefore until lane place

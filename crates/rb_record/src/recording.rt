@@ -65,10 +65,10 @@ fn record_run<K: Sink>(
 /// of what a node of the bus is given in it: the header, the records of the events, and the end.
 /// What is complete of the log waits until a frame of the run begins, or until it is more than
 /// 4,096 bytes, and is then written at once. The log has the node's events up to its first tick of
-/// the frame after the last; with a breach, and at a node that turns faulty, it ends where those
-/// end before. `Failed` is the answer only if a write failed; a first part of the log has then been
-/// written. The world must be as `World::open` gives it. Nothing is kept of what is written, and no
-/// memory is taken.
+/// the frame after the last; with a breach, or at a node that turns faulty, those events end
+/// earlier, and the log ends with the last of them. `Failed` is the answer only if a write failed;
+/// a first part of the log has then been written. The world must be as `World::open` gives it.
+/// Nothing is kept of what is written, and no memory is taken.
 pub fn record<K: Sink>(
     world: &mut World,
     apps: &Apps,

@@ -300,8 +300,8 @@ impl EntryTest for SaysNothing {
     }
 }
 
-/// Whether a key that must be there is not: at the root, or in a table that is at a place for one.
-/// A say entry must have one of the keys that say something.
+/// Whether a key that must be there is not: at the root, or in a table that is at a place where a
+/// table belongs. A say entry must have one of the keys that say something.
 #[tactic(auto, unfolding(crate::specs::Forms::lacks_key))]
 pub fn lacks_key(table: &Table) -> bool
     ensures { result ≡ lacks_key (table_view table.now) }

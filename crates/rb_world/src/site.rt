@@ -22,8 +22,8 @@ use rb_rules::{Message, NodeLine};
 use std::marker::Model;
 
 /// One node of a world, for both kinds by one code: its core, whether it runs, and for each source
-/// the reference time of the last message that came from it. If one message came from a source
-/// since the last close, that is its time.
+/// the reference time of what came from it last, a message or other bytes. If exactly one thing
+/// came from a source since the last close, that is its time.
 #[derive(Drop)]
 pub struct Site<K: Kind> {
     node: Node<K>,
@@ -55,7 +55,7 @@ fn pass_to<K: Kind>(node: &mut Node<K>, k: u64)
     }
 }
 
-// Keeps the time of the last message from a source. No other number is that of a source.
+// Keeps the time of what came from a source last. No other number is that of a source.
 fn keep_time(times: &mut [u64; 16], from: u8, time: u64)
     ensures { times.new ≡ slice_set times.old from time }
 {
@@ -100,7 +100,7 @@ impl<K: Kind> Site<K> {
         &self.node
     }
 
-    /// For each source the reference time of the last message from it.
+    /// For each source the reference time of what came from it last, a message or other bytes.
     pub fn times(&self) -> &[u64; 16]
         ensures { result.now ≡ self.now.times }
     {
