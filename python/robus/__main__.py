@@ -19,7 +19,8 @@
     run, check, letters, record, group, replay, listen, gen, stress, spell, bridge, picture
               the programs' own words, by the engine that docs/LIBRARY.md says
 
-None of them is proved but for the programs that they run."""
+The tools are not proved. A program that they run is proved if make build built it, and a library if
+make library did."""
 import importlib
 import os
 import sys

@@ -54,7 +54,7 @@ class Bus:
         return isinstance(self._last, (Ended, Breach))
 
     def next(self) -> Record:
-        """The next record. After the last one, Ended or Breach, that one comes again."""
+        """The next record. After the last one, Ended or Breach, it returns that one again."""
         if self._run is None:
             raise BusError(NO_BUS)
         if self.is_over:
@@ -67,7 +67,8 @@ class Bus:
         return record
 
     def next_slot(self) -> Union[Slot, Ended, Breach]:
-        """Goes on to the next slot in which something is delivered, or to the last record."""
+        """Goes on to the next slot in which something is delivered, or to the last record. If it
+        passes over the start of a frame, no word can be handed in until the next one begins."""
         while True:
             record = self.next()
             if not isinstance(record, Frame) and (not isinstance(record, Slot)
@@ -75,8 +76,8 @@ class Bus:
                 return record
 
     def next_frame(self) -> Union[Frame, Ended, Breach]:
-        """Goes on to the start of the next frame, or to the last record. `delivered` is then what
-        the slots on the way delivered."""
+        """Goes on to the start of the next frame, or to the last record. `delivered` then has the
+        deliveries of the frame before."""
         while True:
             record = self.next()
             if not isinstance(record, Slot):

@@ -42,8 +42,8 @@ latencies by the number and kinds of faulty nodes.
 --jobs N runs N workers at a time, as many as there are processors if it is not given. --unit is the
 time of a reference unit, as 1ps: the summary has times in seconds then. What is not named here, as
 --sshlogin 8/host, goes to GNU parallel as it is, which then starts the workers. Options of this
-tool may be before FOLDER, too. The same line again goes on where the last run stopped; a greater
-COUNT adds to it.
+tool may be before FOLDER, too. If the same line is called again, it goes on where the last run
+stopped; with a greater COUNT it adds scenarios.
 
 The scenarios are run by the library or the proved program (make build), or if none is up to date by
 an unproved build that tools/quick has kept. --model, which is --engine model, runs them by

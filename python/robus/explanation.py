@@ -18,10 +18,10 @@ HELP = """Explains a run: at a breach the class of each node with the stage and 
 show it; how near the fault premise came to a breach, and where; for each conviction the vectors
 that name the node and the evidence behind them; for each other node that is faulty or accused why
 it is not convicted; and whom faulty nodes name in their vectors. With FRAME and SLOT it prints what
-each good node said, heard, took and voted in each stage of that slot, and how the premise stood
-after it. With --unit U, the time of a reference unit, as 1ps, it prints times beside ticks.
---words and --letter hand words to BIUs, as tools/simulate does. It runs the scenario on
-tools/model, a second model of the bus, and not on the proved program. It is not proved."""
+each good node said, heard, took (accepted) and voted in each stage of that slot, and what the
+premise counts after it. With --unit U, the length of a reference unit, as 1ps, it prints times
+beside ticks. --words and --letter hand words to BIUs, as tools/simulate does. It runs the scenario
+on tools/model, a second model of the bus, and not on the proved program. It is not proved."""
 
 OUTNUMBER = "do not outnumber the other trusted ones that were heard in this frame"
 CAUSES = {"FewGoodBiu": f"the good BIUs {OUTNUMBER}", "FewGoodRmu": f"the good RMUs {OUTNUMBER}",

@@ -31,15 +31,15 @@ A node expects its own word back from those that relay it, and accuses each that
 Its accusations go into its vectors, and these count in convictions. So it matters what the liar
 believes it said. A lie that all receivers are told alike is told to the liar too, which then
 accuses nobody for it. If receivers are told different things, the liar keeps the right word and
-accuses all that relay a lie, unless a lie names self among its NODES: then it keeps that one. With
+accuses all that relay a lie. If a lie names self among its NODES, the liar believes that lie. With
 --unaware it always keeps the right word, like a node whose transmitter is broken. A liar that
 breaks the protocol, by silence for example, is ignored from then on by those that notice, and
 accuses them when its own word does not come back. The head of the output and lines on standard
 error say whom the liars accuse.
 
 The entries go behind the scenario: cat bus.toml lies.toml | robus run. The nodes must have no
-[[fault]] entry yet. Name all liars of a run in one call: entries that were written before do not
-follow what others say later.
+[[fault]] entry yet. Name all liars of a run in one call: the entries of an earlier call do not
+take account of what the nodes of a later call say.
 
 status: 0 done, 2 wrong words or no such file, 3 the scenario is refused, 4 it is too long"""
 

@@ -11,12 +11,13 @@ from robus.units import Unit, behind
 
 Masks = tuple[int, ...]  # by kind a mask of nodes
 
-HELP = """Prints the frame of a scenario, a line a slot: its number, what it is for, its stages with
-who speaks in each, and the owner of a data slot as far as the requests fix it: while all BIUs are
-good and none is convicted. With --frame F it prints the owners that good nodes hold in that frame
-of the run, for which it runs the scenario on tools/model. A slot without an owner, or whose sender
-is convicted, is idle: nobody speaks or listens in it. With --unit U, the time of a reference unit,
-as 1ps, it prints the tick and the time at which each slot begins, too. It is not proved."""
+HELP = """Prints the frame of a scenario, a line for each slot: its number, what it is for, and its
+stages with who speaks in each. The owner of a data slot is that by the requests, as long as all
+BIUs are good and none is convicted. With --frame F it is the owner that good nodes hold in frame F
+of the run, for which the tool runs the scenario on tools/model. A slot without an owner, or whose
+sender is convicted, is idle: nobody speaks or listens in it. With --unit U, the length of a
+reference unit, as 1ps, it prints also the tick and the time at which each slot begins. It is not
+proved."""
 
 
 def purpose(bus: model.Bus, slot: int) -> str:

@@ -139,12 +139,12 @@ class Node:
         node.pass_(node.next_tick() - node.had)
         act = node.tick()
 
-    Ticks are counted from 0 by the node's own clock; what time they take is the caller's. What
-    comes before a tick is handed over by `arrive` before it. Ticks at which nothing happens may be
-    left to `pass_`. Of the scenario only sizes, plan, version, bus and probation are read. The node
-    stays in the thread that made it. Refused is raised if a key is missing, unknown or of another
-    form, NoNode if the plan is not feasible or the bus has no such node, and NoEngine if
-    librobus.so is not there."""
+    Ticks are counted from 0 by the node's own clock; the caller decides how long each takes. For
+    each message that arrives before a tick, call `arrive` before `tick`. Ticks at which nothing
+    happens may be left to `pass_`. Of the scenario only sizes, plan, version, bus and probation are
+    read. The node stays in the thread that made it. Refused is raised if a key of the root or of
+    the plan is missing, unknown or of another form, NoNode if the plan is not feasible or the bus
+    has no such node, and NoEngine if librobus.so is not there."""
 
     def __init__(self, scenario: Source, name: str, *, engine: Which = None):
         self.name, self.had = name, 0
@@ -159,7 +159,7 @@ class Node:
 
     def arrive(self, source: Union[str, int], data: bytes) -> None:
         """Bytes come from a node of the other kind, by its name or its number, 0 to 255: a message
-        or any others. They count as come before the next tick. A number that no node has changes
+        or any others. They count as arrived before the next tick. A number that no node has changes
         nothing."""
         if isinstance(source, str):
             number = arguments.node("source", source, "R" if self.name[0] == "B" else "B")[1]
@@ -192,7 +192,7 @@ class Node:
     def next_tick(self) -> Optional[int]:
         """The number of the first tick from the next on at which something happens: a frame begins,
         the node speaks, or a window ends. None if the node comes to its last tick before that.
-        It does not depend on what comes."""
+        It does not depend on what arrives."""
         tick = self._calls.robus_node_next_tick(self._handle)
         return tick if tick < NO_TICK else None
 

@@ -13,21 +13,23 @@ from robus.tool import Parser, input_of
 from robus.units import DataSheet, Unit, behind, delays, drift, duration, tick_of_rate, time_text
 
 HELP = """Prints the seven inequalities of a scenario's timing plan, or of the least plan for a bus
-of the given sizes: both sides, what is left over, the failing ones marked with the number to raise,
-and the least plan for the same sizes, drift and delays. It computes by the inequalities alone,
-which docs/RULES.md has, and is not proved; robus check and robus run decide.
+of the given sizes. It prints both sides of each, what is left over, and for one that fails which
+number to raise; then the least plan for the same sizes, drift and delays. It evaluates the
+inequalities of docs/RULES.md in Python and is not proved: robus check and robus run decide whether
+a plan is accepted.
 
     tools/plan SCENARIO [--unit U]
     tools/plan --biu N --rmu N --slots N [--u N] [--r N] [--dmin N] [--dmax N] [--c N] [--unit U]
     tools/plan --biu N --rmu N --slots N --tick TIME --drift SHARE --delay TIME..TIME [--c N]
 
-TIME is as 1us, and --rate 1MHz does for --tick 1us. SHARE is as 50ppm: by how much of its length a
-tick may be longer or shorter. From these the tool chooses the reference unit, the finest power of
-ten of a second for which all numbers are in range, and says it. U is the time of a reference unit,
-as 1ps; with it times in seconds are printed beside units.
+A TIME is a number with its unit, for example 1us. --rate 1MHz means the same as --tick 1us. SHARE
+is by how much of its length a tick may be longer or shorter, for example 50ppm. From these the tool
+chooses the reference unit, the finest power of ten of a second for which all numbers are in range,
+and prints it. U is the length of a reference unit, for example 1ps; with --unit the tool prints
+times in seconds beside those in units.
 
-status: 0 the plan holds, 1 it fails or there is none, 2 wrong words or no such file, 3 the scenario
-says no sizes or no plan within their ranges, 4 it is too long"""
+status: 0 the plan holds, 1 it fails or there is none, 2 wrong words or no such file, 3 a size is
+missing, or a size or a number of the plan is out of range, 4 the scenario is too long"""
 
 MEANING = {
     1: "a message does not come before its window, up to stage 1 of the sync slot",

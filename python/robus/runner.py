@@ -25,9 +25,10 @@ from robus.tool import ENGINE_HELP, NOT_WRITTEN, NotWritten, Parser, drop_output
 from robus.words import (FORMS, PROGRAMS, SCENARIO_WORDS, count_of, meaning, misused, reads,
                          with_file, wrong_in)
 
-HELP = """Runs the words of robus, or of robus_bridge as bridge and of robus_picture as picture, and
-writes what the program writes, with its status. FILE is what the program reads; without it, or
-for -, that is standard input. What ran it, and what the status means, is told on standard error.
+HELP = """Runs one of these words, writes what its program writes, and ends with the status of the
+program. For bridge the program is robus_bridge, for picture robus_picture, and else robus. FILE is
+what the program reads; without FILE, or if it is -, that is standard input. Standard error says
+what ran and what the status means.
 
     run FILE, check FILE, letters FILE, record NODE FILE, group most MASK FILE, group mid MASK FILE
     replay LOG, listen SKIP LOG, gen SEED FRAMES, stress SEED FRAMES, spell HEX
@@ -35,8 +36,8 @@ for -, that is standard input. What ran it, and what the status means, is told o
 
 These are the words of python3 -m robus, and docs/robus.md explains them. tools/run FILE is the
 word `run` alone, and tools/bridge FILE the word `bridge`. A proved program is run if one is up to
-date, else an unproved build, which is made with the Rattle kit if it is not kept yet, and without
-the kit tools/model, the second model.
+date. Else an unproved build is run; if none is kept yet, it is made with the Rattle kit, in up to
+two minutes. Without the kit tools/model is run, the second model of the bus, if it has the word.
 
 status: that of the program, 2 wrong words or no such file, 70 there was no answer"""
 DRAW_HELP = """Draws the run of a scenario, or the frames FIRST to LAST of it, as an SVG on standard
@@ -45,7 +46,8 @@ output.
     tools/picture SCENARIO [FIRST LAST]
     tools/picture examples/late_onset.toml 1 2 > run.svg
 
-status: 0 done, 2 wrong words or no such file, 70 there was no answer, else that of the run"""
+status: 0 done, even if the run ended with a breach, 2 wrong words or no such file, 3 the scenario
+is refused, 70 there was no answer"""
 PAGES = ("--help", "-h", "--version")
 BRIDGE = re.compile(rb'^[ \t]*"?bridges"?[ \t]*=', re.MULTILINE)
 ONE_BUS = re.compile(rb'^[ \t]*"?biu"?[ \t]*=', re.MULTILINE)

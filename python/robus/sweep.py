@@ -21,22 +21,23 @@ from robus.tool import ENGINE_HELP, Parser, input_of
 
 HELP = """Runs a scenario with each choice of values at some of its keys, and writes a row of CSV
 for each run as it ends: the values, how the run ended, whom good nodes convicted, the spread in
-reference units, how many deliveries there were and how many of them none. It is not proved; what
-runs the bus is told on standard error.
+reference units, how many deliveries there were and how many of them were none. It is not proved.
+Standard error says what runs the bus.
 
     tools/sweep SCENARIO KEY=VALUES..
 
-KEY is as frames, plan.p or fault[0].slot, entries counting from 0, and say[*].from is that of each
-entry. Keys with commas between them are given the same value. VALUES are a range, as 0..15, values
-with commas between them, as 1,5,9 or B0,R2, or an array of TOML, as '[[1, 2], [3, 4]]'. With
-several words each value of one is taken with each of the others.
+KEY is a place in the scenario, as frames, plan.p or fault[0].slot. Entries count from 0, and [*]
+means every entry, as in say[*].from. If KEY is several keys with commas between them, all of them
+get the same value. VALUES are a range, as 0..15, values with commas between them, as 1,5,9 or
+B0,R2, or an array of TOML, as '[[1, 2], [3, 4]]'. If there are several KEY=VALUES, each combination
+of their values is run.
 
     tools/sweep examples/late_onset.toml 'fault[0].slot=0..13'
     tools/sweep examples/late_onset.toml 'fault[0].node=B2,R2' 'fault[0].frame=0..2' --workers 4
     tools/sweep examples/symmetric_liar.toml 'fault[0].node,say[*].from=R0,R1,R2'
 
-status: 0 done, whatever the runs' ends, 2 wrong words or no such file, 3 the scenario is no TOML,
-70 a run gave no report; the rows before it are written"""
+status: 0 done, however the runs ended, 2 wrong words or no such file, 3 the scenario is no TOML, 70
+a run gave no report; the rows before it are written"""
 COLUMNS = [it.name for it in fields(Summary)]
 MOST_WORKERS, MOST_DIGITS = 1024, 18
 # The values by their keys: what is swept, and one choice of it

@@ -22,9 +22,9 @@ liar in them.
     tools/trace examples/two_sided.toml --pcap run.pcapng
     tools/trace examples/two_sided.toml --vcd run.vcd
 
-Messages are those of the nodes' logs by the program, as it was proved if a proved one is there.
-What else is in a --vcd is by tools/model, a second model of the bus, and nothing is written if its
-report differs from the program's. This tool itself is not proved.
+The messages are read from the logs that a program writes for the nodes: the proved program, if it
+is up to date. All else in a --vcd is computed by tools/model, a second model of the bus. If its
+report differs from the program's, nothing is written. This tool itself is not proved.
 
 status: 0 done, 1 done and the run ended with a breach, 2 wrong words or no such file, 3 the
 scenario is refused, 70 there was no answer"""

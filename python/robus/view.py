@@ -25,12 +25,12 @@ with deliveries, convictions and the breach. The page fetches nothing. docs/TRAC
 
     tools/view examples/two_sided.toml > run.html
 
-For a long run --frames says which frames to show. Without it a run is refused whose page would be
-much larger than 10 MB.
+For a long run --frames says which frames to show. Without it a run whose page would be much larger
+than 10 MB is refused.
 
-Messages are those of the nodes' logs by the program, as it was proved if a proved one is there.
-What else is shown is by tools/model, a second model of the bus, and nothing is written if its
-report differs from the program's. The page itself is not proved.
+The messages are read from the logs that a program writes for the nodes: the proved program, if it
+is up to date. All else on the page is computed by tools/model, a second model of the bus. If its
+report differs from the program's, nothing is written. The page itself is not proved.
 
 status: 0 done, 1 done and the run ended with a breach, 2 wrong words or no such file, 3 the
 scenario is refused, 70 there was no answer"""
