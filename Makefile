@@ -1,22 +1,22 @@
-# make help                                        prints this list
-# make run SCENARIO=examples/one_silent_rmu.toml   runs a scenario
-# make picture SCENARIO=.. > run.svg               draws its run, or with FRAMES="FIRST LAST" these frames of it; behind -C add -s,
-#                                                  as in make -s -C .., or make's own lines are in the picture
-# make bridge SCENARIO=examples/bridges/carried_words.toml   runs a bridge of two buses
-# make build                                       proves and builds the programs, where they are not up to date: first the libraries below
-#                                                  them, side by side, with a line for each, and then each program
-# make test                                        the gate: every proof, must-fail edit, test and program, and the documents
-# make library                                     proves the calls for C, and builds librobus.a and librobus.so in crates/robus_c/out, where
-#                                                  they are not up to date
-# make bench                                       builds the programs and measures them
-# make examples                                    runs each example, and looks for the lines that its page names
-# make tutorial                                    runs the commands of docs/TUTORIAL.md, and compares what they print
-# make site                                        writes pages of all that is proved to site/
-# make compare COUNT=1000 SEED=1                   gives so many cases to the program and to a second model of the bus
-# make install PREFIX=/usr/local                   puts the programs that were built, manual pages, documents, examples, the Python package
-#                                                  and, where it is up to date, the library there
-# make install-library PREFIX=/usr/local           puts the library alone there, with its header and a file for pkg-config
-# make install-python PREFIX=/usr/local            puts the Python package alone there
+# make help                          prints this list
+# make run SCENARIO=FILE             runs a scenario, for example examples/one_silent_rmu.toml
+# make picture SCENARIO=FILE > SVG   draws its run; with FRAMES="FIRST LAST" only these frames. After
+#                                    -C give -s too (make -s -C ..), or make's own lines are in it
+# make bridge SCENARIO=FILE          runs a bridge of two buses (examples/bridges)
+# make build                         proves and builds the programs, unless they are up to date: the
+#                                    libraries below them side by side, then each program
+# make test                          the gate: every proof, mutant, test and program, and documents
+# make library                       proves the calls for C and builds librobus.a and librobus.so in
+#                                    crates/robus_c/out, unless they are up to date
+# make bench                         builds the programs and measures them
+# make examples                      runs each example and looks for the lines that its page names
+# make tutorial                      runs the commands of docs/TUTORIAL.md and compares the output
+# make site                          writes pages of all that is proved to site/
+# make compare COUNT=1000 SEED=1     runs COUNT cases in the program and in a second model
+# make install PREFIX=/usr/local     installs the programs that were built, manual pages, documents,
+#                                    examples, the Python package and, if up to date, the library
+# make install-library PREFIX=..     installs only the library, its header and a pkg-config file
+# make install-python PREFIX=..      installs only the Python package
 
 PREFIX ?= /usr/local
 ROBUS = crates/robus/out/robus

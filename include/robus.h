@@ -301,8 +301,8 @@ bool robus_node_free(robus_node *node);
  *                 all of one value; if the sender is good, that is the word that it was handed last
  *   keeps         good nodes begin each slot near each other, deliver alike, hold one schedule,
  *                 convict no good node and are one machine; each good BIU owns the data slots that
- *                 it asks for, up to an equal share; the nodes that run event by event hold what
- *                 the run of the rules holds
+ *                 it asks for, up to an equal share rounded down; the nodes that run event by event
+ *                 hold what the run of the rules holds
  *   words         all good BIUs deliver the word that a good BIU was handed last, in each slot that
  *                 it owns
  */
