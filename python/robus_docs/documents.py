@@ -15,6 +15,7 @@ from robus_docs.markup import anchor, escape, named
 from robus_docs.source import CRATES, TOP, module, text_of
 
 PICTURES = (".svg", ".png")
+FRONT = TOP / "site/index.html"  # which make site writes
 
 
 def documents() -> list[Path]:
@@ -65,7 +66,8 @@ class Documents:
         for path in (TOP / said.strip("/"), CRATES / said.strip("/"), folder / said.strip("/")):
             for suffix in ("", ".antt", ".rt"):
                 file = path.with_name(path.name + suffix) if suffix else path
-                if TOP in file.resolve().parents and (file.is_file() or is_kept(file)):
+                is_there = file.is_file() or is_kept(file) or file == FRONT
+                if TOP in file.resolve().parents and is_there:
                     return self.file_url(file)
         return None
 
@@ -98,7 +100,7 @@ class Documents:
             return self.known[path]
         if path == TOP / "include/robus.h":
             return "header.html"
-        if path == TOP / "site/index.html":
+        if path == FRONT:
             return "index.html"
         if path.suffix == ".antt" and path.parent.name == "specs" and module(path).blocks:
             return f"definitions/{path.parent.parent.name}/{path.stem}.html"
