@@ -126,9 +126,9 @@ class Browser:
             raise BrowserFails(said["exceptionDetails"].get("text", "a script fails"))
         return said["result"].get("value")
 
-    def wait_for(self, script: str, what: str) -> None:
-        """Waits until a script on a page is true."""
-        until = time.monotonic() + PATIENCE
+    def wait_for(self, script: str, what: str, seconds: float = PATIENCE) -> None:
+        """Waits until a script on a page is true, for at most `seconds` seconds."""
+        until = time.monotonic() + seconds
         while True:
             try:
                 if self.value(script):

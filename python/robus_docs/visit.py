@@ -16,6 +16,7 @@ KINDS = (FRONT, PROMISE, "laws/index.html", "laws/rb_laws_promise/runs_keep_the_
          "crates/rb_top.html", "docs/index.html", "docs/PROMISES.html", "python.html",
          "header.html", "files/Makefile.html")
 TICK = "section.definition input[type=checkbox]"
+BUSY = 5.0  # seconds that a tick has to be seen, on a busy machine
 
 
 def way_faults(pages: dict[str, Page]) -> Iterator[str]:
@@ -68,19 +69,32 @@ class Visit:
         self.browser.press_enter()
         self.browser.wait_for(f"location.href === {json.dumps(first)}", FOUND)
 
+    def is_ticked(self, states: list[bool]) -> bool:
+        """Whether the boxes come to have these states, and the page to say that one is read. On a
+        busy machine that takes a while."""
+        boxes = f"[...document.querySelectorAll('{TICK}')].map(it => it.checked)"
+        said = f"document.getElementById('progress').textContent.startsWith('1 of {len(states)} ')"
+        wanted = json.dumps(json.dumps(states, separators=(",", ":")))
+        script = f"JSON.stringify({boxes}) === {wanted} && {said}"
+        try:
+            self.browser.wait_for(script, "the tick", BUSY)
+        except BrowserFails:
+            return False
+        return True
+
     def ticks(self) -> Iterator[str]:
         """Ticks a definition as read, and looks at it after the page is loaded again."""
         self.browser.open(f"{self.root}/{PROMISE}")
-        states = f"[...document.querySelectorAll('{TICK}')].map(it => it.checked)"
-        before = self.browser.value(states)
+        before = self.browser.value(
+            f"[...document.querySelectorAll('{TICK}')].map(it => it.checked)")
         self.browser.click(TICK)
+        states = [True, *before[1:]]
+        is_made = self.is_ticked(states)
         self.browser.value("window.isOld = true")
         self.browser.ask("Page.reload")
         self.browser.wait_for("!window.isOld && document.readyState === 'complete'", "the page")
-        after = self.browser.value(states)
-        said = self.browser.value("document.getElementById('progress').textContent")
-        is_kept = after == [True, *before[1:]] and said.startswith(f"1 of {len(before)} ")
-        if any(before) or not is_kept:
+        if any(before) or not is_made or not self.is_ticked(states):
+            said = self.browser.value("document.getElementById('progress').textContent")
             yield f"{PROMISE}: a tick does not stay: {said}"
 
     def consoles(self) -> Iterator[str]:
