@@ -10,6 +10,7 @@
     simulate  runs a scenario whose BIUs say given words
     sweep     runs a scenario with other values at its keys, a row of CSV for each
     campaign  runs many scenarios, a row of each
+    adversary runs random buses against adversaries that do anything
     table     a report as CSV or as JSON lines
     draw      draws the run of a scenario
     model     the second model of the bus
@@ -32,7 +33,7 @@ from robus.words import FORMS
 
 # The tools: the module of each, its function, and the name under which it speaks
 NAMES = ("lint", "plan", "layout", "faults", "trace", "view", "sweep", "campaign", "table",
-         "model", "quick")
+         "adversary", "model", "quick")
 TOOLS: Dict[str, Tuple[str, str, str]] = {name: (name, "main", "tools/" + name) for name in NAMES}
 TOOLS.update(explain=("explanation", "main", "tools/explain"),
              simulate=("simulation", "main", "tools/simulate"),

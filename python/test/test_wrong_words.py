@@ -24,6 +24,12 @@ nosuch.toml            lint nosuch.toml
 --nosuch               lint FILE --nosuch
 ''                     lint ''
 surplus                lint FILE surplus
+COUNT                  adversary
+SEED                   adversary 1
+COUNT                  adversary wrong 1
+COUNT                  adversary 0 1
+SEED                   adversary 1 wrong
+surplus                adversary 1 1 surplus
 SCENARIO               plan
 nosuch.toml            plan nosuch.toml
 /                      plan /

@@ -38,6 +38,7 @@ from .port import Port
 from .premise import Judge
 from .site import Recorder, Site, FrameStart
 from .settled import Settled
+from .behavior import Behavior, Said, Span, listed
 from .world import AFTER_MESSAGES, World
 from .stepped import NO_FRAME, NOT_GOOD, NO_TABLE, Record, Stepped, why_not_handed
 from .logs import log_header, LogReader, bad_field, replay

@@ -4,6 +4,7 @@ from __future__ import annotations
 import heapq
 from typing import Iterable, Self
 
+from .behavior import Behavior, Span, listed
 from .bus import TAIL
 from .names import HandIn, Node, other
 from .scenario import Scenario
@@ -14,14 +15,16 @@ AFTER_MESSAGES = 16  # more than any number of a source
 
 
 class World(Settled):
-    """A run of a scenario: what is pending comes in the order of time."""
+    """A run of a scenario: what is pending comes in the order of time. Faulty nodes do what the
+    behavior has them do, or else what the scenario's entries say."""
 
     # Time, node, source, count, and bytes or the number of a tick
     heap: list[tuple[int, Node, int, int, int | bytes]]
 
     def __init__(self, scenario: Scenario, recorded: Node | None = None,
-                 hands: Iterable[HandIn] = ()) -> None:
+                 hands: Iterable[HandIn] = (), behavior: Behavior | None = None) -> None:
         super().__init__(scenario, hands)
+        self.behavior = behavior or listed(scenario)
         self.windows = self.bus.windows()
         self.heap, self.count = [], 0
         self.sites = {node: Site(scenario, node, self.windows) for node in self.bus.nodes()}
@@ -48,12 +51,13 @@ class World(Settled):
     def open_window(self, site: Site) -> None:
         """What nodes that are not good say in a window, as it begins."""
         core = site.core
-        for say in self.scenario.says:
-            is_said = say.is_for(site.node, core.frame, core.window)
-            if is_said and core.first + say.offset <= core.last:
-                time = site.clock.time_of(core.first + say.offset) - say.early
-                text = say.bytes_of(self.bus, core.frame, core.window)
-                self.push(time, site.node, say.source[1], text)
+        span = Span(core.frame, core.window, core.first, core.last)
+        for number in range(self.bus.size(core.far)):
+            source = core.far, number
+            if not self.scenario.is_good(source, span.frame, span.window.slot):
+                for time, text in self.behavior(site, span, source):
+                    if span.has(site.clock, time):
+                        self.push(time, site.node, number, text)
 
     def run(self) -> Self:
         """Goes on to the end of the run or its breach, and gives the run itself."""
