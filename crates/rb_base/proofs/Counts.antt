@@ -63,7 +63,7 @@ count_if-le_two p q r gives (x ∷ xs) =
     ] in
     omega (arith, here (p x) (q x) (r x) (gives x), count_if-le_two p q r gives xs)
 
--- nothing passes both tests
+-- if no item passes both tests, the two counts together are at most the length of the list
 pub count_if-apart : {X : Type 0} (p q : X → Bool) → ((x : X) → p x ≡ true → q x ≡ false) → (xs : List X) → count_if p xs + count_if q xs ≤ length xs
 count_if-apart p q apart [] = omega arith
 count_if-apart p q apart (x ∷ xs) =

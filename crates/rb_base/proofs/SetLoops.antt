@@ -9,7 +9,6 @@ use Rattle.rb_base.proofs.Sets.{eq_other, has-set_of, has_none, is_set_of, same_
 abbrev pub passing_below : ℕ → (ℕ → Bool) → ℕ
 passing_below k p = set_of (λ i. nat_lt i k && p i)
 
--- at first there are none
 pub passing_none : (p : ℕ → Bool) → 0 ≡ passing_below 0 p
 passing_none p = is_set_of 0 _ (omega arith) (λ i h. has_none i ∙ sym (ap (λ b. b && p i) (le-ltb i 0 (omega arith))))
 
@@ -48,11 +47,11 @@ passing_more p s k id so_far is passes =
 pub passing_same : (p : ℕ → Bool) (s k : ℕ) → s ≡ passing_below k p → p k ≡ false → s ≡ passing_below (k + 1) p
 passing_same p s k so_far fails = so_far ∙ same_set_of _ _ (λ i h. stays_out i k (p i) (λ same. ap p same ∙ fails))
 
--- after all 16 numbers
+-- the numbers below 16 that pass are the set of all that pass
 pub passing_all : (p : ℕ → Bool) (s k : ℕ) → s ≡ passing_below k p → k ≡ 16 → s ≡ set_of p
 passing_all p s k at_end last = at_end ∙ ap (λ n. passing_below n p) last ∙ same_set_of _ _ (λ i h. ap (λ b. b && p i) (lt-ltb i 16 h))
 
--- after k numbers, where none from k on passes
+-- if no number from `k` on passes, the numbers below `k` that pass are the set of all that pass
 pub passing_most : (p : ℕ → Bool) (s k : ℕ) → s ≡ passing_below k p → ((i : ℕ) → i < 16 → nat_lt i k ≡ false → p i ≡ false) → s ≡ set_of p
 passing_most p s k at_end none =
     at_end ∙ same_set_of _ _ (λ i h.

@@ -14,7 +14,6 @@ use Rattle.rb_base.proofs.Counts.{count_if-le_length, count_if-same}
 use Rattle.rb_base.proofs.Plain.{eq_self}
 use Rattle.rb_base.proofs.Sets.{eq_other, has-set_of, has_none, same_set_of}
 
--- one for a number that passes
 abbrev one_if : Bool → ℕ
 one_if b = cond b 1 0
 
@@ -102,7 +101,7 @@ pub size-le : (s : ℕ) → size s ≤ 16
 unfolding size
 size-le s = omega (arith, count_if-le_length (has s) (numbers 16), length-range_with_len 0 16)
 
--- as many nodes as pass
+-- the set of the nodes that pass has as many nodes as pass
 pub size-set_of : (p : ℕ → Bool) → size (set_of p) ≡ count_if p (numbers 16)
 unfolding size
 size-set_of p = count_same (has (set_of p)) p 0 16 (λ i _ h. has-set_of i p h)
@@ -161,11 +160,11 @@ size_split s p =
       count_two_le (has s) (λ i. has s i && p i) (λ i. has s i && not (p i)) 0 16 (λ i _ _. back (has s i) (p i)),
     )
 
--- one node
+-- the set of one node has size 1
 pub size_one : (k : ℕ) → k < 16 → size (set_of (λ i. i == k)) ≡ 1
 size_one k h = size-set_of (λ i. i == k) ∙ count_one k 0 16 (omega arith) (omega arith)
 
--- with one more node
+-- a set with one more node is larger by 1
 pub size_more : (s k : ℕ) → k < 16 → has s k ≡ false → size (set_of (λ i. has s i || (i == k))) ≡ size s + 1
 unfolding size
 size_more s k h out =
@@ -186,7 +185,7 @@ size_more s k h out =
       count_two_le (λ i. has s i || (i == k)) (has s) (λ i. i == k) 0 16 (λ i _ _. least i (i == k) refl),
     )
 
--- with one node less
+-- a set with one node less is smaller by 1
 pub size_less : (s k : ℕ) → k < 16 → has s k ≡ true → size (set_of (λ i. has s i && not (i == k))) + 1 ≡ size s
 size_less s k h here =
     let is : set_of (λ i. has s i && (i == k)) ≡ set_of (λ i. i == k) = same_set_of (λ i. has s i && (i == k)) (λ i. i == k) (λ i _. only i (i == k) refl) in

@@ -48,7 +48,7 @@ pub set_of-lt : (p : ℕ → Bool) → set_of p < 2 ^ 16
 unfolding set_of
 set_of-lt p = set_below-lt 16 p
 
--- in the set are the nodes that pass
+-- a node is in `set_of p` if and only if it passes
 pub has-set_of : (i : ℕ) (p : ℕ → Bool) → i < 16 → has (set_of p) i ≡ p i
 unfolding set_of
 has-set_of i p h = has-set_below 16 i p h
@@ -193,7 +193,7 @@ only_is k h =
       | inr order ↦ let ne : i ≢ k = apart i k order in ap (λ b. b == 1) (bit_at-pow_other k i ne) ∙ sym (eq_other i k ne)
     ]))
 
--- where k is the lowest 1 of n, it is the one that `n & n - 1` takes out
+-- if `k` is the lowest 1 of `n`, then `n & n - 1` takes out `k` alone
 has-lowest_out : (k i n : ℕ) → bit_at n k ≡ 1 → ((j : ℕ) → j < k → bit_at n j ≡ 0) → (has n i && has (n - 1) i) ≡ (has n i && not (i == k))
 has-lowest_out zero zero n one none =
     let out : bit_at (n - 1) 0 ≡ 0 = omega (arith, bit_at_lowest n, bit_at_lowest (n - 1)) in

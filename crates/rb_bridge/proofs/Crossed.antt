@@ -27,7 +27,7 @@ use Rattle.rb_bridge.proofs.Told.{finds}
 
 -- What is known of a bridge.
 
--- its BIUs are numbers below 16
+-- the BIUs of a bridge's pairs have numbers below 16
 pub heads-small : (b : Bridge) (bank : Bank) → IsBridge b → All (λ pair. biu_on bank pair < 16) b.pairs
 heads-small b bank bridge k d lt =
     let head : IsHead (bus_on b bank) (biu_on bank (get_or b.pairs k d)) = bridge.heads bank k d lt in
@@ -141,7 +141,7 @@ next-written b frame held mid after is below none now =
       breaks = is.breaks ∙ ap (break_from b frame) more ∙ ap (λ k. option_or k (break_from b (frame + 1) n)) none;
     }
 
--- it ends with a breach
+-- if the bridge breaks in `frame`, its whole text is written, and its break is this one
 pub break-written : (b : Bridge) (frame : ℕ) (held mid after : Option (List ℕ)) (k : Break) → IsWritten b frame held mid → frame < b.left.frames → break_at b frame ≡ Some k
     → Appends mid after (told_text b frame (break_at b frame)) → Appends held after (bridge_text b) × (break_of b ≡ Some k)
 break-written b frame held mid after k is below some now =
@@ -166,7 +166,7 @@ part-written b frame held mid after is below now =
     by None part = part_widens mid after (frame_text b frame) rest part
     by (Some k) part = part
 
--- after the last frame its end is left
+-- after the last frame only the end of the text is missing, and the bridge has no break
 ends-with : (b : Bridge) (frame : ℕ) (held mid : Option (List ℕ)) → (is : IsWritten b frame held mid) → frame ≡ b.left.frames
     → (bridge_text b ≡ is.lines ++ end_text frame) × (break_of b ≡ None)
 ends-with b frame held mid is all =
@@ -190,7 +190,7 @@ end-part b frame held mid after is all now =
 abbrev pub run_with : Bridge → Bool → Bool → Option (List Turn) → Option (List Turn) → Bool → Option (List Turn) → Option (List Turn) → BridgeRun
 run_with b both lp ltold lsince rp rtold rsince = run_of b both (drive_of lp ltold lsince) (drive_of rp rtold rsince)
 
--- both go into a frame, and what was said before it is written
+-- the sides `l` and `r` are ready for `frame`, and what was said before it is written
 pub record IsCrossing (x : BridgeRun) (frame : ℕ) (l r : Side) (held after : Option (List ℕ)) : Type 0 where
   pub ready : AreReady x frame l r
   pub text : x.both ≡ true → IsWritten x.b frame held after

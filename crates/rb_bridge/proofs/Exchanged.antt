@@ -181,7 +181,7 @@ exchanged b bank frame both is_plain is_plain' told since told' since' s o world
     far : both ≡ true → reached s.terms.frames (records_in after.before) ≡ frame
     far sure = sym after.passed.holds.ports.frame_is ∙ (after.plain sure).through (unbroken sure)
 
-    -- with what the next frame begins
+    -- the record that was found begins the next frame or ends the run
     next : both ≡ true → BeginsOrEnds (bus_on b bank) (frame + 1) some.0
     next sure =
         let here : s.passage.ports.frame ≡ frame = (after.plain sure).through (unbroken sure) in
@@ -191,7 +191,7 @@ exchanged b bank frame both is_plain is_plain' told since told' since' s o world
         (ap (λ n. is_over n frame (record_of s.turn)) (sym frames) ∙ ap (λ f. is_over s.terms.frames f (record_of s.turn)) (sym here) ∙ after.passed.over)
         (ap (λ n. reached n (records_in after.before)) (sym frames) ∙ far sure) (unbroken sure)
 
-    -- what the other side's ports delivered
+    -- the records so far tell all that the other side's ports deliver in the frame
     delivered : both ≡ true → (receiver : ℕ) → port_deliveries frame receiver (records_in other.before) ≡ port_deliveries frame receiver (records_on b (hands_up_to b frame) (across bank))
     delivered sure receiver =
         let there : o.passage.ports.frame ≡ frame = (other.plain sure).through (unbroken' sure) in

@@ -28,7 +28,6 @@ found-lines b bank frame s is =
     same : (i : ℕ) → receiver_by (bus_on b bank) frame bank (crossing_value b bank frame) i ≡ receiver_text b frame bank i
     same i = refl
 
--- of the frame that is kept
 pub finds-own : (b : Bridge) (bank : Bank) (frame : ℕ) (s : Side) → Finds b bank frame s → Finds b bank s.passage.ports.frame s
 finds-own b bank frame s is = subst (λ f. Finds b bank f s) (sym is.frame_is) is
 

@@ -72,8 +72,8 @@ none-last frame i (Slot f slot lines) last = absurd (cc)
 none-last frame i Ended last = refl
 none-last frame i (Breach place cause) last = refl
 
--- of a frame that is over with record r: the records before it tell all that ports deliver in the
--- frame. A breach of the frame is r itself
+-- the frame is over with record `r`: the records before `r` tell all that ports deliver in the
+-- frame, and a breach in the frame is `r` itself
 pub record TellsFrame (sc : Scenario) (handed : List HandIn) (frame : ℕ) (bank : Bank) (records : List Record) (r : Record) : Type 0 where
   pub deliveries : (receiver : ℕ) → port_deliveries frame receiver records ≡ port_deliveries frame receiver (records_of sc handed)
   pub breach : break_in bank frame (records_of sc handed) ≡ break_told bank frame r
@@ -84,7 +84,7 @@ pub records-are-given : (sc : Scenario) (handed : List HandIn) (told since : Opt
 records-are-given sc handed told since k turns t r over is-r is =
     sym (records-back is.world.book.given) ∙ ap records_in (sym (is.plain refl)) ∙ records-more turns t ∙ ap (λ o. records_in turns ++ option_to_list o) is-r
 
--- they are the first of the run
+-- the records of the turns are the first records of the run
 pub records-are-first : (sc : Scenario) (handed : List HandIn) (told since : Option (List Turn)) (k : KeptWorld) (turns : List Turn) (t : Turn) (r : Record) (over : Bool)
     → record_of t ≡ Some r → IsUnderWay sc handed true told since k (turns ++ t ∷ []) over → (rest : List Record) × (records_of sc handed ≡ records_in turns ++ r ∷ rest)
 records-are-first sc handed told since k turns t r over is-r is =

@@ -18,7 +18,7 @@ pub words-append : (sc : Scenario) (bank : Bank) (told : ℕ → Option Heard) (
 words-append sc bank told [] qs w = refl
 words-append sc bank told (p ∷ ps) qs w = words-append sc bank told ps qs (hand sc w (biu_on bank p) (word_of (told (biu_on (across bank) p))))
 
--- one pair more
+-- the words of k + 1 pairs are those of the first `k` pairs and then that of pair `k`
 pub words-more : (sc : Scenario) (bank : Bank) (told : ℕ → Option Heard) (k : ℕ) (pairs : List Pair) (d : Pair) (w : World) → k < length pairs
     → with_words sc bank told (get_or pairs k d ∷ []) (with_words sc bank told (take k pairs) w) ≡ with_words sc bank told (take (k + 1) pairs) w
 words-more sc bank told k pairs d w below =
@@ -31,11 +31,11 @@ next-handed sc now bank told k pairs d w after same below stands =
 
 -- What a frame is handed, where its record was the last turn.
 
--- the word of a pair
+-- the hand-in for a pair's BIU on `bank`: the word told for the BIU on the other side
 abbrev pub handed_for : Bank → (ℕ → Option Heard) → ℕ → Pair → HandIn
 handed_for bank told frame pair = record { frame = frame; biu = biu_on bank pair; state = word_of (told (biu_on (across bank) pair)) }
 
--- only what was handed in, and ports, have changed
+-- `after` is `w` with the hand-ins `more`: only hand-ins and ports have changed
 pub record IsHanded (w after : World) (more : List HandIn) : Type 0 where
   pub hands : after.hands ≡ w.hands ++ more
   pub turn : after.turn ≡ w.turn

@@ -12,7 +12,7 @@ use Rattle.rb_rules_bridge.specs.Bridges.{biu_on}
 pub no-members : (bank : Bank) (m : ℕ) → m ≡ 0 → m ≡ set_of (λ i. list_any (λ pair. biu_on bank pair == i) [])
 no-members bank m none = none ∙ is_set_of 0 (λ i. list_any (λ pair. biu_on bank pair == i) []) (omega arith) (λ i lt. has_none i)
 
--- the members of one more pair
+-- the BIUs of k + 1 pairs are those of the first `k` pairs and that of pair `k`
 pub more-members : (bank : Bank) (pairs : List Pair) (k : ℕ) (d : Pair) (m n node : ℕ) → k < length pairs → m ≡ set_of (λ i. list_any (λ pair. biu_on bank pair == i) (take k pairs))
     → node ≡ biu_on bank (get_or pairs k d) → n ≡ set_of (λ i. has m i || (i == node)) → n ≡ set_of (λ i. list_any (λ pair. biu_on bank pair == i) (take (k + 1) pairs))
 more-members bank pairs k d m n node below before this is =

@@ -29,7 +29,7 @@ value_by-append [] ys i = refl
 value_by-append (x ∷ xs) ys i =
     ap (λ o. if x.receiver == i then Some x.value else o) (value_by-append xs ys i) ∙ option_or-if (x.receiver == i) x.value (value_by xs i) (value_by ys i)
 
--- one line more
+-- values with the first `k` lines and then line `k` are the values with the first k + 1 lines
 pub lines-more : (told : ℕ → Option Heard) (k : ℕ) (lines : List SlotLine) (d : SlotLine) (kept : List (Option Heard)) → k < length lines
     → HoldValues (λ i. option_or (option_or (told i) (value_by (take k lines) i)) (value_by (get_or lines k d ∷ []) i)) kept
     → HoldValues (λ i. option_or (told i) (value_by (take (k + 1) lines) i)) kept
@@ -40,7 +40,7 @@ lines-more told k lines d kept below hold =
 
 -- Records.
 
--- the deliveries of a slot at a port, in a slot
+-- the lines of slot `s` deliver their value in that slot and in no other
 in-lines : (frame s slot i : ℕ) (lines : List SlotLine) → value_in slot (deliveries_in frame s i lines) ≡ (if s == slot then value_by lines i else None)
 in-lines frame s slot i [] = none (s == slot)
   where

@@ -55,7 +55,7 @@ opened-before b bank both is_plain told s is = record {
 
 -- After the last frame.
 
--- after `turns` as many more turns as `passed` were given
+-- the run has given `turns` and then `passed` more turns
 pub record IsFinishing (sc : Scenario) (handed : List HandIn) (is_plain : Bool) (told since : Option (List Turn)) (s : Side) (turns : List Turn) (passed : ℕ) : Type 0 where
   pub more : List Turn
   pub given : IsUnderWay sc handed is_plain told since s.world (turns ++ more) (is_last (record_of s.turn))

@@ -49,7 +49,7 @@ frame-stays frames frame records (Some r) h e =
     let le : frame_of frames r ≤ frame = not-later frame (frame_of frames r) (is_last (Some r)) h in
     reached_more frames records (Some r) ∙ let m : max (reached frames records) (frame_of frames r) ≡ frame = omega (arith, e, le) in m
 
--- one turn more of the frame
+-- if the frame is not over with turn `t`, the passage holds the frame with this turn too
 pub kept-more : (terms : Terms) (frame : ℕ) (turns : List Turn) (t : Turn) (before : Passage) (ports : Ports) (values : List (Option Heard)) → is_over terms.frames frame (record_of t) ≡ false
     → HoldsPassage terms frame (records_in turns) before
     → ((rs : List Record) → HoldsFrame terms.frames terms.asked rs before.ports → HoldsFrame terms.frames terms.asked (rs ++ option_to_list (record_of t)) ports)
@@ -87,7 +87,7 @@ none-passed sc handed is_plain told since k before terms frame p given holds = r
   many = refl;
 }
 
--- one turn more of the frame
+-- one more turn makes a passage of `passed` turns one of passed + 1
 pub one-passed : (sc : Scenario) (handed : List HandIn) (is_plain : Bool) (told mid since : Option (List Turn)) (k after : KeptWorld) (before : List Turn) (terms : Terms) (frame : ℕ) (p q : Passage) (passed : ℕ) (t : Turn)
     → (is : IsPassing sc handed is_plain told mid k before terms frame p passed)
     → IsUnderWay sc handed is_plain told since after ((before ++ is.more) ++ t ∷ []) (is_last (record_of t)) → is_over terms.frames frame (record_of t) ≡ false

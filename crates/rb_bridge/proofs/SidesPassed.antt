@@ -76,7 +76,7 @@ stays-through b bank frame both is_plain told since s below plain before last =
 
 -- The drive gave its turns.
 
--- these are the turns before the frame's own
+-- if the last record does not end the run, the side is under way with the turns before the frame
 going-on : (b : Bridge) (bank : Bank) (frame : ℕ) (both is_plain : Bool) (told since : Option (List Turn)) (s : Side) → (before : BeforeFrame b bank frame both (drive_of is_plain told since) s)
     → is_last (record_of s.turn) ≡ false → IsUnderWay s.world.bus before.handed is_plain told since s.world before.turns false
 going-on b bank frame both is_plain told since s before last =

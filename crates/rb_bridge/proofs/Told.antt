@@ -163,7 +163,7 @@ left-breaks x frame l r found o bridge below plain left right told is_found = re
         subst (GivesAllOn x frame) (break-bank Left frame (record_of l.turn) k e)
         (all-after x.b Left frame x.both x.left.is_plain x.left.told x.left.since l k below plain.left left e)
 
--- both have gone through
+-- both sides have gone through the frame
 pub both-through : (x : BridgeRun) (frame : ℕ) (l r : Side) (o p : Option Found)
     → IsBridge x.b → frame < x.b.left.frames → ArePlain x.both x.left.is_plain x.right.is_plain → AfterFrame x.b Left frame x.both x.left l → AfterFrame x.b Right frame x.both x.right r
     → option_map shown o ≡ break_by Left frame (record_of l.turn) → o ≡ None → option_map shown p ≡ break_by Right frame (record_of r.turn)

@@ -161,7 +161,7 @@ whole-given sc handed is_plain told since k turns is =
     subst (λ (w : World). w.book.ended ≡ true → w.book.given ≡ records_of k.bus w.hands) (sym reached.is) ((events-hold k.bus is.stands.lawful).whole reached.choices) is.ended in
     whole ∙ ap (records_of k.bus) is.hands ∙ ap (λ (s : Scenario). records_of s handed) is.bus
 
--- where the last of them ends the run, it has ended
+-- if a turn ends the run, the run is over after it
 pub finished : (sc : Scenario) (handed : List HandIn) (is_plain : Bool) (told since : Option (List Turn)) (k : KeptWorld) (turns : List Turn) (t : Turn) (e : Ending)
     → IsUnderWay sc handed is_plain told since k turns (is_last (record_of t)) → end_at (record_of t) ≡ Some e → IsUnderWay sc handed is_plain told since k turns true
 finished sc handed is_plain told since k turns t e is ends = subst (λ over. IsUnderWay sc handed is_plain told since k turns over) (ends-last (record_of t) e ends) is

@@ -67,7 +67,7 @@ given-more : (sc : Scenario) (handed : List HandIn) (is_plain : Bool) (told sinc
 given-more sc handed is_plain told since k turns t r over is sure is-r =
     given-in sc handed is_plain told since k (turns ++ t ∷ []) over is sure ∙ records-more turns t ∙ ap (λ o. records_in turns ++ option_to_list o) is-r
 
--- where the run has ended, they are all records
+-- if the run is over, the turns that were given are all of its records
 pub whole-by : (sc : Scenario) (handed : List HandIn) (is_plain : Bool) (told since : Option (List Turn)) (k : KeptWorld) (turns : List Turn) (over : Bool) → over ≡ true
     → (is : IsUnderWay sc handed is_plain told since k turns over) → is.world.book.given ≡ records_of sc handed
 whole-by sc handed is_plain told since k turns true e is = whole-given sc handed is_plain told since k turns is
@@ -100,7 +100,7 @@ breach-upto sc handed turns rest frame r going breach are =
     let its : frame_of sc.frames r ≡ breach.place.frame = ap (frame_of sc.frames) breach.is in
     upto-more sc.frames frame (records_in turns) r (omega (arith, le, here)) (omega (arith, its, here))
 
--- with a breach of a frame all of the run is given
+-- `given` is a first part of the run's records, and `handed` makes the run that all hand-ins make
 pub record AreWhole (b : Bridge) (bank : Bank) (handed : List HandIn) (given : List Record) : Type 0 where
   pub first : IsPrefix given (records_on b (hands_of b) bank)
   pub all : records_of (bus_on b bank) handed ≡ records_on b (hands_of b) bank

@@ -22,7 +22,7 @@ never-both ReadFault may ended = ended
 never-both WriteFault may ended = ended
 never-both OutOfMemory may ended = ended
 
--- where no bridge was read
+-- the call answers as it must if it read no bridge
 pub none-answers : (both : Bool) (status : Status) (left left' : Option (List ℕ)) (reads reads' : ℕ) (held held' : Option (List ℕ)) (writes writes' : ℕ)
     (lp : Bool) (ltold : Option (List Turn)) (rp : Bool) (rtold : Option (List Turn)) → ReadsNone status left left' reads reads' held held' writes writes'
     → Answers both status left left' reads reads' held held' writes writes' lp ltold ltold rp rtold rtold
@@ -34,7 +34,7 @@ none-answers both status left left' reads reads' held held' writes writes' lp lt
   failed = λ e. inl (n.failed e);
 }
 
--- where one was, and it was taken to its end
+-- the call answers as it must if it read a bridge and took it to its end
 pub report-answers : (both : Bool) (status : Status) (left left' : Option (List ℕ)) (reads reads' : ℕ) (held held' : Option (List ℕ)) (writes writes' : ℕ)
     (lp : Bool) (ltold lsince : Option (List Turn)) (rp : Bool) (rtold rsince : Option (List Turn)) (kept : Kept) → ReadsBridge left left' kept
     → (HasEnded status → IsCrossed (run_of (as_bridge kept) both (drive_of lp ltold lsince) (drive_of rp rtold rsince)) status held held')
@@ -67,7 +67,7 @@ report-answers both status left left' reads reads' held held' writes writes' lp 
   });
 }
 
--- only the answer out of memory writes nothing of a bridge that was read, and asks no drive
+-- `OutOfMemory` is the only answer to a run that writes nothing
 pub only-memory : (status : Status) → IsOfRun status → WritesNothing status → status ≡ OutOfMemory
 only-memory Done run none = absurd none
 only-memory Breach run none = absurd none

@@ -46,7 +46,7 @@ promised status left left' held held' lp ltold lsince rp rtold rsince e = record
 read-is : (left left' : Option (List ℕ)) (input read : List ℕ) → left ≡ Some input → ReadsToEnd left left' read → read ≡ input
 read-is left left' input read is r = read_bytes input left' read (subst (λ l. ReadsToEnd l left' read) is r)
 
--- it says the bridge that was run
+-- the bridge that was run is the one that was read
 same-run : (both : Bool) (status : Status) (left left' held held' : Option (List ℕ)) (lp : Bool) (ltold lsince : Option (List Turn)) (rp : Bool) (rtold rsince : Option (List Turn))
     (input : List ℕ) (b : Bridge) → left ≡ Some input → IsBridgeAccepted input b → (e : Ends both status left left' held held' lp ltold lsince rp rtold rsince) → e.bridge ≡ b
 same-run both status left left' held held' lp ltold lsince rp rtold rsince input b is accepted e =

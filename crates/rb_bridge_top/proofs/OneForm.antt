@@ -14,7 +14,7 @@ no_flag_runs words flag runs shows = no_flag flag (codes "run") (omega arith) (a
 pub one_shown : (words : List (String Global)) (a b : Flag) → AskFor words (Show a) → AskFor words (Show b) → a ≡ b
 one_shown words a b shows_a shows_b = one_flag a b (ap (λ words. get_or words 0 []) (sym shows_a ∙ shows_b))
 
--- where the words ask for a run, the drives are idle only with an answer that leaves them so
+-- if the words ask for a run, the drives are idle only with an answer that runs nothing
 pub idle_run : (words : List (String Global)) (status : Status) → AskFor words Run → (¬ AskFor words Run) ⊎ RunsNothing status → RunsNothing status
 idle_run words status runs (inl other) = absurd (other runs)
 idle_run words status runs (inr idle) = idle

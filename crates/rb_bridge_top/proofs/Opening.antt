@@ -17,7 +17,7 @@ use Rattle.rb_bridge_top.specs.declared.status.Status.{Status}
 use Rattle.rb_bridge_top.specs.declared.status.Status.TheVariants.{WriteFault, OutOfMemory}
 use Rattle.rb_bridge_top.specs.Statuses.{HasEnded, IsOfRun, status_of}
 
--- both sides, opened with the BIUs of these pairs
+-- both sides are open, each with the BIUs of its pairs
 pub both-opened : (kept : Kept) (ps qs : List Pair) (m n : ℕ) (l r : Side) → ps ≡ kept.pairs.items → qs ≡ kept.pairs.items
     → m ≡ set_of (λ i. list_any (λ pair. biu_on Left pair == i) ps) → n ≡ set_of (λ i. list_any (λ pair. biu_on Right pair == i) qs)
     → HasOpened (as_scenario kept.left) m kept.left_slot l → HasOpened (as_scenario kept.right) n kept.right_slot r → HaveOpened (as_bridge kept) l r

@@ -54,7 +54,7 @@ Whole = boxed.the_row inside.the_row heap.the_row ghosts
 abbrev pub Good : Ty → Val → Type 0
 Good τ v = Holds (has_ty τ v) × WT v
 
--- a handle at its machine value
+-- the machine value of a handle
 abbrev pub word : ℕ → ℕ → Val
 word b o = vstruct (vcons (vptr b o) vnil)
 

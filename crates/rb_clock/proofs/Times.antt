@@ -32,27 +32,27 @@ rises_first from s rest h = ltb-true from s.0 (and_parts (nat_lt from s.0) (rise
 pub rises_rest : (from : ℕ) (s : ℕ × ℕ) (rest : List (ℕ × ℕ)) → rise_above from (s ∷ rest) ≡ true → rise_above s.0 rest ≡ true
 rises_rest from s rest h = (and_parts (nat_lt from s.0) (rise_above s.0 rest) h).1
 
--- before the next segment the length stays
+-- before the first tick of the next segment the length stays
 pub before_next : (from before tick : ℕ) (s : ℕ × ℕ) (rest : List (ℕ × ℕ)) → rise_above from (s ∷ rest) ≡ true → tick < s.0
     → length_after before (s ∷ rest) tick ≡ before
 before_next from before tick s rest rises lt =
     let not_yet : nat_le s.0 tick ≡ false = lt-leb s.0 tick lt in
     rw not_yet (stands before tick s.0 rest (omega arith) (rises_rest from s rest rises))
 
--- from there on it is the next segment's
+-- from the first tick of the next segment on its lengths follow
 pub after_next : (before tick : ℕ) (s : ℕ × ℕ) (rest : List (ℕ × ℕ)) → s.0 ≤ tick
     → length_after before (s ∷ rest) tick ≡ length_after s.1 rest tick
 after_next before tick s rest le = let reached : nat_le s.0 tick ≡ true = le-leb s.0 tick le in rw reached refl
 
 -- ---- where the walk over the segments is
 
--- at tick `from` it is `now`, and `ticks` is the length until the segments that are left change it
+-- `now` is the time of tick `from`, and ticks last `ticks` until a segment of `left` changes that
 pub record IsAt (clock : Timeline) (now from ticks : ℕ) (left : List (ℕ × ℕ)) : Type 0 where
   pub time : now ≡ time_of clock from
   pub rising : rise_above from left ≡ true
   pub lengths : (tick : ℕ) → from ≤ tick → tick_length clock tick ≡ length_after ticks left tick
 
--- ticks of one length
+-- `n` ticks of the length `ticks` take n * ticks
 pub time_run : (clock : Timeline) (from n ticks : ℕ) → ((j : ℕ) → j < n → tick_length clock (from + j) ≡ ticks)
     → time_of clock (from + n) ≡ time_of clock from + n * ticks
 time_run clock from zero ticks h = let e : from + 0 ≡ from = omega arith in rw e (omega arith)
@@ -62,11 +62,11 @@ time_run clock from (suc n) ticks h =
     let one : from + suc n ≡ suc (from + n) = omega arith in
     rw (one, last, so_far) (omega arith)
 
--- up to a tick the length stays
+-- each tick before `until` has the length `ticks`
 abbrev pub Stays : ℕ → ℕ → List (ℕ × ℕ) → Type 0
 Stays ticks until left = (tick : ℕ) → tick < until → length_after ticks left tick ≡ ticks
 
--- to a tick before which the length stays
+-- if the length stays before `tick`, its time is (tick - from) * ticks after `now`
 pub time_to : (clock : Timeline) (now from ticks tick : ℕ) (left : List (ℕ × ℕ)) → IsAt clock now from ticks left → Stays ticks tick left
     → from ≤ tick → now + (tick - from) * ticks ≡ time_of clock tick
 time_to clock now from ticks tick left at stays le =
@@ -93,7 +93,7 @@ at_start clock s rest e rising =
     let parts = and_parts (s.0 == 0) (rise_above 0 rest) (rw e at rising) in
     record { time = refl; rising = parts.1; lengths = λ tick le. rw e (first_stands s rest tick (rw e at rising)) }
 
--- it goes on to the next
+-- the walk goes on to the first tick of the next segment
 pub at_next : (clock : Timeline) (now from ticks : ℕ) (left rest : List (ℕ × ℕ)) (s : ℕ × ℕ) → left ≡ s ∷ rest → IsAt clock now from ticks left
     → IsAt clock (now + (s.0 - from) * ticks) s.0 s.1 rest
 at_next clock now from ticks left rest s e at =
@@ -152,7 +152,7 @@ none_left (s ∷ rest) e =
     let none : length (take (length (s ∷ rest) - 1) rest) ≡ 0 = grind (arith, nat_tests) in
     omega (arith, length-take (length (s ∷ rest) - 1) rest)
 
--- where no segment is left after the first, its length stands
+-- if no segment is left after the first, all ticks have the length of the first
 pub one_length : (clock : Timeline) (ticks tick : ℕ) (left : List (ℕ × ℕ)) → IsAt clock clock.start 0 ticks left → length left ≤ 0
     → clock.start + tick * ticks ≡ time_of clock tick
 one_length clock ticks tick left at none =
@@ -223,8 +223,8 @@ no_more : (n m ticks : ℕ) → n * ticks < m * ticks + ticks → n ≤ m
 no_more n m ticks lt =
     elim (cases_lt m n) [ inl more ↦ absurd (omega (arith, mul-le-mul_left ticks more)) | inr le ↦ le ]
 
--- from a tick before the time, as many ticks on as the rest of the time takes, where the length
--- stays until the time has come
+-- if the length stays until `time`, the stamp is as many ticks after `from` as the rest of the time
+-- takes
 pub stamp_after : (clock : Timeline) (now from ticks until time n : ℕ) (left : List (ℕ × ℕ)) → IsAt clock now from ticks left → Stays ticks until left
     → from ≤ until → time ≤ time_of clock until → now < time → time ≤ now + n * ticks → now + n * ticks < time + ticks
     → IsStamp clock time (from + n)
@@ -245,7 +245,7 @@ stamp_after clock now from ticks until time (suc m) left at stays le come later 
       least = λ tick h. omega (arith, times_rise_to clock tick (from + m) (omega arith));
     }
 
--- the stamp, by a division
+-- a division finds the stamp
 pub stamp_found : (clock : Timeline) (now from ticks time n : ℕ) (left : List (ℕ × ℕ)) → IsClock 1 2000000 clock → IsAt clock now from ticks left
     → Ends clock time from ticks left → now < time → n ≡ (time - now) / ticks + min 1 ((time - now) % ticks) → IsStamp clock time (from + n)
 stamp_found clock now from ticks time n left is at ends before e =
@@ -254,11 +254,11 @@ stamp_found clock now from ticks time n left is at ends before e =
     let least : n * ticks < time - now + ticks = rw e rounded.1 in
     stamp_after clock now from ticks ends.until time n left at ends.stays ends.after ends.come before (omega arith) (omega arith)
 
--- it is no later than the tick by which the time has come
+-- the stamp is at most the tick by which `time` has come
 pub stamp_most : (clock : Timeline) (from ticks time stamp : ℕ) (left : List (ℕ × ℕ)) → Ends clock time from ticks left → IsStamp clock time stamp
     → stamp ≤ 2147483648
 stamp_most clock from ticks time stamp left ends is = omega (arith, stamp_le clock time stamp ends.until is ends.come, ends.most)
 
--- it is the one that is computed tick by tick
+-- the stamp is the one that is computed tick by tick
 pub stamp_computed : (clock : Timeline) (time stamp : ℕ) → IsClock 1 2000000 clock → IsStamp clock time stamp → stamp ≡ stamp_of clock time
 stamp_computed clock time stamp is stamped = stamp_is clock (clock_moves 1 2000000 clock (omega arith) is) time stamp stamped

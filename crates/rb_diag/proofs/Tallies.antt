@@ -12,7 +12,6 @@ use Rattle.rb_base.proofs.SetSizes.{size-set_of}
 use Rattle.rb_diag.specs.Votes.{against, counts, most_against}
 use Rattle.rb_rules.specs.Conviction.{convicted_by, names, naming, sparing}
 
--- one for a number that passes
 abbrev pub one_if : Bool → ℕ
 one_if b = cond b 1 0
 
@@ -37,7 +36,6 @@ count_more p a (suc n) =
     let last : one_if (p (a + 1 + n)) ≡ one_if (p (a + suc n)) = ap (λ k. one_if (p k)) e in
     omega (arith, count_more p (a + 1) n, last)
 
--- one number more
 pub count_next : (p : ℕ → Bool) (n : ℕ) → count_if p (numbers (n + 1)) ≡ count_if p (numbers n) + one_if (p n)
 count_next p n =
     let e : 0 + n ≡ n = omega arith in

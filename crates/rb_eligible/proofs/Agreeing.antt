@@ -12,8 +12,7 @@ use Rattle.rb_eligible.specs.Inboxes.{KeptArrivals, is_sole, sense_in}
 use Rattle.rb_eligible.specs.Takings.{AreOnesOf, AreTakenOf, AreValuesOf}
 use Rattle.rb_eligible.proofs.Sensed.{none_but_soles, value_but_soles}
 
--- of the sources that are expected and eligible and of which there is no sole arrival nothing can
--- be taken
+-- nothing can be taken from a source without a sole arrival, though it is expected and eligible
 pub due_ones : (kept : KeptArrivals) (s : Standing) (e : Expect) (expected due ones : ℕ)
     → ((j : ℕ) → j < 16 → has due j ≡ ((has expected j && is_eligible s j) && is_sole kept j)) → AreOnesOf kept e (has due) ones
     → AreOnesOf kept e (λ j. has expected j && is_eligible s j) ones
@@ -28,7 +27,7 @@ due_taken kept s e expected due taken is all are = λ received shown.
     fill_by_all (taken_of value_in s (has expected) (sense_in e received)) taken 16 None all
     (λ j h. are received shown j h ∙ ap (λ b. if b then value_in (sense_in e received j) else None) (is j h) ∙ value_but_soles e kept received (has expected j && is_eligible s j) j shown h)
 
--- there is one
+-- a due source has a sole arrival
 pub due_soles : (kept : KeptArrivals) (s : Standing) (expected due : ℕ) → ((j : ℕ) → j < 16 → has due j ≡ ((has expected j && is_eligible s j) && is_sole kept j))
     → (j : ℕ) → j < 16 → has due j ≡ true → is_sole kept j ≡ true
 due_soles kept s expected due is j h inside = and_second (has expected j && is_eligible s j) (is_sole kept j) (sym (is j h) ∙ inside)

@@ -33,7 +33,7 @@ one_less true (Some y) taken n is most = omega (arith, most)
 one_less false None taken n is most = omega (arith, most)
 one_less false (Some y) taken n is most = let e : Some y ≡ None = is refl in absurd cc
 
--- there are no more values than nodes of which one may have been taken
+-- there are at most as many values as nodes from which one may have been taken
 present_held : (p : ℕ → Bool) (taken : List (Option Heard)) (k : ℕ) → ((j i : ℕ) → j ≡ k + i → i < length taken → p j ≡ false → get_or taken i None ≡ None)
     → length (present taken) ≤ count_if p (range_with_len k (length taken))
 present_held p [] k held = omega arith
@@ -48,7 +48,7 @@ size_is s n all = ap (λ n. count_if (has s) (range_with_len 0 n)) all
 held_is : (candidate : Option Heard) (x : Option Heard) → (h : Heard) × ((x ≡ Some h) × (candidate ≡ Some h)) → x ≡ Some (unwrap_or candidate Fault)
 held_is candidate x found = found.1.0 ∙ ap (λ c. Some (unwrap_or c Fault)) (sym found.1.1)
 
--- once none is left
+-- a candidate that more than half of the sources say is the majority of what was taken
 pub leading_vote : (candidate : Option Heard) (ones same : ℕ) (taken : List (Option Heard)) → length taken ≡ 16
     → ((j : ℕ) → j < 16 → has same j ≡ true → (h : Heard) × ((get_or taken j None ≡ Some h) × (candidate ≡ Some h)))
     → ((j : ℕ) → j < 16 → has ones j ≡ false → get_or taken j None ≡ None)

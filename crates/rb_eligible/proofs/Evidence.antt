@@ -10,12 +10,12 @@ use Rattle.rb_rules.specs.declared.sense.Sense.{Sense}
 use Rattle.rb_rules.specs.Sense.{is_one, is_silent}
 use Rattle.rb_rules.specs.Standing.{Standing, does_wrong, has_evidence, is_eligible, with_evidence}
 
--- at most one value more
+-- one more source adds at most one value
 pub few_more : {X : Type 0} (v : Option X) (values after : List X) (i : ℕ) → length values ≤ i → after ≡ values ++ present (v ∷ []) → length after ≤ i + 1
 few_more None values after i few more = let n : length after ≡ length values + 0 = ap length more ∙ length-append values [] in omega arith
 few_more (Some x) values after i few more = let n : length after ≡ length values + 1 = ap length more ∙ length-append values (x ∷ []) in omega arith
 
--- it comes last
+-- the value of source `i` comes after those of the sources before it
 pub present_more : {X : Type 0} (taken : List (Option X)) (i : ℕ) (v : Option X) (values after : List X) → i < length taken
     → values ≡ present (take i taken) → after ≡ values ++ present (v ∷ []) → after ≡ present (take (i + 1) (set taken i v))
 present_more taken i v values after inside held more =
@@ -54,8 +54,7 @@ taken_all f taken k last all so_far = fill_by_all f taken 16 None all (λ j h. s
 pub present_all : {X : Type 0} (taken : List (Option X)) (values : List X) (k : ℕ) → k ≡ 16 → length taken ≡ 16 → values ≡ present (take k taken) → values ≡ present taken
 present_all taken values k last all held = held ∙ ap present (take_all k taken (omega arith))
 
--- of each node that is trusted and expected it is known whether it is one, also if it is accused
--- directly already
+-- for each trusted and expected node it is known whether it passes, even if it is accused directly
 pub either_one : (s : Standing) (expected barred ones others all j : ℕ) (passes : ℕ → Bool) → j < 16 → has s.trusted j ≡ true → has expected j ≡ true
     → barred ≡ set_of (λ j. has expected j && has s.direct j) → all ≡ set_of (λ j. has ones j || has others j) → has ones j ≡ ((has expected j && is_eligible s j) && passes j)
     → others ≡ set_of (λ j. has barred j && passes j) → has all j ≡ passes j

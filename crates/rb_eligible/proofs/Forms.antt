@@ -58,7 +58,7 @@ twelve : (bus low high : ℕ) → ((high / 65536 % 256 == bus) && (check_of (to_
 unfolding spelled
 twelve bus low high = ap (λ b. (high / 65536 % 256 == bus) && b) (check_right (check_of (take 11 (to_le_bytes w64 low ++ to_le_bytes w32 high))) (high / 16777216 % 256))
 
--- the form of eleven bytes
+-- a spelling has the form of version One if and only if it has eleven bytes and its check is 0
 pub form_one : (low high len check : ℕ) → len ≤ 12 → check ≡ check_of (to_le_bytes w64 low ++ to_le_bytes w32 (high % 16777216))
     → ((len == 11) && (check == 0)) ≡ has_form One (spelled low high len)
 form_one low high len check short is =
@@ -73,7 +73,7 @@ form_two bus low high len check short is =
     (λ e. rw (e, is) (twelve bus low high))
     ∙ sym (and_assoc (length (spelled low high len) == 12) (slice_index (spelled low high len) 10 == bus) (slice_index (spelled low high len) 11 == check_of (take 11 (spelled low high len))))
 
--- the message with the fields
+-- the message with the fields in `low` and `high`
 abbrev pub fields_read : ℕ → ℕ → Option Message
 fields_read low high =
     message_with (tag_in (low % 256)) (low / 256 % 256 * 256 + low / 65536 % 256) (low / 16777216 % 256 * 256 + low / 4294967296 % 256) (low / 1099511627776 % 256)
@@ -96,7 +96,7 @@ message_from (Two bus) low high len short form =
     let is : len ≡ 12 = sym (length_spelled low high len short) ∙ eqb-true (length (spelled low high len)) 12 (and_first _ _ (and_first _ _ form)) in
     subst (λ n. has_form (Two bus) (spelled low high n) ≡ true → message_in (Two bus) (spelled low high n) ≡ fields_read low high) (sym is) (read_twelve bus low high) form
 
--- if they have it not, nothing is
+-- bytes without the form of a message are not read as one
 pub no_message : (version : Version) (bytes : List ℕ) → has_form version bytes ≡ false → message_in version bytes ≡ None
 unfolding message_in
 no_message version bytes form = rw form refl

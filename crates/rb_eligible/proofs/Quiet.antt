@@ -19,7 +19,7 @@ takes_none true d true s none = absurd cc
 takes_none false d false s none = refl
 takes_none false d true s none = refl
 
--- nothing is taken of any source
+-- if no source is trusted and expected, nothing is taken from any source
 pub quiet_takes : (s : Standing) (expected : ℕ) (sense : ℕ → Sense) → set_of (λ j. has s.trusted j && has expected j) ≡ 0 → (j : ℕ) → j < 16 → taken_of value_in s (has expected) sense j ≡ None
 quiet_takes s expected sense none j h = takes_none (has s.trusted j) (has s.direct j) (has expected j) (sense j) (apart s expected j none h)
 

@@ -25,7 +25,7 @@ not_true : (b : Bool) → (b ≡ true → false ≡ true) → b ≡ false
 not_true true none = let e : false ≡ true = none refl in absurd cc
 not_true false none = refl
 
--- at first none passed
+-- before the first source the run has passed none
 pub run_none : (kept : KeptArrivals) (left : ℕ) (sole : Sole) (value : Option Heard) (taken : List (Option Heard)) → IsRun kept left left sole value taken taken
 run_none kept left sole value taken = record {
   within = λ j h inside. inside;
@@ -37,7 +37,7 @@ not_left : (a e : Bool) → e ≡ false → (a && not e) ≡ false → a ≡ fal
 not_left true e apart gone = let n : true ≡ false = sym (ap not apart) ∙ gone in absurd cc
 not_left false e apart gone = refl
 
--- one source more that spells alike
+-- the run passes one more source that spells alike
 pub run_next : (kept : KeptArrivals) (left rest rest' k : ℕ) (sole : Sole) (value : Option Heard) (before taken : List (Option Heard)) → k < 16 → length taken ≡ 16
     → has rest k ≡ true → rest' ≡ set_of (λ i. has rest i && not (i == k)) → (sole_at kept.soles k).low ≡ sole.low → (sole_at kept.soles k).tail ≡ sole.tail
     → IsRun kept left rest sole value before taken → IsRun kept left rest' sole value before (set taken k value)
@@ -71,7 +71,7 @@ says_at e s t one value low tail says =
     subst (λ (n : ℕ). Says e (spelled n (high_of t.tail) (len_of t.tail)) one value) (sym low)
     (subst (λ (n : ℕ). Says e (spelled s.low (high_of n) (len_of n)) one value) (sym tail) says)
 
--- nothing was accepted so far
+-- before the first source nothing was accepted
 pub partial_first : (kept : KeptArrivals) (e : Expect) (due left ones lead : ℕ) (value : Option Heard) (taken : List (Option Heard)) → left ≡ due → ones ≡ 0 → lead ≡ 0
     → taken ≡ replicate 16 None → IsPartial kept e due left ones lead value taken
 partial_first kept e due left ones lead value taken left_is ones_is lead_is blank =
@@ -201,7 +201,6 @@ more_led left rest run lead lead' v value value' run_is led j h inside =
       | inr new ↦ inr (sym (has-is run j (λ j. has left j && not (has rest j)) run_is h) ∙ new.0, new.1)
     ]
 
--- once none is left
 gone_all : (left j : ℕ) → left ≡ 0 → has left j ≡ false
 gone_all left j none = ap (λ s. has s j) none ∙ has_none j
 

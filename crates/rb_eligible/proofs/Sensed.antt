@@ -109,13 +109,13 @@ read_value e kept received j one value shown h good says =
     let s = sole_at kept.soles j in
     says.value_is ∙ value_anytime e 0 s.at (message_in e.version (bytes_of s)) ∙ ap value_in (sym is)
 
--- where it is not one, nothing is taken of it
+-- a sense that is not one message has no value
 pub no_value : (s : Sense) → is_one s ≡ false → value_in s ≡ None
 no_value Silent poor = refl
 no_value (One stamp m) poor = absurd cc
 no_value Bad poor = refl
 
--- its stamp
+-- a sense that is one message has the stamp of its arrival
 one_stamp : (e : Expect) (stamp : ℕ) (m : Option Message) → is_one (sense_of_one e stamp m) ≡ true → stamp_in (sense_of_one e stamp m) ≡ Some stamp
 one_stamp e stamp None good = absurd cc
 one_stamp e stamp (Some m) good =
@@ -134,7 +134,7 @@ spelled_is bytes room low high all small low_is high_is begins =
     le_bytes_4 (drop 8 room) high (omega (arith, length-drop 8 room)) (λ i. rw (get_or-drop 8 room i 0) (small (8 + i))) high_is in
     ap (take (length bytes)) (ap (λ xs. xs ++ to_le_bytes w32 high) first ∙ ap (λ ys. take 8 room ++ ys) rest ∙ take-append-drop 8 room) ∙ begins
 
--- among the sources of a set only those with one arrival can be one
+-- a source can be one only if it has a sole arrival
 pub none_but_soles : (e : Expect) (kept : KeptArrivals) (received : List Received) (b : Bool) (j : ℕ) → HoldsArrivals kept received → j < 16
     → ((b && is_sole kept j) && is_one (sense_in e received j)) ≡ (b && is_one (sense_in e received j))
 none_but_soles e kept received b j shown h =
@@ -204,6 +204,6 @@ stamp_up_to n kept j up_to h sole = here (has kept.came j) (has kept.spoilt j) s
     here true true e most = absurd cc
     here false spoilt e most = absurd cc
 
--- where it is not one, there is no value
+-- bytes that do not say one message have no value
 pub says_none : (e : Expect) (bytes : List ℕ) (one : Bool) (value : Option Heard) → Says e bytes one value → one ≡ false → value ≡ None
 says_none e bytes one value says poor = says.value_is ∙ no_value (sense_of_one e 0 (message_in e.version bytes)) (sym says.one_is ∙ poor)

@@ -27,7 +27,7 @@ append-none : {X : Type 0} (xs : List X) → xs ++ [] ≡ xs
 append-none [] = refl
 append-none (x ∷ xs) = ap (λ ys. x ∷ ys) (append-none xs)
 
--- nothing changes for the other sources
+-- an arrival from source `i` changes nothing for the other sources
 same_arrivals : (i j : ℕ) (received : List Received) (a : Arrival) → j ≢ i → arrivals_of j (received ++ record { source = i; arrival = a } ∷ []) ≡ arrivals_of j received
 same_arrivals i j received a apart =
     arrivals_more j received (record { source = i; arrival = a })
@@ -42,12 +42,12 @@ same_kept : (came spoilt came' spoilt' : Bool) (s s' : Sole) (arrivals arrivals'
     → IsKept came spoilt s arrivals → IsKept came' spoilt' s' arrivals'
 same_kept came spoilt came' spoilt' s s' arrivals arrivals' a b c d kept = rw (a, b, c, d) kept
 
--- where nothing came
+-- if nothing came from a source, it has no arrivals and is not spoilt
 kept_none : (spoilt : Bool) (s : Sole) (arrivals : List Arrival) → IsKept false spoilt s arrivals → (spoilt ≡ false) × (arrivals ≡ [])
 kept_none false s arrivals kept = (refl, kept)
 kept_none true s arrivals kept = absurd kept
 
--- where something came
+-- if something came from a source, it has an arrival
 kept_some : (spoilt : Bool) (s : Sole) (arrivals : List Arrival) → IsKept true spoilt s arrivals → 0 < length arrivals
 kept_some false s arrivals kept = let n = ap length kept.1 in omega (arith, n)
 kept_some true s arrivals kept = elim kept [ inl one ↦ (let n = ap length one.1.0 in omega (arith, n)) | inr many ↦ omega (arith, many) ]
@@ -64,7 +64,7 @@ with_other : (set k j : ℕ) → j < 16 → j ≢ k → has (with_node set k) j 
 with_other set k j within apart =
     has-set_of j (λ i. has set i || (i == k)) within ∙ ap (λ b. has set j || b) (eq_other j k apart) ∙ elim (has set j) as (λ b. (b || false) ≡ b) [ true ↦ refl | false ↦ refl ]
 
--- the first arrival of a source, no longer than any message
+-- an inbox holds the first arrival of a source, if that is no longer than any message
 pub shows_first : (kept : KeptArrivals) (received : List Received) (i at : ℕ) (bytes : List ℕ) (s : Sole) → i < 16 → length kept.soles ≡ 16
     → has kept.came i ≡ false → s.at ≡ at → len_of s.tail ≤ 12 → bytes_of s ≡ bytes → HoldsArrivals kept received
     → HoldsArrivals (record { came = with_node kept.came i; spoilt = kept.spoilt; soles = set kept.soles i s })

@@ -20,7 +20,7 @@ message_is frame slot stage value some most = rw (some, most) refl
 suits_is : (e : Expect) (value : ℕ) → e.sync ≡ false → suits e (record { tag = Word; frame = e.frame; slot = e.slot; stage = e.stage; value = value }) ≡ true
 suits_is e value sync = rw (eq_self e.frame, eq_self e.slot, eq_self e.stage, sync) refl
 
--- with the form of a message, it is that word
+-- bytes that start as a word and have the form of a message say that word
 pub says_word : (e : Expect) (low high len word : ℕ) → len ≤ 12 → StartsAsWord e low → has_form e.version (spelled low high len) ≡ true
     → word ≡ low / 281474976710656 % 256 * 16777216 + low / 72057594037927936 % 256 * 65536 + high % 256 * 256 + high / 256 % 256
     → Says e (spelled low high len) true (Some (heard.Word word))

@@ -8,12 +8,12 @@ use Rattle.rb_rules.specs.declared.message.Version.TheVariants.{One, Two}
 use Rattle.rb_rules.specs.Spelling.{Spells, check_of, fields_of, spelling_of, message_in}
 use Rattle.rb_rules.proofs.Spellings.{has_value, only_so, none_so}
 
--- the fields, then the check
+-- in version One a spelling is the fields and then the check
 pub spelled_one : (version : Version) (m : Message) (fields spelling : List ℕ) (check : ℕ) → version ≡ One
     → fields ≡ fields_of m ++ 0 ∷ 0 ∷ [] → check ≡ check_of (take 10 fields) → spelling ≡ take 11 (set fields 10 check) → spelling ≡ spelling_of version m
 spelled_one version m fields spelling check is_one is_fields is_check is = rw (is_one, is, is_check, is_fields) refl
 
--- the fields, the bus's number, then the check
+-- in version Two a spelling is the fields, the number of the bus and then the check
 pub spelled_two : (version : Version) (bus : ℕ) (m : Message) (fields spelling : List ℕ) (check : ℕ) → version ≡ Two bus
     → fields ≡ fields_of m ++ 0 ∷ 0 ∷ [] → check ≡ check_of (take 11 (set fields 10 bus)) → spelling ≡ set (set fields 10 bus) 11 check
     → spelling ≡ spelling_of version m
@@ -36,7 +36,7 @@ pub read_is_spelled : (version : Version) (bytes : List ℕ) (read : Option Mess
 read_is_spelled version bytes None is small = tt
 read_is_spelled version bytes (Some m) is small = only_so version bytes m (sym is) (λ k. let byte = small k in omega arith)
 
--- where nothing is read nothing is spelled
+-- if nothing is read from the bytes, they spell no message
 pub none_is_spelled : (version : Version) (bytes : List ℕ) (read : Option Message) → read ≡ message_in version bytes
     → IfNone read ((m : Message) → ¬ Spells version bytes m)
 none_is_spelled version bytes None is = none_so version bytes (sym is)

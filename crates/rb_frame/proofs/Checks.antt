@@ -6,7 +6,7 @@ use Rattle.std.proofs.lemmas.Grind.{common_steps}
 use Rattle.std.proofs.lemmas.Nat.{xor_comm, xor_mod, xor_shr}
 use Rattle.rb_rules.specs.Spelling.{check_of}
 
--- four at once
+-- the exclusive or of four bytes
 all_of : ℕ → ℕ → ℕ → ℕ → ℕ
 all_of a b c d = bit_xor (bit_xor a b) (bit_xor c d)
 
@@ -18,12 +18,12 @@ swap_two a b c d =
     ∙ ap (bit_xor a) (sym (xor_assoc b c d) ∙ ap (λ x. bit_xor x d) (xor_comm b c) ∙ xor_assoc c b d)
     ∙ sym (xor_assoc a c (bit_xor b d))
 
--- four after another
+-- four bytes one after another have the same effect as their exclusive or
 one_by_one : (s a b c d : ℕ) → bit_xor (bit_xor (bit_xor (bit_xor s a) b) c) d ≡ bit_xor s (all_of a b c d)
 unfolding all_of
 one_by_one s a b c d = xor_assoc (bit_xor (bit_xor s a) b) c d ∙ ap (λ x. bit_xor x (bit_xor c d)) (xor_assoc s a b) ∙ xor_assoc s (bit_xor a b) (bit_xor c d)
 
--- the bytes of a number, at once
+-- the exclusive or of the four bytes of a number
 of_bytes : ℕ → ℕ
 of_bytes n = all_of (n % 256) (n / 256 % 256) (n / 65536 % 256) (n / 16777216 % 256)
 
@@ -34,7 +34,7 @@ check_bytes n = one_by_one 0 (n % 256) (n / 256 % 256) (n / 65536 % 256) (n / 16
 byte_of : (a b k : ℕ) → bit_xor a b / 2 ^ k % 2 ^ 8 ≡ bit_xor (a / 2 ^ k % 2 ^ 8) (b / 2 ^ k % 2 ^ 8)
 byte_of a b k = ap (λ n. n % 2 ^ 8) (xor_shr a b k) ∙ xor_mod (a / 2 ^ k) (b / 2 ^ k) 8
 
--- two numbers, byte by byte
+-- the exclusive or of two numbers has as its bytes' exclusive or that of both
 of_both : (a b : ℕ) → of_bytes (bit_xor a b) ≡ bit_xor (of_bytes a) (of_bytes b)
 unfolding of_bytes all_of
 of_both a b =
@@ -53,7 +53,7 @@ of_both a b =
 pub from_zero : (x : ℕ) → bit_xor 0 x ≡ x
 from_zero x = xor_comm 0 x ∙ grind (arith, common_steps)
 
--- the halves laid over one another
+-- the check of a number is found by laying its halves over each other
 pub check_four : (n half : ℕ) → half ≡ bit_xor n (n / 65536) → bit_xor half (half / 256) % 256 ≡ check_of (to_le_bytes w32 n)
 unfolding of_bytes all_of
 check_four n half is =
@@ -66,7 +66,7 @@ check_four n half is =
     let high_part : half / 256 % 256 ≡ bit_xor n1 n3 = ap (λ h. h / 256 % 256) is ∙ byte_of n (n / 65536) 8 ∙ ap (bit_xor n1) high in
     xor_mod half (half / 256) 8 ∙ (λ i. bit_xor (low_part i) (high_part i)) ∙ swap_two n0 n2 n1 n3 ∙ sym (from_zero (of_bytes n)) ∙ sym (check_bytes n)
 
--- three numbers laid over one another
+-- the check of three numbers is that of the three laid over each other
 pub check_three : (a b c : ℕ) → check_of (to_le_bytes w32 (bit_xor (bit_xor a b) c)) ≡ check_of (to_le_bytes w32 a ++ to_le_bytes w32 b ++ to_le_bytes w32 c)
 unfolding of_bytes all_of
 check_three a b c =

@@ -8,7 +8,7 @@ use Rattle.std.proofs.lemmas.Nat.{le_bytes_4, le_bytes_8}
 use Rattle.std.proofs.Math.Seq.{take-append_seam}
 use Rattle.rb_frame.specs.Spellings.{IsFilled, bytes_in, filled, high_of, len_of, low_in, rest_in, spelled, tail_in}
 
--- as many bytes are kept as the second number says
+-- as many bytes are kept as the tail says
 pub length_bytes : (low tail : ℕ) (rest : List ℕ) → len_of tail ≤ 32 → length rest ≡ 20 → length (bytes_in low tail rest) ≡ len_of tail
 unfolding bytes_in
 length_bytes low tail rest few others = omega (arith, others, length-take (len_of tail) (to_le_bytes w64 low ++ to_le_bytes w32 (high_of tail) ++ rest))
@@ -51,7 +51,7 @@ pub filled_length : (bytes : List ℕ) → length bytes ≤ 32 → length (fille
 unfolding filled
 filled_length bytes few = omega (arith, few, length-drop {A = ℕ} (length bytes) (replicate 32 0), length-append bytes (drop (length bytes) (replicate 32 0)))
 
--- they begin with the bytes
+-- filled bytes begin with the bytes themselves
 pub filled_begins : (bytes : List ℕ) → take (length bytes) (filled bytes) ≡ bytes
 unfolding filled
 filled_begins bytes = take-append_seam bytes (drop (length bytes) (replicate 32 0))

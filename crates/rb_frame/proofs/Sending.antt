@@ -32,7 +32,7 @@ check_bus low high both bus small byte is =
     let d : both / 16777216 % 256 ≡ 0 = omega (arith, is, small, byte) in
     (λ i. check_of (to_le_bytes w64 low ++ a i ∷ b i ∷ c i ∷ d i ∷ [])) ∙ xor_with_0 (check_of (spelled low high 10 ++ bus ∷ []))
 
--- eleven bytes, the last of them the check
+-- a tail with the length 11 spells ten bytes and then the check
 pub eleven_bytes : (low high check tail : ℕ) → high < 65536 → check < 256 → tail ≡ high + check * 65536 + 47244640256 → bytes_in low tail (replicate 20 0) ≡ spelled low high 10 ++ check ∷ []
 unfolding bytes_in spelled
 eleven_bytes low high check tail small byte is =
@@ -54,7 +54,7 @@ eleven_filled low high check tail fits small byte is =
       rest_is = ap rest_in bytes;
     }
 
--- twelve, the last two of them the number of the bus and the check
+-- a tail with the length 12 spells ten bytes, the number of the bus and then the check
 pub twelve_bytes : (low high bus check tail : ℕ) → high < 65536 → bus < 256 → check < 256 → tail ≡ high + bus * 65536 + check * 16777216 + 51539607552
     → bytes_in low tail (replicate 20 0) ≡ spelled low high 10 ++ bus ∷ [] ++ check ∷ []
 unfolding bytes_in spelled
@@ -79,7 +79,7 @@ twelve_filled low high bus check tail fits small number byte is =
       rest_is = ap rest_in bytes;
     }
 
--- the first ten bytes of a message
+-- the first ten bytes of a message are its fields
 ten_bytes : (m : Message) (tag low high : ℕ) → tag ≡ tag_byte m.tag
     → to_le_bytes w64 low ≡ tag ∷ to_be_bytes w16 m.frame ++ to_be_bytes w16 m.slot ++ m.stage ∷ take 2 (to_be_bytes w32 m.value)
     → to_le_bytes w32 high ≡ drop 2 (to_be_bytes w32 m.value) ++ 0 ∷ 0 ∷ [] → spelled low high 10 ≡ fields_of m
@@ -87,7 +87,7 @@ unfolding spelled
 ten_bytes m tag low high tag_is first next =
     (λ i. take 10 (first i ++ next i)) ∙ (λ i. tag_is i ∷ to_be_bytes w16 m.frame ++ to_be_bytes w16 m.slot ++ m.stage ∷ to_be_bytes w32 m.value)
 
--- they are followed by their check
+-- in version One the fields are sent with their check after them
 pub sent_one : (version : Version) (m : Message) (tag low high : ℕ) (spelling : List ℕ) → version ≡ One → tag ≡ tag_byte m.tag
     → to_le_bytes w64 low ≡ tag ∷ to_be_bytes w16 m.frame ++ to_be_bytes w16 m.slot ++ m.stage ∷ take 2 (to_be_bytes w32 m.value)
     → to_le_bytes w32 high ≡ drop 2 (to_be_bytes w32 m.value) ++ 0 ∷ 0 ∷ [] → spelling ≡ spelled low high 10 ++ check_of (spelled low high 10) ∷ []

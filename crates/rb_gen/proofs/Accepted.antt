@@ -73,7 +73,7 @@ no_form_is_wrong drawn frames = refl
 
 -- ---- the rules on ranges
 
--- the entries of the table, by number
+-- the tables of the 13 nodes' clocks, by number
 clock_entries : List ℕ → List Members
 clock_entries drawn = map (λ i. clock_table (node_numbered i) (clock_of drawn i)) (numbers 13)
 

@@ -6,14 +6,14 @@ use Rattle.std.proofs.lemmas.List.FromFn.{get_or-map-range_with_len, length-map-
 use Rattle.std.specs.Prelude.{All}
 use Rattle.rb_base.specs.Counting.{numbers}
 
--- one more
+-- a list of the first `i` values of `f` with `f i` after it has the first i + 1 values
 pub made_more : {X : Type 0} (f : ℕ → X) (i : ℕ) (before after : List X) (x : X) → after ≡ before ++ x ∷ [] → before ≡ map f (numbers i) → x ≡ f i
     → after ≡ map f (numbers (i + 1))
 made_more f i before after x pushed made is =
     let at : 0 + i ≡ i = omega arith in
     pushed ∙ ap (λ l. l ++ x ∷ []) made ∙ ap (λ z. map f (numbers i) ++ z ∷ []) is ∙ sym (map-range_with_len_more f 0 i i at)
 
--- one more number is written
+-- after item `i` is set to `f i`, the first i + 1 items are values of `f`
 pub filled_more : (f : ℕ → ℕ) (xs : List ℕ) (i x : ℕ) → i < length xs → x ≡ f i → ((k : ℕ) → k < i → get_or xs k 0 ≡ f k)
     → (k : ℕ) → k < i + 1 → get_or (set xs i x) k 0 ≡ f k
 filled_more f xs i x inside is filled k h = elim (cases_lt k i) [

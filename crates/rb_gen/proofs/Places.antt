@@ -23,7 +23,7 @@ pieces_length f w each (x ∷ xs) =
     let here = each x in
     length-append (f x) (flat_map f xs) ∙ ap (λ n. n + length (flat_map f xs)) here ∙ ap (λ n. w + n) rest ∙ omega arith
 
--- line j of piece i
+-- line `j` of piece `i` is line w * i + j of all pieces, if each has `w` lines
 piece : {X A : Type 0} (f : X → List A) (w : ℕ) → ((x : X) → length (f x) ≡ w) → (xs : List X) (i j : ℕ) (e : X) (d : A) → i < length xs → j < w
     → get_or (flat_map f xs) (w * i + j) d ≡ get_or (f (get_or xs i e)) j d
 piece f w each [] i j e d lt inside = absurd (omega (arith, lt))
@@ -116,7 +116,7 @@ pub at_root : (sc : Scenario) (n : ℕ) → n < 6 → get_or (root_lines sc.fram
 at_root sc n lt =
     sym (ap (λ lines. get_or lines n []) (lines_are sc) ∙ get_or_append_left (root_lines sc.frames) (clocks_in sc ++ behind_clocks sc) [] n (omega (arith, lt)))
 
--- behind the root
+-- from line 6 on the lines are those of the clocks and of what follows them
 after_root : (sc : Scenario) (n : ℕ) → 6 ≤ n → get_or (lines_of sc) n [] ≡ get_or (clocks_in sc ++ behind_clocks sc) (n - 6) []
 after_root sc n ge =
     ap (λ lines. get_or lines n []) (lines_are sc) ∙ after (root_lines sc.frames) (clocks_in sc ++ behind_clocks sc) n (n - 6) [] (omega (arith, ge))
@@ -135,7 +135,7 @@ at_clock sc is n ge lt =
     ∙ piece (clock_entry sc.clocks) 4 (λ x. refl) (numbers 13) i j 0 [] (omega (arith, length-range_with_len 0 13, inside)) (omega arith)
     ∙ ap (λ k. get_or (clock_entry sc.clocks k) j []) (get_or-range_with_len 0 13 i 0 inside ∙ zero-add i))
 
--- behind the clocks
+-- from line 58 on the lines are those behind the clocks
 after_clocks : (sc : Scenario) → IsGenerated sc → (n : ℕ) → 58 ≤ n
     → get_or (lines_of sc) n [] ≡ get_or (behind_clocks sc) (n - 58) []
 after_clocks sc is n ge =
@@ -173,7 +173,7 @@ at_link sc is n ge lt =
     ∙ piece rule_lines 4 (λ x. refl) sc.delays.rules i j other [] (omega (arith, count.rules, inside)) (omega arith)
     ∙ ap (λ lines. get_or lines j []) (rule_shown sc is i other inside))
 
--- behind the links
+-- from line 378 on the lines are those behind the links
 after_links : (sc : Scenario) → IsGenerated sc → (n : ℕ) → 378 ≤ n → get_or (lines_of sc) n [] ≡ get_or (behind_links sc) (n - 378) []
 after_links sc is n ge =
     let l = lengths sc is in
@@ -185,7 +185,7 @@ pub at_biu_fault : (sc : Scenario) → IsGenerated sc → (n : ℕ) → 378 ≤ 
 at_biu_fault sc is n ge lt =
     sym (after_links sc is n ge ∙ get_or_append_left (biu_fault_in sc) (behind_biu_fault sc) [] (n - 378) (omega (arith, lt)))
 
--- behind BIU 7's fault
+-- from line 382 on the lines are those behind BIU 7's fault
 after_biu_fault : (sc : Scenario) → IsGenerated sc → (n : ℕ) → 382 ≤ n → get_or (lines_of sc) n [] ≡ get_or (behind_biu_fault sc) (n - 382) []
 after_biu_fault sc is n ge =
     after_links sc is n (omega (arith, ge)) ∙ after (biu_fault_in sc) (behind_biu_fault sc) (n - 378) (n - 382) [] (omega (arith, ge))

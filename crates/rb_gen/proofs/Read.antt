@@ -18,7 +18,7 @@ use Rattle.rb_scenario.specs.Reading.{scenario_of as scenario_said, scenario_on}
 use Rattle.rb_gen.specs.Generated.{plan, scenario_of, sizes}
 use Rattle.rb_gen.specs.Table.{table_of}
 
--- the bus
+-- the bus of a generated scenario of `frames` frames
 abbrev pub bus_in : ℕ → Bus
 bus_in frames = record { shape = sizes; frames = frames; plan = plan }
 

@@ -35,11 +35,11 @@ if_member : (b : Bool) (a other : Option Heard) → (if b then or_else a other e
 if_member true a other = refl
 if_member false a other = refl
 
--- the value of a BIU by these deliveries and one more
+-- the value of BIU `i` by `ds` and then `d` is that by `ds`, or else that by `d`
 pub value_more : (members i : ℕ) (ds : List Delivery) (d : Delivery) → value_of members (ds ++ d ∷ []) i ≡ or_else (value_of members ds i) (value_of members (d ∷ []) i)
 value_more members i ds d = ap (λ o. if has members i then o else None) (first_more i ds d) ∙ if_member (has members i) (first_of i ds) (first_of i (d ∷ []))
 
--- that of another BIU is none
+-- a delivery from another sender gives BIU `i` no value
 not_sender : (members i : ℕ) (d : Delivery) → (d.sender == i) ≡ false → value_of members (d ∷ []) i ≡ None
 not_sender members i d other = ap (λ b. if has members i then (if b then Some d.value else None) else None) other ∙ either (has members i)
   where
@@ -57,7 +57,7 @@ or_else-some (Some x) other e = refl
 no_member : (members i : ℕ) (ds : List Delivery) → has members i ≡ false → value_of members ds i ≡ None
 no_member members i ds out = ap (λ b. if b then first_of i ds else None) out
 
--- nothing changes where the sender is no member
+-- a delivery whose sender is no member changes nothing in the group
 pub hears_no_member : (g : KeptGroup) (ds : List Delivery) (d : Delivery) → HasHeard g ds → has g.members d.sender ≡ false → HasHeard g (ds ++ d ∷ [])
 hears_no_member g ds d is out = record { many = is.many; each = λ i h. is.each i h ∙ by i (d.sender == i) refl }
   where

@@ -22,6 +22,5 @@ pub found_below : (n : ℕ) (stamps : List ℕ) (m : Option ℕ) → All (λ s. 
 found_below n stamps None small is = tt
 found_below n stamps (Some m) small is = middle_below n m stamps small is
 
--- one word more, if the value is one
 pub one_small : (n word : ℕ) (words : List ℕ) → All (λ s. s < n) words → word < n → All (λ s. s < n) (words ++ word ∷ [])
 one_small n word words small less = All-append (λ s. s < n) words (word ∷ []) small (All-cons (λ s. s < n) word [] less (All-nil (λ s. s < n)))

@@ -18,7 +18,7 @@ within true true e t = refl
 within true false e t = absurd (cc)
 within false l e t = absurd (cc)
 
--- where there is none, all members are BIUs of the bus
+-- if no member is beyond the bus, all members are BIUs of the bus
 pub none_beyond : (sizes : Sizes) (mask bius left : ℕ) → mask < 2 ^ 16 → bius ≡ set_of (λ j. nat_lt j sizes.bius) → left ≡ set_of (beyond mask bius) → left ≡ 0 → AreMembers sizes mask
 none_beyond sizes mask bius left small is left_is zero_is i member =
     elim (cases_lt i 16) [
@@ -37,7 +37,7 @@ no_member_out true true h = refl
 no_member_out true false h = absurd (let e = h refl in cc)
 no_member_out false l h = refl
 
--- the other way round
+-- if all members are BIUs of the bus, no member is beyond it
 pub all_members : (sizes : Sizes) (mask bius left : ℕ) → bius ≡ set_of (λ j. nat_lt j sizes.bius) → left ≡ set_of (beyond mask bius) → AreMembers sizes mask → left ≡ 0
 all_members sizes mask bius left is left_is members =
     left_is ∙ same_set (set_of (beyond mask bius)) 0 (set_of-lt (beyond mask bius)) (omega arith) (λ i below.

@@ -38,7 +38,7 @@ pub portion_at : (members : ℕ) (told : ℕ → List Delivery) (groups : List K
     → HoldPortions members told groups → HoldsPortion members (told i) g
 portion_at members told groups i g d below is hold = hold.each i g (slice_get-get_or groups i d (omega (arith, below, hold.many)) ∙ ap Some (sym is))
 
--- no deliveries, and those of a line at another port
+-- groups that hold their portions still hold them if no port is told any more
 pub nothing_more : (members : ℕ) (told : ℕ → List Delivery) (groups : List KeptGroup) → HoldPortions members told groups → HoldPortions members (λ i. told i ++ []) groups
 nothing_more members told groups hold = told_same members told (λ i. told i ++ []) groups (λ i. sym (append-nil (told i))) hold
 
@@ -85,7 +85,7 @@ line_heard members frame slot line told groups before after hold old heard stay 
         (subst (λ (k : KeptGroup). HoldsPortion members (told i ++ delivery_of frame slot line ∷ []) k) this
         (record { members_are = stay ∙ was.members_are; heard = heard (told i) was.heard }))
 
--- the lines of a slot, one after another
+-- the groups hear the lines of a slot one after another
 pub lines_heard : (members frame slot k : ℕ) (lines : List SlotLine) (d : SlotLine) (told : ℕ → List Delivery) (groups : List KeptGroup) → k < length lines
     → HoldPortions members (λ i. (told i ++ deliveries_in frame slot i (take k lines)) ++ line_told frame slot i (get_or lines k d)) groups
     → HoldPortions members (λ i. told i ++ deliveries_in frame slot i (take (k + 1) lines)) groups
@@ -135,7 +135,7 @@ slot_told frame i f slot lines same =
 pub slot_untold : (frame i f slot : ℕ) (lines : List SlotLine) → f ≢ frame → told_of frame i (Slot f slot lines) ≡ []
 slot_untold frame i f slot lines other = ap (λ b. if b then deliveries_in frame slot i lines else []) (eq_other f frame other)
 
--- it is told of no frame
+-- a record that tells no port anything leaves the groups as they are
 pub untold : (members frame : ℕ) (told : ℕ → List Delivery) (o : Option Record) (groups : List KeptGroup) → ((i : ℕ) → told_in frame i o ≡ []) → HoldPortions members told groups
     → HoldPortions members (λ i. told i ++ told_in frame i o) groups
 untold members frame told o groups none hold =

@@ -4,6 +4,5 @@ use Rattle.rb_rules.specs.Goodness.{Scenario}
 use Rattle.rb_group_run.specs.Holding.{IsScopeOf}
 use Rattle.rb_group_run.specs.declared.asked.Scope.{Scope}
 
--- it is that of the scenario with which it was opened
 pub scope_same : (bus sc : Scenario) (scope : Scope) → bus ≡ sc → IsScopeOf sc scope → IsScopeOf bus scope
 scope_same bus sc scope same is = subst (λ (s : Scenario). IsScopeOf s scope) (sym same) is

@@ -15,7 +15,7 @@ one_line line n =
     ∙ flat_map-append line (numbers n) (n ∷ [])
     ∙ ap (λ t. flat_map line (numbers n) ++ t) (append-nil (line n))
 
--- that of the next number is written
+-- after the line of number `n` the lines of the first n + 1 numbers are written
 pub lines_more : (line : ℕ → List ℕ) (n : ℕ) (old mid new : Option (List ℕ)) → Appends old mid (flat_map line (numbers n)) → Appends mid new (line n)
     → Appends old new (flat_map line (numbers (n + 1)))
 lines_more line n old mid new before now = subst (λ t. Appends old new t) (sym (one_line line n)) (appends_join old mid new _ _ before now)

@@ -36,7 +36,7 @@ pub record IsWritten (sc : Scenario) (asked : Asked) (is_plain : Bool) (told sin
   pub text : Appends held after (text_of sc asked turns)
   pub frame : HoldsFrame sc.frames asked (records_in turns) ports
 
--- at first
+-- before the first turn nothing is written
 pub none_written : (k : KeptWorld) (asked : Asked) (is_plain : Bool) (told : Option (List Turn)) (held : Option (List ℕ)) (ports : Ports) → HasGivenNothing k
     → HoldsFrame k.bus.frames asked [] ports → IsWritten k.bus asked is_plain told told k held held ports 0
 none_written k asked is_plain told held ports begun frame =
@@ -50,12 +50,12 @@ frame_next sc scope asked records o ports next is hold step =
     subst (λ n. HoldsFrame n asked (records ++ option_to_list o) next) is.frames_are
     (step records (subst (λ n. HoldsFrame n asked records ports) (sym is.frames_are) hold))
 
--- one turn more, which has been given and is not yet written
+-- `t` is one more turn, which has been given and is not yet written
 abbrev pub Next : (sc : Scenario) (asked : Asked) (is_plain : Bool) (told mid since : Option (List Turn)) (k after : KeptWorld) (held mid_held : Option (List ℕ)) (ports : Ports) (passed : ℕ) (t : Turn)
     → IsWritten sc asked is_plain told mid k held mid_held ports passed → Type 0
 Next sc asked is_plain told mid since k after held mid_held ports passed t is = IsUnderWay sc is_plain told since after (is.turns ++ t ∷ []) (is_last (record_of t))
 
--- it is written
+-- with the text of turn `t` the text of all turns up to `t` is written
 written_next : (sc : Scenario) (asked : Asked) (turns : List Turn) (t : Turn) (held mid_held after_held : Option (List ℕ)) → Appends held mid_held (text_of sc asked turns)
     → Appends mid_held after_held (turn_text sc asked (records_in turns) (record_of t)) → Appends held after_held (text_of sc asked (turns ++ t ∷ []))
 written_next sc asked turns t held mid_held after_held before now =

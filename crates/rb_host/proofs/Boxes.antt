@@ -41,7 +41,7 @@ A = passed heap.the_row
 abbrev pub LA : Laws A
 LA = arg_laws (bare (layout heap.the_row)) no heap.the_row heap_laws.the_row_laws refl
 
--- such a type needs no drop
+-- a boxed type `R` without a drop of its own
 abbrev pub drop_of : RattleType → Dict
 drop_of R = impl ("rb_host::Destruct++none::drop" ∷ []) (tcons (layout R) tnil) dnil
 
@@ -54,7 +54,7 @@ Whole = boxed.the_row any.the_row heap.the_row ghosts
 abbrev pub Good : Ty → Val → Type 0
 Good τ v = Holds (has_ty τ v) × WT v
 
--- a handle at its machine value
+-- the machine value of a handle
 abbrev pub word : ℕ → ℕ → Val
 word b o = vstruct (vcons (vptr b o) vnil)
 

@@ -40,7 +40,7 @@ pub noted_shown : (judge : KeptJudge) (stages : List JudgedStage) (kind : Side) 
 noted_shown judge stages Biu i j hi hj is = (is.rmus.sights j hj).by i hi
 noted_shown judge stages Rmu i j hi hj is = (is.bius.sights j hj).by i hi
 
--- at the start of a stage that is so of all
+-- at the start of a stage no node has noted any source
 pub none_noted : (judge : KeptJudge) (good trusted : Side → ℕ) (eps : ℕ) (stages : List JudgedStage) (kind : Side) (i j : ℕ) → i < 16 → j < 16
     → HoldsStages judge (stage_begun good trusted eps ∷ stages) → has_noted judge (name_of kind i) j ≡ false
 none_noted judge good trusted eps stages kind i j hi hj is = noted_shown judge (stage_begun good trusted eps ∷ stages) kind i j hi hj is

@@ -33,7 +33,7 @@ without_it true false = refl
 without_it false true = refl
 without_it false false = refl
 
--- a mask of two masks
+-- a bitwise `op` of two sets is the set of the nodes that pass `op` of both tests
 pub set_by : (op : Bool → Bool → Bool) (a b r : ℕ) (p q : ℕ → Bool) → a ≡ set_of p → b ≡ set_of q → r ≡ set_of (λ i. op (has a i) (has b i))
     → r ≡ set_of (λ i. op (p i) (q i))
 set_by op a b r p q a_is b_is r_is =
@@ -55,7 +55,7 @@ source_none eps good seen by_none none_heard alike = record {
     no_unlike eps good =
         some_none _ (λ a h. ap (λ b. has good a && b) (some_none _ (λ b h. and-false (has good b))) ∙ and-false (has good a))
 
--- before the first stage of a frame
+-- zeros show a kind before the first stage of a frame
 pub kind_none : (kind : Side) (s : KeptKind) → s.good ≡ 0 → s.trusted ≡ 0 → s.unlike ≡ 0 → s.taken ≡ 0 → s.unlike_now ≡ 0 → s.heard_now ≡ 0
     → ((j : ℕ) → (seen_of j s).by ≡ 0) → ShowsKind kind [] s
 kind_none kind s no_good no_trusted no_unlike no_taken no_unlike_now no_heard no_by = record {
@@ -154,7 +154,7 @@ other_kind : (kind : Side) (i r : ℕ) → same_node (name_of (other kind) i) (n
 other_kind Biu i r = refl
 other_kind Rmu i r = refl
 
--- of a source of the other kind than the receiver
+-- the receiver's sight of a source of the other kind is noted
 pub kind_noted : (kind : Side) (r from : ℕ) (see : See) (stages : List JudgedStage) (before after : KeptKind)
     → has (good_now (other kind) stages) r ≡ true
     → ((sight : ℕ → See) → ShowsSource (eps_now stages) (good_now (other kind) stages) sight (seen_of from before)
@@ -211,7 +211,7 @@ pub member_below : (s i : ℕ) → s < 2 ^ 16 → has s i ≡ true → i < 16
 member_below s i fits member =
     elim (cases_lt i 16) [ inl below ↦ below | inr above ↦ absurd (let e = has_above s i fits above in cc) ]
 
--- of the sources of the receiver's own kind nothing is noted
+-- the receiver's sight of a source of its own kind is not noted
 pub kind_stays : (kind : Side) (r from : ℕ) (see : See) (stages : List JudgedStage) (s : KeptKind)
     → ShowsKind kind stages s → ShowsKind kind (with_newest_sight (name_of kind r) from see stages) s
 kind_stays kind r from see [] s is = is

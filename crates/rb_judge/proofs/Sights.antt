@@ -137,7 +137,7 @@ old_sees before after r x sight adds k old = at_other r x sight k (old_is_other 
 r_sees : (r : ℕ) (x : See) (sight : ℕ → See) (k : ℕ) → k ≡ r → with_x r x sight k ≡ x
 r_sees r x sight k same = ap (with_x r x sight) same ∙ at_r r x sight
 
--- one that is unlike y now
+-- with the sight `x` some sight differs from `y` if one did before, or if `x` is unlike `y`
 one_more : (eps before after r : ℕ) (x : See) (sight : ℕ → See) → Adds before after r → (y : See)
     → some_differs eps after (with_x r x sight) y ≡ (some_differs eps before sight y || not (are_alike eps x y))
 one_more eps before after r x sight adds y =
@@ -305,7 +305,7 @@ unlike_clashes eps Unlike x h = refl
 unlike_clashes eps (Value v) x h = absurd (cc)
 unlike_clashes eps (Times l g) x h = absurd (cc)
 
--- the first sight
+-- the first sight of a source is kept
 kept_first : (eps before after r : ℕ) (x : See) (sight : ℕ → See) → Adds before after r → is_something x ≡ true
     → some_node (has before) ≡ false → IsKept eps after (with_x r x sight) (kept_of x)
 kept_first eps before after r x sight adds something none =
@@ -322,7 +322,7 @@ kept_first eps before after r x sight adds something none =
           ∙ sym (one_more eps before after r x sight adds y ∙ ap (λ b. b || not (are_alike eps x y)) (no_one y));
     }
 
--- a further sight
+-- a further sight of a source clashes with the kept one or widens it
 kept_next : (eps before after r : ℕ) (x : See) (sight : ℕ → See) (kept : KeptSight) → Adds before after r → is_something x ≡ true
     → IsKept eps before sight kept → IsKept eps after (with_x r x sight) (if clashes eps kept x then Unlike else widened kept x)
 kept_next eps before after r x sight kept adds something is =
@@ -419,7 +419,7 @@ is_nothing see.Nothing h = refl
 is_nothing (see.Value v) h = absurd (cc)
 is_nothing (see.Time t) h = absurd (cc)
 
--- nothing is noted of a receiver of which nothing was noted
+-- if a receiver saw nothing and nothing was noted for it, what is shown stays right
 pub nothing_noted : (eps good r : ℕ) (x : See) (sight : ℕ → See) (seen : SourceSights) → r < 16 → has seen.by r ≡ false → x ≡ see.Nothing
     → ShowsSource eps good sight seen → ShowsSource eps good (λ i. if i == r then x else sight i) seen
 nothing_noted eps good r x sight seen below fresh nothing is =

@@ -63,7 +63,7 @@ pub record IsAgreed (sc : Scenario) (hands : List HandIn) (n : ℕ) : Type 0 whe
 agreed : (sc : Scenario) (hands : List HandIn) (n : ℕ) (m : Moment) (s : Shared) → m ≡ moment sc hands n → Agree sc hands n m s → IsAgreed sc hands n
 agreed sc hands n m s is agree = record { shared = s; agree = subst (λ m. Agree sc hands n m s) is agree }
 
--- a window below the sync slot
+-- if the run does not end with stage q + 1 of a slot below the sync slot, its window is a setting
 pub exact-setting : (sc : Scenario) (hands : List HandIn) (n : ℕ) (m : Moment) (s : Shared) (slot q : ℕ) → IsLawful sc → Agree sc hands n m s
     → slot < sync_slot_of sc.sizes → q < 3 → m.window ≡ 3 * slot + q → (next sc m).book.ended ≡ false → Setting sc hands n m s slot q
 exact-setting sc hands n m s slot q law agree below small at running = record {
@@ -84,7 +84,7 @@ exact-step sc hands n m s slot (suc (suc zero)) c is =
     agreed sc hands (suc n) (next sc m) (with_value sc s slot (voted sc hands n m s slot c).value) is (agree_3 sc hands n m s slot c is)
 exact-step sc hands n m s slot (suc (suc (suc q))) c is = let small : suc (suc (suc q)) < 3 = c.small in absurd (omega arith)
 
--- a window of the sync slot
+-- all good nodes agree after a window of the sync slot that does not end the run
 sync-step : (sc : Scenario) (hands : List HandIn) (n : ℕ) (m : Moment) (s : Shared) (q : ℕ) → IsLawful sc → Agree sc hands n m s
     → q < 4 → m.window ≡ 3 * sync_slot_of sc.sizes + q → (next sc m).book.ended ≡ false → next sc m ≡ moment sc hands (suc n) → IsAgreed sc hands (suc n)
 sync-step sc hands n m s q law agree small at running is =

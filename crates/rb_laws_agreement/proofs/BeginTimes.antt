@@ -14,8 +14,8 @@ pub record IsInTime (sc : Scenario) (low : ℕ) (me : Side) (i : ℕ) (st : Node
   pub not_early : low + offset * shortest_of sc.plan ≤ time_in_frame sc me i st offset
   pub not_late : time_in_frame sc me i st offset ≤ low + sc.plan.p + offset * longest_of sc.plan
 
--- these are the first times of frames, good nodes begin slots in the band of their frame's, and
--- frames take as long as they must
+-- `low` has the first time of each frame, good nodes begin slots within the band of their frame,
+-- and frames take as long as they must
 pub record BeginsInTime (sc : Scenario) (hands : List HandIn) (low : ℕ → ℕ) : Type 0 where
   pub first : (frame : ℕ) → IsReached sc hands frame → (me : Side) (i : ℕ) (st : NodeState) → IsGoodBefore sc hands frame 0 me i st → IsLow sc hands frame (low frame)
   pub later : (frame : ℕ) → IsComplete sc hands frame (sync_slot_of sc.sizes) → low frame + tail_start_of sc.sizes sc.plan * shortest_of sc.plan ≤ low (suc frame)

@@ -76,7 +76,7 @@ pub record IsHeld (sc : Scenario) (hands : List HandIn) (low frame slot : ℕ) (
 abbrev pub as_placed : (sc : Scenario) (hands : List HandIn) (low frame slot : ℕ) (bus : AbstractBus) → IsHeld sc hands low frame slot bus → IsPlaced sc hands frame slot 1
 as_placed sc hands low frame slot bus h = record { shared = h.shared; steps = h.steps; agree = h.agree; frame_is = h.frame_is; window_is = h.window_is }
 
--- over a slot
+-- after a complete slot the nodes hold the bus with the slot's value
 pub held_slot : (sc : Scenario) (hands : List HandIn) (law : IsLawful sc) (low frame slot : ℕ) (bus : AbstractBus) (h : IsHeld sc hands low frame slot bus)
     → (below : slot < sync_slot_of sc.sizes) (complete : IsComplete sc hands frame slot)
     → IsHeld sc hands low frame (suc slot) (bus_after_slot sc.sizes (value_in_rounds sc hands frame slot) bus)
@@ -104,7 +104,7 @@ held_slot sc hands law low frame slot bus h below complete =
     three : (slot : ℕ) → 3 * slot + 2 + 1 ≡ 3 * suc slot + (1 - 1)
     three slot = omega arith
 
--- over a stage of the sync slot
+-- after a complete stage of the sync slot all good nodes still agree
 agree-stage : (sc : Scenario) (hands : List HandIn) → IsLawful sc → (frame q n : ℕ) (s : Shared) → q < 3 → IsComplete sc hands frame (sync_slot_of sc.sizes)
     → Agree sc hands n (before_stage sc hands frame (sync_slot_of sc.sizes) (q + 1)) s → Agree sc hands (suc n) (before_stage sc hands frame (sync_slot_of sc.sizes) (q + 2)) s
 agree-stage sc hands law frame q n s small complete agree =
@@ -122,7 +122,7 @@ agree-stage sc hands law frame q n s small complete agree =
     plus : (q : ℕ) → q + 1 + 1 ≡ q + 2
     plus q = omega arith
 
--- over the end of a frame
+-- after a complete frame the nodes hold the bus after that frame
 pub held_frame : (sc : Scenario) (hands : List HandIn) (law : IsLawful sc) (frame now low : ℕ) (bus : AbstractBus) → IsHeld sc hands now frame (sync_slot_of sc.sizes) bus
     → IsComplete sc hands frame (sync_slot_of sc.sizes) → IsHeld sc hands low (suc frame) 0 (bus_after_frame sc.sizes low bus)
 held_frame sc hands law frame now low bus h complete =
@@ -181,7 +181,7 @@ goes-frame sc hands low frame bus f s =
     ap (goes sc hands low bus) (ap (λ k. nat_lt k (sync_slot_of sc.sizes)) s ∙ le-ltb (sync_slot_of sc.sizes) (sync_slot_of sc.sizes) (omega arith))
     ∙ ap (λ f. bus_after_frame sc.sizes (low (f + 1)) bus) f ∙ ap (λ f. bus_after_frame sc.sizes (low f) bus) one
 
--- the bus after the step of a slot
+-- the bus before the next slot is the bus after the step of this slot
 pub bus-over-slot : (sc : Scenario) (hands : List HandIn) (low : ℕ → ℕ) (frame slot : ℕ) → IsHeld sc hands (low frame) frame slot (bus_before sc hands low frame slot) → slot < sync_slot_of sc.sizes
     → bus_before sc hands low frame (suc slot) ≡ bus_after_slot sc.sizes (value_in_rounds sc hands frame slot) (bus_before sc hands low frame slot)
 bus-over-slot sc hands low frame slot h below =
@@ -201,7 +201,7 @@ bus-over-frame sc hands low frame h =
     index : (f s : ℕ) → suc f * (s + 1) + 0 ≡ suc (f * (s + 1) + s)
     index f s = omega arith
 
--- through the slots of a frame
+-- in a frame at whose start the nodes hold the bus, they hold it before each slot of the run
 held-through : (sc : Scenario) (hands : List HandIn) (law : IsLawful sc) (low : ℕ → ℕ) (frame : ℕ) → IsHeld sc hands (low frame) frame 0 (bus_before sc hands low frame 0)
     → (slot : ℕ) → slot ≤ sync_slot_of sc.sizes → IsRunning (before_slot sc hands frame slot) → IsHeld sc hands (low frame) frame slot (bus_before sc hands low frame slot)
 held-through sc hands law low frame begun zero le running = begun
@@ -246,7 +246,7 @@ held-begun sc hands law low (suc frame) running =
     begins : (a s : ℕ) → a + 3 * 0 + 1 - 1 ≤ a + 3 * s + 4 - 1
     begins a s = omega arith
 
--- before each slot before the first breach
+-- the nodes hold the bus before each slot of the run
 pub held_at : (sc : Scenario) (hands : List HandIn) (law : IsLawful sc) (low : ℕ → ℕ) (frame slot : ℕ) → slot ≤ sync_slot_of sc.sizes → IsRunning (before_slot sc hands frame slot)
     → IsHeld sc hands (low frame) frame slot (bus_before sc hands low frame slot)
 held_at sc hands law low frame slot le running =

@@ -128,7 +128,7 @@ run-of : (sc : Scenario) (hands : List HandIn) (low : ℕ → ℕ) (steps : ℕ)
 unfolding AreSteps
 run-of sc hands low steps all = record { first = refl; each_step = all }
 
--- up to and with a slot that is complete
+-- up to and with a complete slot the steps of the bus are steps of the run
 run-to-slot : (sc : Scenario) (hands : List HandIn) → IsLawful sc → (low : ℕ → ℕ) → BeginsInTime sc hands low → (frame slot : ℕ) → slot ≤ sync_slot_of sc.sizes → IsComplete sc hands frame slot
     → AreSteps sc hands low (steps_to sc.sizes frame slot + 1)
 run-to-slot sc hands law low times frame slot le complete =

@@ -61,7 +61,7 @@ delivery-2 st slot (DiagBiu i) sender voted = refl
 delivery-2 st slot (DiagRmu i) sender voted = refl
 delivery-2 st slot Sync sender voted = refl
 
--- nothing in another stage
+-- nothing is delivered in a stage other than stage 2
 pub no-delivery : (me : Side) (st : NodeState) (slot : ℕ) (role : Role) (sender : Sender) (stage : ℕ) (voted : Heard) → (stage == 2) ≡ false
     → delivery_of me st slot role sender stage voted ≡ None
 no-delivery Biu st slot (Schedule i) sender stage voted h = refl
@@ -120,7 +120,7 @@ row-faulty sc m slot stage ws me i st faulty =
     go true c h = cc
     go false c h = refl
 
--- a good one what it delivered
+-- a good BIU's line is what it delivered
 pub line-good : (sc : Scenario) (hands : List HandIn) (n : ℕ) (m : Moment) (s : Shared) (slot q : ℕ) (c : Setting sc hands n m s slot q) (me : Side) (i : ℕ) (st : NodeState)
     → IsGoodNode sc m me i st
     → line_in (row_after sc m me i st)
@@ -155,7 +155,7 @@ some-delivered f good make from (x ∷ xs) each =
     go true rest = refl
     go false rest = refl
 
--- the rows of the BIUs, one by one
+-- `P` holds for each row if it holds for the row of each BIU
 pub row-of : (sc : Scenario) (m : Moment) (slot stage : ℕ) (ws : Windows sc m slot stage) (P : ℕ → Option SlotLine → Type 0)
     → ((i : ℕ) (st : NodeState) → slice_get (of_kind Biu m.nodes) i ≡ Some st → P i (line_in (row_after sc m Biu i st)))
     → (i : ℕ) (x : Option Row) → slice_get (of_kind Biu (rows_of sc m)) i ≡ Some x → P i (line_in x)
@@ -226,7 +226,7 @@ lines_2 sc hands n m s slot c value votes = go (owner_sending (role_of sc.sizes 
 
 -- The book.
 
--- the book after a stage
+-- after stage 2 the book has the lines of the rows
 pub lines_after_2 : (sc : Scenario) (hands : List HandIn) (n : ℕ) (m : Moment) (s : Shared) (slot : ℕ) → Setting sc hands n m s slot 1
     → (next sc m).book.lines ≡ filter_map line_in (of_kind Biu (rows_of sc m))
 lines_after_2 sc hands n m s slot c = ap (λ b. b.lines) (book_exact sc m slot 1 c.below c.small c.at ∙ c.passed.is)
@@ -240,7 +240,7 @@ given_before sc hands n m s slot q c early =
     ∙ ap (λ b. m.book.given ++ (if b && nat_lt slot (sync_slot_of sc.sizes) then Slot m.frame slot m.book.lines ∷ [] else [])) no_it
     ∙ append-nil m.book.given
 
--- with it comes that of the slot
+-- stage 3 gives the record of the slot
 pub given_after : (sc : Scenario) (hands : List HandIn) (n : ℕ) (m : Moment) (s : Shared) (slot : ℕ) → Setting sc hands n m s slot 2
     → (next sc m).book.given ≡ m.book.given ++ Slot m.frame slot m.book.lines ∷ []
 given_after sc hands n m s slot c =

@@ -89,7 +89,7 @@ owners-are sc hands n m s slot q c me i st now here is =
 pub suc-place : (n frame window size : ℕ) → n ≡ frame * size + window → suc n ≡ frame * size + (window + 1)
 suc-place n frame window size h = omega arith
 
--- in them the schedule stays, and no slot is finished
+-- after stage 1 or 2 of a slot all good nodes still agree
 agree-within : (sc : Scenario) (hands : List HandIn) (n : ℕ) (m : Moment) (s : Shared) (slot q : ℕ) (c : Setting sc hands n m s slot q) → q < 2
     → AllCarried sc m slot (q + 1) → NoneUnlike sc hands n m s slot q c → next sc m ≡ moment sc hands (suc n)
     → ((t : ℕ) → t < sync_slot_of sc.sizes → m.window + 1 ≡ 3 * t + 1 → HasRelays sc hands (next sc m) s t)

@@ -29,7 +29,7 @@ IsSingle Nobody = Unit {0}
 IsSingle (Node p) = Unit {0}
 IsSingle EachTrusted = ⊥
 
--- in stage 1 the kind that sends is the other one than the kind that listens
+-- in stage 1 the sender is of the kind that does not listen
 speaker_first : (me : Side) (role : Role) → (if same_side me (sender_kind role) then false else true) ≡ true → same_side (other me) (sender_kind role) ≡ true
 speaker_first me role = go me (sender_kind role)
   where

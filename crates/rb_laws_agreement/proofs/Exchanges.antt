@@ -144,7 +144,7 @@ shows_taken sc m slot stage ws place me i j st below is good tick small =
     ∙ ap (judged_see time) (get-see (closing_at sc.sizes me st slot stage sense).taken j ∙ ap see_value (taken_at st.far (expected_at sc.sizes me st slot stage) sense j small))
     ∙ judged_value time (take_at sc.sizes me st slot stage sense j)
 
--- of whom something is taken is not benign
+-- a node from which something is taken is not benign
 pub taken_is_seen : (sc : Scenario) (m : Moment) (slot stage : ℕ) (ws : Windows sc m slot stage) (me : Side) (i j : ℕ) (st : NodeState)
     → slot < sync_slot_of sc.sizes → slice_get (of_kind me m.nodes) i ≡ Some st → is_good sc me i m.frame slot ≡ true → ws.first me st ≤ ws.last me st → i < 16 → j < 16
     → is_some (take_at sc.sizes me st slot stage (sense_in sc m slot stage ws me i st) j) ≡ true
@@ -158,7 +158,7 @@ taken_is_seen sc m slot stage ws me i j st below is good tick small_i small_j so
     ∙ some_is_something (take_at sc.sizes me st slot stage (sense_in sc m slot stage ws me i st) j) some) in
     ap not (or_left (was_taken (other me) j s) (list_any (was_taken (other me) j) m.book.stages) taken)
 
--- of whom good nodes take unlike is asymmetric
+-- all good nodes take the same from a node that is not asymmetric
 pub alike_is_same : (sc : Scenario) (m : Moment) (slot stage : ℕ) (ws : Windows sc m slot stage) (me : Side) (a b j : ℕ) (sta stb : NodeState)
     → slot < sync_slot_of sc.sizes → slice_get (of_kind me m.nodes) a ≡ Some sta → slice_get (of_kind me m.nodes) b ≡ Some stb
     → is_good sc me a m.frame slot ≡ true → is_good sc me b m.frame slot ≡ true → ws.first me sta ≤ ws.last me sta → ws.first me stb ≤ ws.last me stb
@@ -179,7 +179,7 @@ alike_is_same sc m slot stage ws me a b j sta stb below is_a is_b good_a good_b 
       | inr differ ↦ let found : was_unlike (other me) j s ≡ true = unlike_in_stage sc place (rows_of sc m) me a b j small_a small_b good_a good_b differ in cc
     ]
 
--- nothing is taken of a node that is not trusted
+-- nothing is taken from a node that is not trusted
 pub taken_is_trusted : (s : Standing) (expected : ℕ → Bool) (sense : ℕ → Sense) (j : ℕ) → is_some (taken_of value_in s expected sense j) ≡ true → has s.trusted j ≡ true
 taken_is_trusted s expected sense j h = go (expected j) (has s.trusted j) (not (has s.direct j)) refl h
   where

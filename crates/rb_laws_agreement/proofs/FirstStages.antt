@@ -65,7 +65,6 @@ got-is sc hands n m s slot c me i p st now here is sender =
     ∙ ap (λ y. taken_of_sender y (closing_at sc.sizes me st slot 1 (sense_in sc m slot 1 (windows sc hands n m s slot 0 c) me i st)))
     (sender-held sc m s me st slot (c.agree.nodes me i st here) ∙ sender)
 
--- a good node as one of the other kind's other kind
 far-side : (sc : Scenario) (m : Moment) (k : Side) (i : ℕ) (st : NodeState) → IsGoodNode sc m k i st → IsGoodNode sc m (other (other k)) i st
 far-side sc m k i st = subst (λ k. IsGoodNode sc m k i st) (sym (other_twice k))
 

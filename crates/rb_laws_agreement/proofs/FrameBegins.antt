@@ -24,7 +24,7 @@ not-over sc hands m running = go (m.frame == sc.frames) (nat_lt m.window (window
     go true in_frame h = let both : true ≡ false = sym (ended-end m.book) ∙ h in cc
     go false in_frame h = refl
 
--- such a step is a window, or a turn
+-- a step before the last window of a frame has passed is a window
 window-step : (sc : Scenario) (hands : List HandIn) (m : Moment) → (m.frame == sc.frames) ≡ false → m.window < windows_in sc.sizes → step sc hands m ≡ next sc m
 unfolding step
 window-step sc hands m over below = go (m.frame == sc.frames) (nat_lt m.window (windows_in sc.sizes)) over (lt-ltb m.window (windows_in sc.sizes) below)
@@ -85,7 +85,7 @@ first-open : (sc : Scenario) (hands : List HandIn) → IsRunning (first_moment s
 unfolding begin_frame with_frame
 first-open sc hands = refl
 
--- where a frame begins that is reached, the run goes on
+-- the run goes on at the start of each frame that is reached
 pub reached : (sc : Scenario) (hands : List HandIn) → IsLawful sc → (frame : ℕ) → IsReached sc hands frame → IsRunning (before_slot sc hands frame 0)
 reached sc hands law zero h =
     let e : 0 * (windows_in sc.sizes + 1) + 3 * 0 + 1 - 1 ≡ 0 = omega arith in
@@ -96,7 +96,7 @@ begins : (sc : Scenario) (hands : List HandIn) → IsLawful sc → (frame slot :
 begins sc hands law frame zero h = reached sc hands law frame h
 begins sc hands law frame (suc slot) h = absurd h
 
--- where a slot is settled, the run goes on before it
+-- the run goes on before each slot that is settled
 pub settled_before : (sc : Scenario) (hands : List HandIn) → IsLawful sc → (frame slot : ℕ) → IsSettled sc hands frame slot → IsRunning (before_slot sc hands frame slot)
 settled_before sc hands law frame slot (inl complete) = complete_before sc hands frame slot 1 (omega arith) complete
 settled_before sc hands law frame slot (inr begin) = begins sc hands law frame slot begin

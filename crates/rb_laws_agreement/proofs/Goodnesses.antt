@@ -30,7 +30,7 @@ good_earlier sc me i frame a b h g =
     and_from (nat_lt i (count_of me sc.sizes)) (is_before (get_or (onsets_of me sc) i None) frame a) there
     (before-same (get_or (onsets_of me sc) i None) frame a b h (and_second (nat_lt i (count_of me sc.sizes)) (is_before (get_or (onsets_of me sc) i None) frame b) g))
 
--- in all slots of earlier frames
+-- a node that is good in a frame was good in all slots of earlier frames
 pub good_before : (sc : Scenario) (me : Side) (i frame later a b : ℕ) → frame < later → is_good sc me i later b ≡ true → is_good sc me i frame a ≡ true
 good_before sc me i frame later a b h g =
     let there : nat_lt i (count_of me sc.sizes) ≡ true = and_first (nat_lt i (count_of me sc.sizes)) (is_before (get_or (onsets_of me sc) i None) later b) g in
@@ -62,7 +62,7 @@ slot_last sizes window q at = omega arith
 pub slot_goes_on : (sizes : Sizes) (window : ℕ) → slot_numbered sizes window ≤ slot_numbered sizes (window + 1)
 slot_goes_on sizes window = omega arith
 
--- below the sync slot there is at most one sender
+-- the role is not that of the sync slot
 abbrev pub IsExact : Role → Type 0
 IsExact (Schedule i) = Unit {0}
 IsExact (Data n) = Unit {0}

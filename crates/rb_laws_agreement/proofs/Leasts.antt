@@ -7,7 +7,7 @@ use Rattle.rb_base.specs.Nodes.Side.{Biu, Rmu}
 
 -- The times of numbers.
 
--- the least time of the numbers below n
+-- `at` is the least time of the numbers below `n`, and `i` has it
 record HasLeast (time : ℕ → Option ℕ) (n : ℕ) : Type 0 where
   pub i : ℕ
   pub at : ℕ
@@ -55,7 +55,7 @@ least-in time (suc n) = go (least-in time n) (time n) refl
 
 -- The times of nodes.
 
--- the least time of the nodes of both kinds
+-- `at` is the least time of the nodes of both kinds, and node `i` of kind `me` has it
 pub record IsFirstOf (time : Side → ℕ → Option ℕ) (n : ℕ) : Type 0 where
   pub me : Side
   pub i : ℕ

@@ -67,7 +67,7 @@ exact-there sizes plan n h =
     slice_get-front front (sync_windows sizes plan) n (omega arith) ∙ slice_get-map (exact_window plan) (numbers (3 * sync_slot_of sizes)) n
     ∙ ap (option_map (exact_window plan)) (get-number (3 * sync_slot_of sizes) n h)
 
--- from the sync slot on
+-- window `r` of the sync slot is window 3 * sync slot + r of the frame
 pub sync-there : (sizes : Sizes) (plan : Plan) (r : ℕ) → slice_get (windows_of_frame sizes plan) (3 * sync_slot_of sizes + r) ≡ slice_get (sync_windows sizes plan) r
 sync-there sizes plan r =
     let front : List Window = map (exact_window plan) (numbers (3 * sync_slot_of sizes)) in
@@ -85,7 +85,7 @@ book_exact sc m slot q below small at =
     ∙ ap (λ k. with_stage sc (record { frame = m.frame; slot = k; stage = m.window % 3 + 1 }) (rows_of sc m) m.book) e
     ∙ ap (λ k. with_stage sc (record { frame = m.frame; slot = slot; stage = k + 1 }) (rows_of sc m) m.book) f
 
--- its stages are those with this one
+-- after the window the book has its stage before the earlier ones
 pub stages_after : (sc : Scenario) (hands : List HandIn) (n : ℕ) (m : Moment) (s : Shared) (slot q : ℕ) → Setting sc hands n m s slot q
     → (next sc m).book.stages ≡ stages_with sc m slot (q + 1)
 stages_after sc hands n m s slot q c =

@@ -33,11 +33,11 @@ pub record Windows (sc : Scenario) (m : Moment) (slot stage : ℕ) : Type 0 wher
   pub are : (me : Side) (st : NodeState)
       → window_in sc m me st ≡ record { slot = slot; stage = stage; first = first me st; last = last me st }
 
--- a node's window
+-- the window of a node in the state `st`
 abbrev pub own_window : (sc : Scenario) (m : Moment) (slot stage : ℕ) → Windows sc m slot stage → Side → NodeState → Window
 own_window sc m slot stage ws me st = record { slot = slot; stage = stage; first = ws.first me st; last = ws.last me st }
 
--- below the sync slot
+-- the windows of the nodes in stage q + 1 of a slot below the sync slot
 pub exact_windows : (sc : Scenario) (m : Moment) (slot q : ℕ) → slot < sync_slot_of sc.sizes → q < 3 → m.window ≡ 3 * slot + q → Windows sc m slot (q + 1)
 exact_windows sc m slot q below small at =
     let e : m.window / 3 ≡ slot = omega arith in
@@ -51,7 +51,7 @@ exact_windows sc m slot q below small at =
           ∙ ap (λ s. window_of slot (s + 1) (m.window * sc.plan.l) sc.plan.l) f;
     }
 
--- the first offset and the ticks of a stage of the sync slot
+-- a stage of the sync slot begins with the offset `sync_first` and lasts `sync_ticks`
 pub sync_first : Sizes → Plan → ℕ → ℕ
 sync_first sizes plan zero = f0_of sizes plan
 sync_first sizes plan (suc zero) = f0_of sizes plan + plan.l
@@ -70,7 +70,7 @@ sync_window sizes plan (suc zero) h = refl
 sync_window sizes plan (suc (suc zero)) h = refl
 sync_window sizes plan (suc (suc (suc r))) h = absurd (omega arith)
 
--- the stages of the sync slot
+-- the windows of the nodes in stage q + 1 of the sync slot
 pub sync_windows_are : (sc : Scenario) (m : Moment) (q : ℕ) → q < 3 → m.window ≡ 3 * sync_slot_of sc.sizes + q
     → Windows sc m (sync_slot_of sc.sizes) (q + 1)
 sync_windows_are sc m q small at = record {
@@ -81,7 +81,7 @@ sync_windows_are sc m q small at = record {
       ∙ ap (λ o. unwrap_or o (tail_at sc.sizes sc.plan me st)) (sync_window sc.sizes sc.plan q small);
 }
 
--- the tail
+-- the windows of the nodes in the tail
 pub tail_windows : (sc : Scenario) (m : Moment) → m.window ≡ 3 * sync_slot_of sc.sizes + 3 → Windows sc m (sync_slot_of sc.sizes) 4
 tail_windows sc m at = record {
   first = λ me st. tail_start_of sc.sizes sc.plan;
@@ -216,7 +216,7 @@ goes sc m slot stage ws me i st good tick =
     let ticks : nat_le (ws.first me st) (ws.last me st) ≡ true = grind (arith, nat_tests) in
     ap (go_through sc m (sent_in sc m) me i st) (ws.are me st) ∙ rw (good, ticks, go_through) refl
 
--- the state after it
+-- the state of a node after its window
 pub state-closed : (sc : Scenario) (m : Moment) (slot stage : ℕ) (ws : Windows sc m slot stage) (me : Side) (i : ℕ) (st : NodeState)
     → (close_on sc me i (kept_in sc m slot stage me i st) (own_window sc m slot stage ws me st) (heard_in sc m slot stage ws me i st)).state
     ≡ (close sc.sizes me i (kept_in sc m slot stage me i st) slot stage (ws.first me st) (sense_in sc m slot stage ws me i st)).state

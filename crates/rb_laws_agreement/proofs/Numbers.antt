@@ -34,7 +34,7 @@ pub how_many_some : (p : ℕ → Bool) (i : ℕ) → i < 16 → p i ≡ true →
 unfolding how_many
 how_many_some p i below h = size_some (set_of p) i below (has-set_of i p below ∙ h)
 
--- where some pass there is one that passes
+-- if some number passes, one can be named
 pub one_of_many : (p : ℕ → Bool) → 0 < how_many p → Passing p 0 16
 unfolding how_many
 one_of_many p some =

@@ -112,7 +112,7 @@ relay-says x trusted owners s p sender j g =
     got_is_said x.sizes (other (kind_in x)) j p (state_after x 1 (other (kind_in x)) j) x.slot (x.word j)
     (sender-held x trusted owners 1 s (omega arith) (other (kind_in x)) j g ∙ sender) (other_twice (kind_in x))
 
--- where all have got the same, the voters vote for it
+-- if all good nodes of the other kind got the same, the voters vote for it
 voted-for : (x : Exchange) (trusted : Side → ℕ) (owners : List ℕ) → IsExchange x trusted owners → KeepsPremise x → Stands x trusted owners 1
     → (p : ℕ) → sender_of x trusted owners ≡ Node p
     → (got : Option Heard) → ((j : ℕ) → x.good (other (kind_in x)) j ≡ true → (state_after x 1 (other (kind_in x)) j).got ≡ got)
@@ -210,7 +210,7 @@ has-value x trusted owners e pr s0 s1 =
       }
     ]
 
--- after stage 2 they hold it
+-- after stage 2 the voters hold the value
 voters-hold : (x : Exchange) (trusted : Side → ℕ) (owners : List ℕ) (v : HasValue x trusted owners) → Stands x trusted owners 1
     → (i : ℕ) → x.good (kind_in x) i ≡ true → vote_on (state_after x 2 (kind_in x) i) x.slot ≡ v.value
 voters-hold x trusted owners v s i g = vote-held x trusted owners 1 s (kind_in x) i g (voters-vote (role_of x.sizes x.slot)) ∙ v.voters i g

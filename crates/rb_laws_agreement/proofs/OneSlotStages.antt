@@ -107,7 +107,7 @@ abbrev pub TakeAlike : Exchange → Side → Side → Type 0
 TakeAlike x kind me =
     (q a b j : ℕ) → q < 3 → x.good me a ≡ true → x.good me b ≡ true → x.good kind j ≡ false → takes_after x q me a j ≡ takes_after x q me b j
 
--- where no node of the other kind is asymmetric, good nodes take alike of all
+-- if no node of the other kind is asymmetric, good nodes take the same from each source
 pub takes-alike : (x : Exchange) (trusted : Side → ℕ) (owners : List ℕ) (q : ℕ) → IsExchange x trusted owners → Stands x trusted owners q → q < 3
     → (me : Side) → NoneIsAsymmetric x (other me) → (a b j : ℕ) → x.good me a ≡ true → x.good me b ≡ true → takes_after x q me a j ≡ takes_after x q me b j
 takes-alike x trusted owners q e s small me none a b j g h =
@@ -127,14 +127,14 @@ parts x q me i =
     subst (λ k. ExactClose x.sizes me i st sent x.slot (q + 1) (x.came (q + 1) me i) (close_exact x.sizes me i k x.slot (q + 1) (x.came (q + 1) me i)))
     (sym (keeping-is x.sizes me i st x.slot (q + 1) (x.word i))) (exact_close x.sizes me i st sent x.slot (q + 1) (x.came (q + 1) me i))
 
--- whom a node compares with what value in the stage after these
+-- the value with which a node compares what it takes in stage q + 1
 abbrev pub reference_in : Exchange → ℕ → Side → ℕ → Option Heard
 reference_in x q me i =
     let st = state_after x q me i in
     reference_value me i (with_sent st (sent_by x.sizes me i st x.slot (q + 1) (x.word i))) (role_of x.sizes x.slot) (sender_at x.sizes me st x.slot) (q + 1)
     (closing_at x.sizes me st x.slot (q + 1) (x.came (q + 1) me i))
 
--- of good nodes only that value is taken
+-- good nodes take nothing else from good nodes than the value with which they compare
 abbrev pub NoneUnlike : Exchange → ℕ → Type 0
 NoneUnlike x q =
     (me : Side) (i j : ℕ) → x.good me i ≡ true → x.good (other me) j ≡ true
@@ -203,7 +203,7 @@ vote-kept x q me i votes =
     ap (λ v. get_or v x.slot Fault) (parts x q me i).votes
     ∙ ap (λ b. get_or (if b then slice_set (state_after x q me i).votes x.slot (voted x q me i) else (state_after x q me i).votes) x.slot Fault) votes
 
--- where all good sources say one value, this is the vote
+-- if all good sources say one value, this is the vote
 pub all-vote : (x : Exchange) (trusted : Side → ℕ) (owners : List ℕ) (q : ℕ) → IsExchange x trusted owners → KeepsPremise x → Stands x trusted owners q → 1 ≤ q → q < 3
     → (me : Side) (value : Heard) → ((j : ℕ) → x.good (other me) j ≡ true → said x q (other me) j ≡ Some value)
     → (i : ℕ) → x.good me i ≡ true → voted x q me i ≡ value

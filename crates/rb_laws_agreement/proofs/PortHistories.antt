@@ -55,7 +55,7 @@ sync-stage sc hands law frame q small complete =
     plus : (q : ℕ) → q + 1 + 1 ≡ q + 2
     plus q = omega arith
 
--- a port through one of them
+-- a stage of the sync slot leaves the ports as they are
 stage-port : (sc : Scenario) (hands : List HandIn) → IsLawful sc → (frame q i : ℕ) → q < 3 → IsComplete sc hands frame (sync_slot_of sc.sizes) → i < sc.sizes.bius
     → port_at sc (before_stage sc hands frame (sync_slot_of sc.sizes) (q + 2)).ports i ≡ port_at sc (before_stage sc hands frame (sync_slot_of sc.sizes) (q + 1)).ports i
 stage-port sc hands law frame q i small complete count =
@@ -82,7 +82,7 @@ none-delivered-in-sync sc hands law frame complete =
     ∙ ap (λ b. value_in_lines b.lines) (book_sync sc m 1 small g.at ∙ through.is)
     ∙ ap value_in_lines (sync_lines sc m 2 (sync_windows_are sc m 1 small g.at))
 
--- a port through the sync slot
+-- after the sync slot a port is as after what the slot delivered
 sync-slot-port : (sc : Scenario) (hands : List HandIn) → IsLawful sc → (frame i : ℕ) → IsComplete sc hands frame (sync_slot_of sc.sizes) → i < sc.sizes.bius
     → port_at sc (after_slot sc hands frame (sync_slot_of sc.sizes)).ports i
     ≡ with_delivery (delivered_in sc hands frame (sync_slot_of sc.sizes)) (port_at sc (before_slot sc hands frame (sync_slot_of sc.sizes)).ports i)
@@ -93,7 +93,7 @@ sync-slot-port sc hands law frame i complete count =
 
 -- A frame.
 
--- a port through a slot
+-- after a slot a port is as after what the slot delivered
 one-slot : (sc : Scenario) (hands : List HandIn) → IsLawful sc → (frame slot i : ℕ) → slot ≤ sync_slot_of sc.sizes → IsComplete sc hands frame slot → is_good sc Biu i frame slot ≡ true
     → port_at sc (after_slot sc hands frame slot).ports i ≡ with_delivery (delivered_in sc hands frame slot) (port_at sc (before_slot sc hands frame slot).ports i)
 one-slot sc hands law frame slot i le complete good =
@@ -112,7 +112,7 @@ slot-follows sc hands frame slot = ap (moment sc hands) (index (frame * (windows
     index : (a slot : ℕ) → a + 3 * suc slot + 1 - 1 ≡ a + 3 * slot + 4 - 1
     index a slot = omega arith
 
--- through the first slots of a frame
+-- after the first slots of a frame a port is as after what they delivered
 through-slots : (sc : Scenario) (hands : List HandIn) → IsLawful sc → (frame i : ℕ) (port : PortState)
     → (is_good sc Biu i frame 0 ≡ true → port_at sc (before_slot sc hands frame 0).ports i ≡ port)
     → (slot : ℕ) → slot ≤ sync_slot_of sc.sizes → IsComplete sc hands frame slot → is_good sc Biu i frame slot ≡ true

@@ -29,7 +29,7 @@ make_after rows me i port = port_after (line_in (get_or rows i None)) port
 pub ports-long : (rows : List (Option Row)) (ports : List PortState) → length (ports_after rows ports) ≡ length ports
 ports-long rows ports = length-each (make_after rows) (as_each ports) Biu
 
--- a port after what its BIU's row delivered
+-- a row of a BIU acts on its port by the line in it
 pub port-after : (sc : Scenario) (rows : List (Option Row)) (ports : List PortState) (i : ℕ) → i < length ports
     → port_at sc (ports_after rows ports) i ≡ port_after (line_in (get_or rows i None)) (port_at sc ports i)
 port-after sc rows ports i within =

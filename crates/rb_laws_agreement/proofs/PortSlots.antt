@@ -47,7 +47,7 @@ ports-are : (sc : Scenario) (m : Moment) → (next sc m).ports ≡ ports_after (
 unfolding after_window
 ports-are sc m = refl
 
--- a port after what its BIU delivered
+-- in a window a BIU's port changes by what the BIU delivered
 pub window_port : (sc : Scenario) (m : Moment) (i : ℕ) (st : NodeState) → i < length m.ports → slice_get (of_kind Biu m.nodes) i ≡ Some st
     → port_at sc (next sc m).ports i ≡ port_after (line_in (row_after sc m Biu i st)) (port_at sc m.ports i)
 window_port sc m i st within is =
@@ -85,7 +85,7 @@ good-any sc frame slot i good =
     let long : length (numbers sc.sizes.bius) ≡ sc.sizes.bius = length-range_with_len 0 sc.sizes.bius in
     list_any_at (λ i. is_good sc Biu i frame slot) (numbers sc.sizes.bius) i 0 (omega arith) (ap (λ k. is_good sc Biu k frame slot) at ∙ good)
 
--- the value in the lines of a slot
+-- at a good BIU the lines of a slot with an owner have the slot's value
 value-lines : (sc : Scenario) (frame slot i : ℕ) (owner : Option ℕ) (value : Heard) → is_good sc Biu i frame slot ≡ true
     → value_in_lines (lines_in sc frame slot owner value) ≡ option_map (λ p. value) owner
 value-lines sc frame slot i None value good = refl
@@ -99,7 +99,7 @@ owner-biu (DiagBiu i) sender p h = cc
 owner-biu (DiagRmu i) sender p h = cc
 owner-biu Sync sender p h = cc
 
--- a delivery of the slot's value
+-- a port takes the slot's value if the slot has an owner
 delivered-port : (i slot : ℕ) (st : NodeState) (vote value : Heard) (owner : Option ℕ) (port : PortState) → ((p : ℕ) → owner ≡ Some p → vote ≡ value)
     → port_after (option_map (line_from i) (option_map (delivery_from st slot vote) owner)) port ≡ with_delivery (option_map (λ p. value) owner) port
 delivered-port i slot st vote value None port same = refl
@@ -166,7 +166,7 @@ slot_port sc hands frame slot r i long good =
 
 -- The sync slot.
 
--- nobody delivers anything in it, or in the tail
+-- nobody delivers anything in the sync slot or in the tail
 sync-line : (sc : Scenario) (m : Moment) (stage : ℕ) (ws : Windows sc m (sync_slot_of sc.sizes) stage) (i : ℕ) (st : NodeState) → line_in (row_after sc m Biu i st) ≡ None
 unfolding go_through
 sync-line sc m stage ws i st =
@@ -194,7 +194,7 @@ pub sync_port : (sc : Scenario) (m : Moment) (stage : ℕ) (ws : Windows sc m (s
 sync_port sc m stage ws i st within is =
     window_port sc m i st within is ∙ ap (λ o. port_after o (port_at sc m.ports i)) (sync-line sc m stage ws i st)
 
--- there are no lines
+-- the sync slot and the tail have no lines
 pub sync_lines : (sc : Scenario) (m : Moment) (stage : ℕ) (ws : Windows sc m (sync_slot_of sc.sizes) stage) → filter_map line_in (of_kind Biu (rows_of sc m)) ≡ []
 sync_lines sc m stage ws =
     none-delivered line_in (of_kind Biu (rows_of sc m))

@@ -61,7 +61,7 @@ class_case true false true h = refl
 class_case true false false h = refl
 class_case false b u h = cc
 
--- of a kind the good outnumber those that are not good and not benign
+-- the good nodes of a kind outnumber the trusted ones that are neither good nor benign
 most_of : (kind : Side) (stages : List JudgedStage) → are_few_good (classes_of kind stages) ≡ false
     → size (set_of (λ j. is_suspect kind stages j && not (is_benign kind stages j)))
     < size (set_of (λ j. has (trusted_now kind stages) j && has (good_now kind stages) j))
@@ -77,7 +77,7 @@ most_of kind stages h =
     ∙ class_case (is_suspect kind stages j) (is_benign kind stages j) (is_asymmetric kind stages j) (sym (has-set_of j (λ j. is_suspect kind stages j && not (is_benign kind stages j)) below) ∙ is)) in
     omega arith
 
--- of a kind without asymmetric nodes none is
+-- if a kind has no asymmetric node, none of its suspects is asymmetric
 alike_of : (kind : Side) (stages : List JudgedStage) → some_asymmetric (classes_of kind stages) ≡ false
     → (j : ℕ) → j < 16 → is_suspect kind stages j ≡ true → is_asymmetric kind stages j ≡ false
 unfolding classes_of

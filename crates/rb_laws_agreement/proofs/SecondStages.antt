@@ -46,7 +46,6 @@ use Rattle.rb_laws_agreement.proofs.Carrying.{all_carried}
 use Rattle.rb_laws_agreement.proofs.JudgedWindows.{rows_of}
 use Rattle.rb_laws_agreement.proofs.NextMoments.{next, was_good, CameFrom, came_from, stages_after, own_next}
 
--- the relays of the setting
 pub relays : (sc : Scenario) (hands : List HandIn) (n : ℕ) (m : Moment) (s : Shared) (slot : ℕ) → Setting sc hands n m s slot 1 → HasRelays sc hands m s slot
 relays sc hands n m s slot c = c.agree.relayed slot c.below c.at
 
@@ -102,7 +101,7 @@ vote_fits s expected sense each =
 abbrev pub vote_of : (sc : Scenario) (hands : List HandIn) (n : ℕ) (m : Moment) (s : Shared) (slot q : ℕ) → Setting sc hands n m s slot q → Side → ℕ → NodeState → Heard
 vote_of sc hands n m s slot q c me i st = (closing_at sc.sizes me st slot (q + 1) (sense_in sc m slot (q + 1) (windows sc hands n m s slot q c) me i st)).voted
 
--- it stands among its votes
+-- a node that votes in the stage keeps its vote
 pub vote-held : (sc : Scenario) (hands : List HandIn) (n : ℕ) (m : Moment) (s : Shared) (slot q : ℕ) (c : Setting sc hands n m s slot q) (me : Side) (i : ℕ) (st now : NodeState)
     → IsGoodNode sc m me i st → after sc m me i st ≡ now → votes_in me (role_of sc.sizes slot) (q + 1) ≡ true
     → get_or now.votes slot Fault ≡ vote_of sc hands n m s slot q c me i st
@@ -130,7 +129,7 @@ some_good sc hands n m s slot q c me =
     let st : Present (slice_get (of_kind me m.nodes) one.at) = good_state sc hands n m s c.agree me one.at now in
     record { index = one.at; st = st.value; here = record { there = st.is; good = now } }
 
--- where all good sources say one value, all good voters vote for it
+-- if all good sources say one value, all good voters vote for it
 pub all_vote : (sc : Scenario) (hands : List HandIn) (n : ℕ) (m : Moment) (s : Shared) (slot q : ℕ) (c : Setting sc hands n m s slot q) → AllCarried sc m slot (q + 1)
     → (me : Side) (value : Heard) → ((j : ℕ) (source : NodeState) → IsGoodNode sc m (other me) j source → says sc.sizes (other me) j source slot (q + 1) (word_at sc m slot j) ≡ Some value)
     → (i : ℕ) (st : NodeState) → IsGoodNode sc m me i st → vote_of sc hands n m s slot q c me i st ≡ value
@@ -156,7 +155,7 @@ relay-says sc hands n m s slot c p sender j source there =
     got_is_said sc.sizes relay j p source slot (word_at sc m slot j) (sender-held sc m s relay source slot (c.agree.nodes relay j source there) ∙ sender)
     (other_twice (kind_in sc.sizes slot))
 
--- where all have got the same, all voters vote for it
+-- if all good nodes of the other kind got the same, all voters vote for it
 voted-for : (sc : Scenario) (hands : List HandIn) (n : ℕ) (m : Moment) (s : Shared) (slot : ℕ) (c : Setting sc hands n m s slot 1) (p : ℕ) (got : Option Heard)
     → sender_of sc.sizes s slot ≡ Node p → ((j : ℕ) (source : NodeState) → IsGoodNode sc m (other (kind_in sc.sizes slot)) j source → source.got ≡ got)
     → (i : ℕ) (st : NodeState) → IsGoodNode sc m (kind_in sc.sizes slot) i st → vote_of sc hands n m s slot 1 c (kind_in sc.sizes slot) i st ≡ unwrap_or got Fault

@@ -28,7 +28,7 @@ use Rattle.rb_laws_agreement.proofs.Goodnesses.{good_below_16, good_counts, slot
 use Rattle.rb_laws_agreement.proofs.Exchanges.{IsHeard, far-held, good_heard, closes_exactly, taken_is_seen, alike_is_same, taken_is_trusted}
 use Rattle.rb_laws_agreement.proofs.StageVotes.{IsSeen}
 
--- the window of stage q + 1 of a slot
+-- moment `m` is before stage q + 1 of `slot`, and all good nodes agree in it
 pub record Setting (sc : Scenario) (hands : List HandIn) (n : ℕ) (m : Moment) (s : Shared) (slot q : ℕ) : Type 0 where
   pub law : IsLawful sc
   pub agree : Agree sc hands n m s
@@ -37,7 +37,7 @@ pub record Setting (sc : Scenario) (hands : List HandIn) (n : ℕ) (m : Moment) 
   pub at : m.window ≡ 3 * slot + q
   pub passed : IsPassed sc (record { frame = m.frame; slot = slot; stage = q + 1 }) (rows_of sc m) m.book
 
--- the stages of the frame with this one
+-- the judged stages of the frame with stage `stage` of `slot`
 abbrev pub stages_with : Scenario → Moment → ℕ → ℕ → List JudgedStage
 stages_with sc m slot stage = judged_of sc (record { frame = m.frame; slot = slot; stage = stage }) (rows_of sc m) ∷ m.book.stages
 
@@ -94,7 +94,7 @@ all_heard sc hands n m s slot q c fits me i j st source here there =
 abbrev pub taken : (sc : Scenario) (hands : List HandIn) (n : ℕ) (m : Moment) (s : Shared) (slot q : ℕ) → Setting sc hands n m s slot q → Side → ℕ → NodeState → ℕ → Option Heard
 taken sc hands n m s slot q c me i st = take_at sc.sizes me st slot (q + 1) (sense_in sc m slot (q + 1) (windows sc hands n m s slot q c) me i st)
 
--- of whom something is taken is trusted, and seen
+-- a node from which something is taken is trusted and was seen
 pub all_seen : (sc : Scenario) (hands : List HandIn) (n : ℕ) (m : Moment) (s : Shared) (slot q : ℕ) (c : Setting sc hands n m s slot q)
     → (me : Side) (i j : ℕ) (st : NodeState) → IsGoodNode sc m me i st → j < 16 → is_some (taken sc hands n m s slot q c me i st j) ≡ true
     → IsSeen s.trusted (other me) (stages_with sc m slot (q + 1)) j
@@ -108,7 +108,7 @@ all_seen sc hands n m s slot q c me i j st here small some =
           (good_below_16 sc c.law.sizes me i m.frame slot good) small some;
     }
 
--- of a source that is not asymmetric all good nodes take the same
+-- all good nodes take the same from a source that is not asymmetric
 pub all_alike : (sc : Scenario) (hands : List HandIn) (n : ℕ) (m : Moment) (s : Shared) (slot q : ℕ) (c : Setting sc hands n m s slot q)
     → (me : Side) (a b j : ℕ) (sta stb : NodeState) → IsGoodNode sc m me a sta → IsGoodNode sc m me b stb → j < 16
     → is_asymmetric (other me) (stages_with sc m slot (q + 1)) j ≡ false
@@ -143,7 +143,7 @@ closes sc hands n m s slot q c me i st here =
       is = ap (λ r. r.state) (goes sc m slot (q + 1) ws me i st good ((ticks sc hands n m s slot q c).tick me st)) ∙ state-closed sc m slot (q + 1) ws me i st;
     }
 
--- nothing but the value with which a node compares is taken of good sources
+-- good nodes take nothing else from good sources than the value with which they compare
 abbrev pub NoneUnlike : (sc : Scenario) (hands : List HandIn) (n : ℕ) (m : Moment) (s : Shared) (slot q : ℕ) → Setting sc hands n m s slot q → Type 0
 NoneUnlike sc hands n m s slot q c =
     (me : Side) (i j : ℕ) (st source : NodeState) → IsGoodNode sc m me i st → IsGoodNode sc m (other me) j source → (value : Heard)

@@ -67,7 +67,7 @@ take-whole zero (x ∷ xs) h = absurd (omega arith)
 take-whole (suc n) [] h = absurd (omega arith)
 take-whole (suc n) (x ∷ xs) h = ap (λ l. x ∷ l) (take-whole n xs (omega arith))
 
--- the value of a slot up to this one
+-- with the value of `slot` the bus has the value of each slot up to it
 slot-values : (sc : Scenario) (s : Shared) (frame slot : ℕ) (bus : AbstractBus) (value : Heard) → IsBusOf s frame slot bus
     → (t : ℕ) → t < slot + 1 → (with_value sc s slot value).values t ≡ get_or (bus.values ++ value ∷ []) t Fault
 slot-values sc s frame slot bus value b t lt =

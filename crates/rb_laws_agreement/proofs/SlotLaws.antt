@@ -71,7 +71,7 @@ none_convicted sc hands law frame slot le settled me i st h kind j good =
 
 -- Who is accused after a slot.
 
--- the last stage of the sync slot
+-- the last stage of a frame's sync slot, with what the good nodes share before it
 pub record IsSyncEnd (sc : Scenario) (hands : List HandIn) (frame : ℕ) : Type 0 where
   pub shared : Shared
   pub steps : ℕ

@@ -121,7 +121,7 @@ pub good_in_stage : (sc : Scenario) (hands : List HandIn) (n : ℕ) (m : Moment)
 good_in_stage sc hands n m s frame slot q c frame_is me i good =
     good_here sc hands n m s slot q c me i ∙ ap (λ f. is_good sc me i f slot) frame_is ∙ good
 
--- a good node's state after a window
+-- `now` is the state of a good node after the window
 pub record StateFrom (sc : Scenario) (m : Moment) (me : Side) (i : ℕ) (now : NodeState) : Type 0 where
   pub st : NodeState
   pub was : IsGoodNode sc m me i st
@@ -137,7 +137,7 @@ state_from sc hands n m s agree me i now good there =
       is = same_Some (after sc m me i old.value) now (sym (state-after sc m me i old.value old.is) ∙ there);
     }
 
--- the frame of the slot's third stage
+-- the third stage of a slot is in the frame of the slot
 pub third_frame : (sc : Scenario) (hands : List HandIn) (frame slot : ℕ) → IsSlot sc hands frame slot → (next sc (next sc (before_slot sc hands frame slot))).frame ≡ frame
 third_frame sc hands frame slot r =
     next-frame sc (next sc (before_slot sc hands frame slot)) ∙ next-frame sc (before_slot sc hands frame slot) ∙ r.frame_is

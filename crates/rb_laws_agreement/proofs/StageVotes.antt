@@ -25,7 +25,7 @@ pub record IsSeen (trusted : Side → ℕ) (kind : Side) (stages : List JudgedSt
   pub trusts : has (trusted kind) j ≡ true
   pub seen : is_benign kind stages j ≡ false
 
--- of a kind of which all good nodes are heard to say one value, this is the vote
+-- if all good nodes of a kind are heard to say one value, this is the vote
 pub one_voice : (sc : Scenario) (frame slot : ℕ) (trusted : Side → ℕ) (stages : List JudgedStage) (kind : Side) (s : Standing) (expected : ℕ → Bool) (sense : ℕ → Sense) (value : Heard)
     → Premise sc frame slot trusted stages
     → ((j : ℕ) → has (trusted kind) j ≡ true → is_good sc kind j frame slot ≡ true → taken_of value_in s expected sense j ≡ Some value)

@@ -26,7 +26,7 @@ use Rattle.rb_laws_agreement.proofs.Settings.{good_state, after}
 use Rattle.rb_laws_agreement.proofs.SyncWindows.{HasTicksOf, stage_ticks, tail_ticks, sync_right, IsAfterSync, sync_closes}
 use Rattle.rb_laws_agreement.proofs.NextMoments.{next, was_good, CameFrom, came_from, counts_after, sync-there, own_next}
 
--- a window of the sync slot, or the tail
+-- moment `m` is before a window of the sync slot or before the tail
 pub record SyncSetting (sc : Scenario) (hands : List HandIn) (n : ℕ) (m : Moment) (s : Shared) (q : ℕ) (ws : Windows sc m (sync_slot_of sc.sizes) (q + 1)) : Type 0 where
   pub law : IsLawful sc
   pub agree : Agree sc hands n m s
@@ -123,7 +123,7 @@ agree_sync sc hands n m s q ws c is =
 
 -- The stages, and the tail.
 
--- the book after a stage of the sync slot
+-- a stage of the sync slot adds its rows to the book
 pub book_sync : (sc : Scenario) (m : Moment) (q : ℕ) → q < 3 → m.window ≡ 3 * sync_slot_of sc.sizes + q
     → (next sc m).book ≡ with_stage sc (record { frame = m.frame; slot = sync_slot_of sc.sizes; stage = q + 1 }) (rows_of sc m) m.book
 unfolding after_window

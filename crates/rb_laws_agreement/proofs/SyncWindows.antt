@@ -35,7 +35,7 @@ use Rattle.rb_laws_agreement.proofs.NodeWindows.{Windows, own_window, word_at, k
 
 -- Who calls.
 
--- a node expects a trusted source where that one calls
+-- a node expects a trusted source if and only if that source calls in the stage
 expects-callers : (sizes : Sizes) (me : Side) (st source : NodeState) (stage j : ℕ) → has st.far.trusted j ≡ true
     → expects_call me st stage j ≡ is_some (calls sizes (other me) source stage)
 expects-callers sizes me st source stage j t =
@@ -82,7 +82,7 @@ call-tick sizes plan Biu st (suc (suc zero)) small h knows =
 call-tick sizes plan Rmu st (suc (suc zero)) small h knows = cc
 call-tick sizes plan me st (suc (suc (suc q))) small h knows = absurd (omega arith)
 
--- in the tail nobody does
+-- in the tail no node calls
 pub tail-silent : (sizes : Sizes) (me : Side) (st : NodeState) → calls sizes me st 4 ≡ None
 tail-silent sizes Biu st = refl
 tail-silent sizes Rmu st = refl

@@ -166,7 +166,7 @@ end-runs sc hands law frame complete =
     let p : IsPlaced sc hands frame (sync_slot_of sc.sizes) 4 = placed sc hands law frame (sync_slot_of sc.sizes) 4 (omega arith) (omega arith) (omega arith) complete in
     ap (λ b. b.ended) (book_tail sc (after_slot sc hands frame (sync_slot_of sc.sizes)) p.window_is) ∙ complete
 
--- it trusts before the slot whom it trusts at the end
+-- a node trusts before the slot whom it trusts at the end of the frame
 trusts-then : (sc : Scenario) (hands : List HandIn) → IsLawful sc → (frame slot : ℕ) → slot < sync_slot_of sc.sizes → IsComplete sc hands frame (sync_slot_of sc.sizes)
     → (e : IsEnd sc hands frame) → IsPlaced sc hands frame slot 1 → (me : Side) (i : ℕ) (st : NodeState)
     → slice_get (of_kind me (before_slot sc hands frame slot).nodes) i ≡ Some st → is_good_now sc (next sc (after_slot sc hands frame (sync_slot_of sc.sizes))) me i ≡ true

@@ -69,7 +69,7 @@ none-present (None ∷ xs) ys zero x e at = cc
 none-present (None ∷ xs) ys (suc i) x e at = none-present xs ys i x e at
 none-present (Some y ∷ xs) ys i x e at = cc
 
--- where nobody tells of it, no BIU is good there
+-- if no BIU tells of the next frame, no BIU is good at its start
 nobody-begins : (sc : Scenario) (m : Moment) → AllStand sc m → begun_next sc m ≡ [] → (i : ℕ) → is_good sc Biu i (m.frame + 1) 0 ≡ false
 nobody-begins sc m stand none i = by (is_good sc Biu i (m.frame + 1) 0) refl
   where
@@ -175,7 +175,7 @@ begins-or-ends sc lawful hands records rest r frame are upto later below = by m.
       | inr inside ↦ let early : frame_told sc.frames y ≤ frame = upto xs inside.0 y inside.1 in absurd (omega (arith, early, after))
     ]
 
-    -- one record more, and then others
+    -- if a moment's last record is of a later frame, and no moment is after `g`, it is `r`
     reached-by : (n : ℕ) → n ≤ g.at → (xs : List Record) (y : Record) → (moment sc hands n).book.given ≡ xs ++ y ∷ [] → frame < frame_told sc.frames y → y ≡ r
     reached-by n le xs y is after =
         let more = (on n le).more in

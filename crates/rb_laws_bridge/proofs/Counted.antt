@@ -66,7 +66,7 @@ at-most-once x from (suc n) = by (from == x) refl (at-most-once x (from + 1) n)
         omega arith
     by false e later = omega (arith, later)
 
--- of those that pass at most one is this number
+-- to leave out `x` lowers a count by at most the count of `x`
 one-more : (passes : ℕ → Bool) (x : ℕ) (js : List ℕ) → count_if passes js ≤ count_if (without passes x) js + count_if (λ i. i == x) js
 one-more passes x [] = omega arith
 one-more passes x (j ∷ js) = by (passes j) (j == x) (one-more passes x js)
@@ -119,7 +119,7 @@ later-apart key x y (z ∷ zs) d (inl same) = other (key x) (key z) (key y) d.0.
     other a b c e same = differs-turned a c (ap (λ c. a == c) (sym same) ∙ e)
 later-apart key x y (z ∷ zs) d (inr later) = later-apart key x y zs (d.0.1, d.1.1) later
 
--- at least as many numbers pass as there are items whose numbers do
+-- distinct items that are chosen are at most as many as the numbers below 16 that pass
 pub items-few : {X : Type 0} (key : X → ℕ) (chosen : X → Bool) (passes : ℕ → Bool) (xs : List X) → IsDistinct eqb (map key xs)
     → ((x : X) → IsIn x xs → chosen x ≡ true → (passes (key x) ≡ true) × (key x < 16))
     → count_if chosen xs ≤ count_if passes (numbers 16)
@@ -155,7 +155,8 @@ none-passes passes none (j ∷ js) = by (passes j) refl (none-passes passes none
     by true e later = absurd (let no : false ≡ true = none j e in cc)
     by false e later = zero-more (count_if passes js) 0 later
 
--- at most as many, where each number that passes is some item's
+-- if each number that passes is the number of a chosen item, there are at most as many as chosen
+-- items
 pub numbers-few : {X : Type 0} (key : X → ℕ) (passes : ℕ → Bool) (chosen : X → Bool) (xs : List X)
     → ((i : ℕ) → passes i ≡ true → list_any (λ x. key x == i) xs ≡ true)
     → ((x : X) → IsIn x xs → passes (key x) ≡ true → chosen x ≡ true)

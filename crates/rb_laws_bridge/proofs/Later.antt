@@ -31,7 +31,7 @@ are-later frame (h ∷ hs) all = (All-head (λ h. frame < h.frame) h hs all, are
 abbrev pub past_frame : Scenario → ℕ → ℕ
 past_frame sc frame = (frame + 1) * (windows_in sc.sizes + 1)
 
--- up to the end of a frame all moments are the same
+-- hand-ins of later frames change no moment up to the end of a frame
 pub moments-alike : (sc : Scenario) (more hands : List HandIn) (frame : ℕ) → AreLater frame more → (n : ℕ) → n < past_frame sc frame
     → moment sc (hands ++ more) n ≡ moment sc hands n
 moments-alike sc [] hands frame late n early = ap (λ hs. moment sc hs n) (append-nil hands)

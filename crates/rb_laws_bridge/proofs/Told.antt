@@ -178,7 +178,7 @@ still-steps sc hands law frame slot i p (suc k) adds_none =
     same : (p k : ℕ) → p + suc k ≡ suc (p + k)
     same p k = omega arith
 
--- at first nothing is told
+-- a slot has no value at a BIU as long as no moment adds one
 none-before : (sc : Scenario) (hands : List HandIn) → IsLawful sc → (frame slot i n : ℕ) → ((q : ℕ) → q < n → AddsNoValue sc frame slot i q)
     → value_by sc hands frame slot i n ≡ None
 none-before sc hands law frame slot i n adds_none =
@@ -195,7 +195,7 @@ others-tell-nothing sc hands law frame slot i faulty =
 
 -- The slot.
 
--- its lines, and what it adds to what a BIU delivers
+-- a slot has an owner or none and a value, and both are what the slot delivers
 record IsTold (sc : Scenario) (hands : List HandIn) (frame slot : ℕ) : Type 0 where
   pub owner : Option ℕ
   pub value : Heard

@@ -50,7 +50,7 @@ pub record IsBehind (sc : Scenario) (hands : List HandIn) (at : Side → ℕ →
   pub runs : s.runs ≡ true
   pub place : (at me i < n) ⊎ ((at me i ≡ n) × ((moment sc hands n).window ≡ 0) × PendsFirst sc hands me i (at me i) s)
 
--- where the book waits: all nodes stand in moments up to n, and one has not passed that
+-- the book waits at moment `n`: all nodes are in moments up to `n`, and one has not passed it
 pub record WaitsAt (sc : Scenario) (hands : List HandIn) (at : Side → ℕ → ℕ) (sites : Each Site) (b : Book) (n : ℕ) : Type 0 where
   pub stage : (moment sc hands n).window < stages_in sc.sizes
   pub bound : (me : Side) (i : ℕ) (s : Site) → slice_get (of_kind me sites) i ≡ Some s → at me i ≤ n

@@ -53,7 +53,7 @@ pub record TickBreaks (sc : Scenario) (hands : List HandIn) (sent : Side → ℕ
   pub words : (st : NodeState) → slice_get (of_kind me (moment sc hands p).nodes) i ≡ Some st → HasWord sc ports me i st (moment sc hands p).window (word_at sc (moment sc hands p) me i st)
   pub all_sent : (n : ℕ) → is_good_at sc (moment sc hands p) (other me) n ≡ true → (sent (other me) n p ≡ true) ⊎ (entry_of sc (moment sc hands p) me i n ≡ [])
 
--- after it the node has told its row
+-- after its due tick a node has closed the stage
 pub site-ticks : (sc : Scenario) (hands : List HandIn) → IsLawful sc → HasRoom sc.plan → (sent : Side → ℕ → ℕ → Bool) (now : ℕ) (ports : List PortState) (p q : ℕ) → IsRunning (moment sc hands p) → q < 2
     → (moment sc hands p).window ≡ 3 * sync_slot_of sc.sizes + q → (me : Side) (i : ℕ) (s : Site) (a : Timed) → TickBreaks sc hands sent ports p me i s a → SiteBreaks sc hands sent now p me i s
     → HasClosed sc hands me i p (after_act sc ports me i (pass_and_tick sc ports me i a.tick s.core) s)
@@ -70,7 +70,7 @@ site-ticks sc hands lawful room sent now ports p q running small at me i s a t (
 site-ticks sc hands lawful room sent now ports p q running small at me i s a t (inr (inr (inr h))) =
     closed-goes-on sc hands lawful room ports p q running small at me i s h t.you t.j t.yours t.there t.good a t.pend t.first
 
--- one kind listens in a stage, and the other is not heard in the next
+-- the two kinds do not both listen in one stage
 only-one : (q : ℕ) → q < 2 → (me : Side) → listens me Sync (q + 1) ≡ true → listens (other me) Sync (q + 1) ≡ true → ⊥
 only-one zero small Biu e f = cc
 only-one zero small Rmu e f = cc

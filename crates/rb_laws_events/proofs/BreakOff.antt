@@ -110,7 +110,7 @@ runs-small sc N hands b q sent sites keeps off h me i s there runs = elim (keeps
   | inr good ↦ h.small me i s there good
 ]
 
--- after an event that leaves the book: either the stage is not complete, or the run has ended
+-- after an event that leaves the book as it was, the stage is not complete or the run is over
 settles-off : (sc : Scenario) (N : ℕ → List HandIn → ℕ → (Side → ℕ → ℕ → Bool) → Each Site → Type 0) (hands : List HandIn) (b q : ℕ) (sent : Side → ℕ → ℕ → Bool) (x : World) → HasRoom sc.plan → x.hands ≡ hands
     → KeepsNodes sc q (N q) → BreaksAt sc hands b q → AllSent sc hands b sent → NodesOff sc N hands b q sent x.sites → x.book ≡ (moment sc hands b).book → needs_no_event sc x.book.upcoming ≡ false
     → PortsBreak sc x → BreaksOff sc N (settle sc ByAnEvent 2 x) ⊎ IsOver sc N (settle sc ByAnEvent 2 x)
@@ -175,7 +175,7 @@ settles-off sc N hands b q sent x room hands_are keeps off all_sent nodes is nee
           ports = ports;
         }))
 
--- an event
+-- after the first due event the run still breaks off, or it is over
 happens-off : (sc : Scenario) (N : ℕ → List HandIn → ℕ → (Side → ℕ → ℕ → Bool) → Each Site → Type 0) (b q : ℕ) (sent : Side → ℕ → ℕ → Bool) (w : World) (d : Due) → IsLawful sc → HasRoom sc.plan → KeepsNodes sc q (N q)
     → BreaksAt sc w.hands b q → AllSent sc w.hands b sent → NodesOff sc N w.hands b q sent w.sites → w.book ≡ (moment sc w.hands b).book → needs_no_event sc w.book.upcoming ≡ false
     → (due : IsDue w d) → FirstOf sc w.hands b due.t → PortsBreak sc w → BreaksOff sc N (take_if_due sc w (Some d)) ⊎ IsOver sc N (take_if_due sc w (Some d))

@@ -79,7 +79,7 @@ ports-break sc b q w off ports c r other = subst (λ n. PortsOff sc w.hands n w.
 
 -- What stays.
 
--- another site of the BIU with the same row, at which no fewer ticks were had, and the same port
+-- what holds at a site holds at one with the same row and port and no fewer ticks
 port-stays : (sc : Scenario) (hands : List HandIn) (b : ℕ) (ports more : List PortState) (i : ℕ) (s z : Site) → port_at sc more i ≡ port_at sc ports i → z.row ≡ s.row
     → s.core.had ≤ z.core.had → PortAt sc hands b ports i s → PortAt sc hands b more i z
 port-stays sc hands b ports more i s z port row had (inl waits) = inl (record { port = port ∙ waits.port; untold = λ r e. waits.untold r (sym row ∙ e) })
@@ -88,7 +88,7 @@ port-stays sc hands b ports more i s z port row had (inr last) = inr (λ st ther
 same-had : (a b : ℕ) → a ≡ b → b ≤ a
 same-had a b e = omega (arith, e)
 
--- one BIU or RMU changes, and a message is on its way
+-- if one node changes and a message is on its way, the other ports stay
 changes-ports : (sc : Scenario) (hands : List HandIn) (b : ℕ) (ports more : List PortState) (sites : Each Site) (me : Side) (i frame k : ℕ) (m : Option Message) (change : Site → Site) (s : Site)
     → slice_get (of_kind me sites) i ≡ Some s
     → ((j : ℕ) → is_node me i Biu j ≡ false → port_at sc more j ≡ port_at sc ports j)

@@ -104,7 +104,7 @@ acted-had sc ports me i k s h had =
     let core : z.core.had ≡ x.core.had = ap (λ (c : Core). c.had) (acted sc ports me i x s).core_is in
     omega (arith, core, ticked, passed)
 
--- there are more after it
+-- after an act the core has still had fewer than 2^31 ticks
 pub acted-small : (sc : Scenario) (ports : List PortState) (me : Side) (i k : ℕ) (s : Site) (h : HasLater sc (time_of (clock_of sc me i) k) me i) → s.core.had ≤ k
     → (after_act sc ports me i (pass_and_tick sc ports me i k s.core) s).core.had < 2 ^ 31
 acted-small sc ports me i k s h had =

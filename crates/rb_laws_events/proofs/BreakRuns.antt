@@ -69,7 +69,7 @@ reached-core sc me i frame k (Some m) side j s = by (same_side side (other me) &
 tells-still : (sc : Scenario) (hands : List HandIn) (b : ℕ) (me : Side) (i : ℕ) (s z : Site) → z.row ≡ s.row → TellsStage sc hands b me i s → TellsStage sc hands b me i z
 tells-still sc hands b me i s z same h = record { row = h.row; is = same ∙ h.is; place = h.place; rounds = h.rounds }
 
--- one node changes, and a message is on its way
+-- nodes of a run that breaks off stay so if one changes and a message is on its way
 changes-off : (sc : Scenario) (N : ℕ → List HandIn → ℕ → (Side → ℕ → ℕ → Bool) → Each Site → Type 0) (hands : List HandIn) (b q : ℕ) (sent : Side → ℕ → ℕ → Bool) (sites : Each Site)
     → (me : Side) (i frame k : ℕ) (m : Option Message) (change : Site → Site) (s : Site) → slice_get (of_kind me sites) i ≡ Some s
     → N q hands b sent (with_message sc me i frame k m (at_node me i change sites)) → ((row : Row) → (change s).row ≡ Some row → RowOfRounds sc hands me i row)
@@ -102,7 +102,7 @@ tells-it sc hands b me i s h =
     ∙ ap (λ p. is_some (elim (same_place p place) as (λ _. Option Row) [ true ↦ Some h.row | false ↦ None ])) h.place
     ∙ ap (λ t. is_some (elim t as (λ _. Option Row) [ true ↦ Some h.row | false ↦ None ])) (place-same place)
 
--- where the stage is not complete, some good node waits for its last tick
+-- the stage is not complete: a good node waits for its last tick
 pub record WaitsYet (sc : Scenario) (hands : List HandIn) (b : ℕ) (sites : Each Site) : Type 0 where
   pub me : Side
   pub i : ℕ

@@ -34,8 +34,7 @@ use Rattle.rb_laws_events.proofs.Receiving.{ArrivesNow}
 use Rattle.rb_laws_events.proofs.StageOrder.{last_of}
 use Rattle.rb_laws_events.proofs.TickWindows.{first_of}
 
--- up to the last tick of the stage at any good node no good node comes to the last tick of the next
--- stage
+-- up to the last tick of a stage at any good node, no good node has the last tick of the next stage
 pub before-next : (sc : Scenario) (hands : List HandIn) → IsLawful sc → HasRoom sc.plan → (p q : ℕ) → IsRunning (moment sc hands p) → q < 2 → (moment sc hands p).window ≡ 3 * sync_slot_of sc.sizes + q
     → (me : Side) (i : ℕ) (s : Site) → HasClosed sc hands me i p s
     → (you : Side) (j : ℕ) (yours : NodeState) → slice_get (of_kind you (moment sc hands p).nodes) j ≡ Some yours → is_good_at sc (moment sc hands p) you j ≡ true
@@ -69,7 +68,7 @@ before-next sc hands lawful room p q running small at me i s h you j yours there
           absurd (omega (arith, order, last_time, up, at_time, le))
     ]
 
--- its tick tells nothing
+-- a tick of a node that has closed its stage tells nothing
 pub closed-goes-on : (sc : Scenario) (hands : List HandIn) → IsLawful sc → HasRoom sc.plan → (ports : List PortState) (p q : ℕ) → IsRunning (moment sc hands p) → q < 2
     → (moment sc hands p).window ≡ 3 * sync_slot_of sc.sizes + q
     → (me : Side) (i : ℕ) (s : Site) → HasClosed sc hands me i p s

@@ -24,15 +24,15 @@ use Rattle.rb_laws_events.proofs.PendingLists.{StandsAt}
 use Rattle.rb_laws_events.proofs.Receiving.{ArrivesNow}
 use Rattle.rb_laws_events.proofs.ToldInOrder.{one-changes}
 
--- all nodes at one time
+-- `SiteBreaks` holds for each node at time `now`
 abbrev pub SitesBreak : Scenario → List HandIn → (Side → ℕ → ℕ → Bool) → ℕ → ℕ → Each Site → Type 0
 SitesBreak sc hands sent now p sites = (side : Side) (j : ℕ) (z : Site) → slice_get (of_kind side sites) j ≡ Some z → SiteBreaks sc hands sent now p side j z
 
--- each at a time of its own
+-- `SiteBreaks` holds for each node at a time of its own
 abbrev pub NodesBreak : Scenario → List HandIn → ℕ → (Side → ℕ → ℕ → Bool) → Each Site → Type 0
 NodesBreak sc hands p sent sites = (side : Side) (j : ℕ) (z : Site) → slice_get (of_kind side sites) j ≡ Some z → (now : ℕ) × SiteBreaks sc hands sent now p side j z
 
--- a tick
+-- a due tick keeps `NodesBreak`
 pub break-tick : (sc : Scenario) (hands : List HandIn) → IsLawful sc → HasRoom sc.plan → (sent : Side → ℕ → ℕ → Bool) (ports : List PortState) (p q : ℕ) → IsRunning (moment sc hands p) → q < 2
     → (moment sc hands p).window ≡ 3 * sync_slot_of sc.sizes + q → (sites : Each Site) → (me : Side) (i frame : ℕ) (s : Site) (a : Timed) → TickBreaks sc hands sent ports p me i s a
     → slice_get (of_kind me sites) i ≡ Some s → NodesBreak sc hands p sent sites
@@ -49,7 +49,7 @@ break-tick sc hands lawful room sent ports p q running small at sites me i frame
     there (a.time, inr (inr (inr (site-ticks sc hands lawful room sent here.0 ports p q running small at me i s a t here.1))))
     (λ side j z other e. h side j z e)
 
--- an arrival
+-- an arrival that is due keeps `NodesBreak`
 pub break-arrival : (sc : Scenario) (hands : List HandIn) (sent : Side → ℕ → ℕ → Bool) (p : ℕ) (sites : Each Site) (me : Side) (i n : ℕ) (c : Coming) (s : Site)
     → (is_good_at sc (moment sc hands p) me i ≡ true → Moves (clock_of sc me i)) → slice_get (of_kind me sites) i ≡ Some s → StandsAt n c s.coming
     → ((a : Timed) → s.ahead ≡ Some a → ArrivesNow n c s a) → NodesBreak sc hands p sent sites → NodesBreak sc hands p sent (at_node me i (after_arrival sc me i n c) sites)

@@ -45,7 +45,7 @@ times-apart sc lawful a b mine yours o m lengths_a lengths_b apart rooms =
 
 -- Earlier moments.
 
--- after a window of a frame
+-- `next` is the moment after a window of `m`
 pub record IsWindowLater (sc : Scenario) (m next : Moment) : Type 0 where
   pub frame : next.frame ≡ m.frame
   pub window : next.window ≡ m.window + 1
@@ -61,7 +61,7 @@ unfolding step
 window-later sc hands m h =
     stepped-window sc hands m (m.frame == sc.frames) (nat_lt m.window (windows_in sc.sizes)) (lt-ltb m.window (windows_in sc.sizes) h)
 
--- after the end of a frame
+-- `next` is the moment after the end of the frame of `m`
 pub record IsFrameLater (sc : Scenario) (hands : List HandIn) (m next : Moment) : Type 0 where
   pub frame : next.frame ≡ m.frame + 1
   pub window : next.window ≡ 0

@@ -166,7 +166,7 @@ next-is sc x m up due =
 settle-is : (sc : Scenario) (n : ℕ) (x y : World) → settle_next sc ByAnEvent x ≡ y → settle sc ByAnEvent (suc n) x ≡ settle_rest sc ByAnEvent n y (record_since x y)
 settle-is sc n x y e = ap (λ next. settle_rest sc ByAnEvent n next (record_since x next)) e
 
--- where what comes after the first milestone waits, that milestone alone is settled
+-- if what comes after the first milestone waits, only that milestone is settled
 one-settled : (sc : Scenario) (at : Side → ℕ → ℕ) (n : ℕ) (x y : World) → settle_next sc ByAnEvent x ≡ y → Waits sc y
     → ((frame : ℕ) → frame_in (record_since x y) ≡ Some frame → AfterRecord sc at y frame) → Settled sc at (settle sc ByAnEvent (suc n) x)
 one-settled sc at n x y e waits turn =

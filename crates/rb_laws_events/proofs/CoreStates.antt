@@ -55,7 +55,7 @@ ready-early sizes plan me i st c y n had k ticks keeps le like at later now =
 
 -- Places.
 
--- the number of a window in its frame, by its slot and its stage
+-- a window's slot and stage fix its number in the frame
 pub window-place : (sizes : Sizes) (plan : Plan) (me : Side) (st : NodeState) (n : ℕ) → n ≤ stages_in sizes
     → 3 * (window_numbered sizes plan me st n).slot + (window_numbered sizes plan me st n).stage ≡ n + 1
 window-place sizes plan me st n le =
@@ -85,7 +85,7 @@ pub record StandsIn (sc : Scenario) (hands : List HandIn) (me : Side) (i p : ℕ
   pub from : st.epoch + first_of sc.sizes sc.plan me st (moment sc hands p).window ≤ c.had
   pub later : c.had ≤ k
 
--- its own moment is that one, and it holds the state of that one
+-- the node's own moment is moment `p`, and it holds the state of that moment
 pub record IsThere (sc : Scenario) (hands : List HandIn) (me : Side) (i p : ℕ) (c : Core) : Type 0 where
   pub moment_is : own_moment sc hands me c ≡ moment sc hands p
   pub holds : HoldsTheState sc (moment sc hands p) me i c

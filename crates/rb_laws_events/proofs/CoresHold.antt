@@ -130,7 +130,7 @@ step-stays : (sc : Scenario) (hands : List HandIn) (m : Moment) → (step sc han
 unfolding step
 step-stays sc hands m h = stepped-stays sc hands m (m.frame == sc.frames) (nat_lt m.window (windows_in sc.sizes)) h
 
--- where the run breaks off with the window of moment b, that is its stage
+-- if the run breaks off with the window of moment `b`, the book waits for that stage
 breaks-there : (sc : Scenario) (hands : List HandIn) → IsLawful sc → (b q : ℕ) → BreaksAt sc hands b q → (moment sc hands b).book.upcoming ≡ Stage (place_at sc.sizes (moment sc hands b))
 breaks-there sc hands lawful b q off =
     let small = off.small in
@@ -166,7 +166,7 @@ not-before sc w b q off waits before =
     ∙ omega (arith, number.0, small, window) in
     true-false (sym off.ends ∙ sym (ap (λ n. (moment sc w.hands n).book.ended) is) ∙ running)
 
--- where the run has broken off the book stays as it was at the break
+-- once the run has broken off the book stays as it was at the break
 over-waits : (sc : Scenario) (hands : List HandIn) → IsLawful sc → (b q : ℕ) (book : Book) → BreaksAt sc hands b q → IsOfMoment sc hands book → book.ended ≡ true → book.upcoming ≡ Stage (place_at sc.sizes (moment sc hands b))
 over-waits sc hands lawful b q book off (inl fresh) ended = true-false (sym ended ∙ ap (λ (b : Book). b.ended) fresh)
 over-waits sc hands lawful b q book off (inr of) ended =

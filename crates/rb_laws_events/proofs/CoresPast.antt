@@ -204,7 +204,7 @@ told-late sc hands me i b s a ticks off h pends =
       | inr turned ↦ let f = turned.in_frame in record { place = inr (omega (arith, f, frame)) }
     ]
 
--- where the run breaks off with one of the first two stages
+-- if the run breaks off in stage 1 or 2, `IsStill` holds for a node in a moment of the run
 early-node : (sc : Scenario) (hands : List HandIn) (sent : Side → ℕ → ℕ → Bool) (now b q : ℕ) (me : Side) (i : ℕ) (s : Site) → HasTicks sc.plan → BreaksAt sc hands b q → s.runs ≡ true
     → SiteBreaks sc hands sent now b me i s → IsRunning (own_moment sc hands me s.core) → IsStill sc hands me i b s.core
 early-node sc hands sent now b q me i s ticks off runs (inl stopped) running = true-false (sym runs ∙ stopped.runs)

@@ -19,7 +19,7 @@ use Rattle.rb_rules.specs.Slots.{listens}
 use Rattle.rb_rules.specs.Standing.{has_evidence, is_eligible, taken_of, with_evidence}
 use Rattle.rb_rules.specs.SyncStage.{close_sync, expects_call, see_time, sync_closing_of, sync_outcome_of}
 
--- it takes nothing
+-- a node that does not listen takes nothing
 takes-none : (me : Side) (st : NodeState) (stage : ℕ) (sense : ℕ → Sense) → listens me Sync stage ≡ false → (j : ℕ)
     → taken_of stamp_in st.far (expects_call me st stage) sense j ≡ None
 takes-none me st stage sense deaf j = by (listens me Sync stage) (has st.far.trusted j) (is_eligible st.far j) deaf

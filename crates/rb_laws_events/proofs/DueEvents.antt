@@ -103,7 +103,7 @@ pub record IsOf (t : ℕ) (me : Side) (i : ℕ) (s : Site) (d : Due) : Type 0 wh
   pub node : d.node ≡ i
   pub ready : IsReady t s d.pending
 
--- the items with their places
+-- each item of the enumeration has its place
 places : (n : ℕ) (all cs : List Coming) → ((m : ℕ) (c : Coming) → StandsAt m c cs → StandsAt (n + m) c all)
     → Every (λ p. StandsAt p.0 p.1 all) (enumerate_from n cs)
 places n all [] at = tt
@@ -122,7 +122,7 @@ arrivals-ready me i t s j =
     (λ p h. record { side = refl; node = refl; ready = (h.0, eqb-true p.1.time t (and_second (p.1.from == j) (p.1.time == t) h.1)) })
     (filter q (enumerate_from 0 s.coming)) (every-filter (λ p. StandsAt p.0 p.1 s.coming) q (enumerate_from 0 s.coming) (places 0 s.coming s.coming z))
 
--- where nothing is found, nothing passes
+-- if the filter finds nothing, nothing passes
 filter-none : {X : Type 0} (q : X → Bool) (xs : List X) → filter q xs ≡ [] → Every (λ x. q x ≡ false) xs
 filter-none q [] e = tt
 filter-none q (x ∷ xs) e = by (filter-none q xs) (q x) refl e
@@ -145,7 +145,7 @@ flat-none f a (suc n) e (suc k) h =
     let parts = append-none (f a) (flat_map f (range_with_len (a + 1) n)) e in
     ap f (sym s) ∙ flat-none f (a + 1) n parts.1 k (omega arith)
 
--- back from the items with their places
+-- what holds for all items with their places holds for the items
 unplaced : (P : Coming → Type 0) (n : ℕ) (cs : List Coming) → Every (λ p. P p.1) (enumerate_from n cs) → Every P cs
 unplaced P n [] a = tt
 unplaced P n (c ∷ cs) a = (a.0, unplaced P (n + 1) cs a.1)
@@ -161,7 +161,7 @@ later-all t n [] none known le = tt
 later-all t n (c ∷ cs) none known le =
     (after-it t c.from c.time (none c.from known.0).0 le.0, later-all t n cs (λ j h. (none j h).1) known.1 le.1)
 
--- where no arrival is ready at the least time, all that comes to the node comes later
+-- if no arrival is ready at the least time, all that comes to the node comes later
 nothing-comes : (me : Side) (i t n : ℕ) (s : Site) → flat_map (arrivals_at me i t s) (numbers n) ≡ []
     → Every (λ c. c.from < n) s.coming → Every (λ c. t ≤ c.time) s.coming → Every (λ c. t < c.time) s.coming
 nothing-comes me i t n s none known le =
@@ -298,7 +298,7 @@ every-mapped : {X Y : Type 0} (P : Y → Type 0) (f : X → Y) (xs : List X) →
 every-mapped P f [] a = tt
 every-mapped P f (x ∷ xs) a = (a.0, every-mapped P f xs a.1)
 
--- where nothing is ready at a node, all that is pending there comes later
+-- if nothing is ready at a node, all that is pending there comes later
 ready-none : (sizes : Sizes) (t : ℕ) (me : Side) (i : ℕ) (s : Site) → Every (λ c. c.from < count_of (other me) sizes) s.coming
     → Every (λ u. t ≤ u) (times_of s) → ready_at sizes t me i s ≡ [] → Every (λ u. t < u) (times_of s)
 unfolding ready_at
@@ -350,8 +350,7 @@ none-absurd sc w known t e none =
     (every-flat (λ u. t < u) times_of (in_order w.sites) (every-append (λ s. Every (λ u. t < u) (times_of s)) w.sites.bius w.sites.rmus bius rmus)) e in
     absurd (omega arith)
 
--- before the last record, and if the next one needs an event, some event is due as long as anything
--- is pending
+-- if the run goes on and its next record needs an event, an event is due while anything is pending
 pub some-due : (sc : Scenario) (w : World) (t : ℕ) → ComesFromNodes sc w → (w.book.ended || needs_no_event sc w.book.upcoming) ≡ false
     → least (flat_map times_of (in_order w.sites)) ≡ Some t → due_of sc w ≡ [] → ⊥
 unfolding due_of

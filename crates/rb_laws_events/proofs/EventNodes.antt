@@ -32,7 +32,7 @@ use Rattle.rb_laws_events.proofs.WorldEvents.{AfterTick}
 use Rattle.rb_laws_events.proofs.WorldStands.{SitesStand, get-at, is_node, node-is, node-itself}
 use Rattle.rb_laws_events.proofs.WorldTicks.{after_tick, get-after, kind-other, moved, reached, reached-not}
 
--- the node of an event afterwards
+-- after an event its node has the changed site
 now-there : (sc : Scenario) (sites : Each Site) (me : Side) (i frame k : ℕ) (m : Option Message) (change : Site → Site) (s : Site) → slice_get (of_kind me sites) i ≡ Some s
     → slice_get (of_kind me (with_message sc me i frame k m (at_node me i change sites))) i ≡ Some (change s)
 now-there sc sites me i frame k m change s there =
@@ -174,7 +174,7 @@ arrival-site sc sites me i n c side j z e =
         (ap (λ (s : Site). s.runs) (sym e) ∙ same.1.1.1, ap (λ (s : Site). s.begun) (sym e) ∙ same.1.0)
     by old z false e = (ap (λ (s : Site). s.runs) (sym e), ap (λ (s : Site). s.begun) (sym e))
 
--- it keeps ports and what is handed in
+-- an arrival changes no ports
 pub ports-arrival : (sc : Scenario) (hands : List HandIn) (at : Side → ℕ → ℕ) (sites : Each Site) (ports : List PortState) (me : Side) (i n : ℕ) (c : Coming)
     → PortsStand sc hands at sites ports → PortsStand sc hands at (at_node me i (after_arrival sc me i n c) sites) ports
 ports-arrival sc hands at sites ports me i n c stand j z e runs =

@@ -41,7 +41,7 @@ any sc lawful = any-after sc (nodes_at sc) lawful (has-room sc lawful) (keeps sc
 pub events-hold : EventsAreRoundsInLawful
 events-hold sc lawful = events-are-rounds sc (nodes_at sc) (any sc lawful)
 
--- where the next record needs an event, a tick is pending
+-- if the next record needs an event, a tick is pending
 some-pends : (sc : Scenario) → IsLawful sc → (w : World) → AnyWorld sc (nodes_at sc) w → w.book.ended ≡ false → needs_no_event sc w.book.upcoming ≡ false → SomePends w
 some-pends sc lawful w (inl run) going needs =
     let h : StandsInRounds sc w = run.stands in

@@ -44,7 +44,7 @@ use Rattle.rb_laws_events.proofs.WorldNodes.{events-due, settle-sites}
 
 -- Choices.
 
--- where something is due, the run has not ended, and the next record needs an event
+-- if something is due, the run has not ended, and the next record needs an event
 pub due-going : (sc : Scenario) (w : World) (i : ℕ) (d : Due) → slice_get (due_of sc w) i ≡ Some d → (w.book.ended ≡ false) × (needs_no_event sc w.book.upcoming ≡ false)
 unfolding due_of
 due-going sc w i d = by w.book.ended (needs_no_event sc w.book.upcoming)
@@ -204,7 +204,7 @@ go-on-run sc w lawful room run =
           run.before b q (subst (λ hands. BreaksAt sc hands b q) y.1.1 off) me i s (ap (λ sites. slice_get (of_kind me sites) i) (sym y.1.0) ∙ there);
     }
 
--- a hand-in
+-- a hand-in leaves the world in the run
 hand-run : (sc : Scenario) (w : World) (biu state : ℕ) → IsLawful sc → HasRoom sc.plan → InRun sc w → InRun sc (hand sc w biu state)
 hand-run sc w biu state lawful room run =
     let h : StandsInRounds sc w = run.stands in
@@ -246,7 +246,7 @@ go-on-over : (sc : Scenario) (N : ℕ → List HandIn → ℕ → (Side → ℕ 
 unfolding go_on
 go-on-over sc N w h = subst (λ b. IsOver sc N (elim b as (λ _. World) [ true ↦ w | false ↦ settle sc ByItself 2 w ])) (sym h.ended) h
 
--- while no frame's record is the turn nothing is handed in
+-- nothing is handed in unless the turn is the record of a frame
 pub hand-none : (sc : Scenario) (w : World) (biu state : ℕ) → frame_in w.turn ≡ None → hand sc w biu state ≡ w
 unfolding hand
 hand-none sc w biu state silent = ap (λ o. elim o as (λ _. World) [
@@ -257,7 +257,7 @@ hand-none sc w biu state silent = ap (λ o. elim o as (λ _. World) [
   ]
 ]) silent
 
--- one choice
+-- one choice keeps `AnyWorld`
 choice-keeps : (sc : Scenario) (N : ℕ → List HandIn → ℕ → (Side → ℕ → ℕ → Bool) → Each Site → Type 0) (choices : List Choice) (c : Choice) → IsLawful sc → HasRoom sc.plan → ((q : ℕ) → q < 3 → KeepsNodes sc q (N q))
     → AnyWorld sc N (world_after sc choices) → AnyWorld sc N (choose sc (world_after sc choices) c)
 unfolding take
@@ -290,12 +290,12 @@ after-more sc choices c = more choices (first_world sc)
     more [] w = refl
     more (x ∷ xs) w = more xs (choose sc w x)
 
--- the first world
+-- the first world is in the run
 first-run : (sc : Scenario) → IsLawful sc → HasRoom sc.plan → InRun sc (first_world sc)
 first-run sc lawful room =
     record { stands = record { now = 0; at = at_begin; stands = first-in-rounds sc lawful room }; before = λ b q off me i s there. omega arith }
 
--- all choices
+-- further choices keep `AnyWorld`
 from-here : (sc : Scenario) (N : ℕ → List HandIn → ℕ → (Side → ℕ → ℕ → Bool) → Each Site → Type 0) → IsLawful sc → HasRoom sc.plan → ((q : ℕ) → q < 3 → KeepsNodes sc q (N q)) → (before rest : List Choice)
     → AnyWorld sc N (world_after sc before) → AnyWorld sc N (world_after sc (before ++ rest))
 from-here sc N lawful room keeps before [] h = subst (λ cs. AnyWorld sc N (world_after sc cs)) (sym (append-nil before)) h

@@ -48,7 +48,7 @@ no-begin sizes plan me y n k room le now at after =
     below : (a b : ℕ) → a < b → (a == b) ≡ false
     below a b h = grind (arith, nat_tests)
 
--- the slot of the windows from the sync slot's first on
+-- a window from the sync slot's first on is in the sync slot
 pub slot-in-sync : (sizes : Sizes) (plan : Plan) (me : Side) (y : NodeState) (n : ℕ) → 3 * sync_slot_of sizes ≤ n → n ≤ stages_in sizes → (window_numbered sizes plan me y n).slot ≡ sync_slot_of sizes
 slot-in-sync sizes plan me y n le small =
     let q : ℕ = n - 3 * sync_slot_of sizes in
@@ -83,7 +83,7 @@ tells-few sc hands ports p me i k s r e closes quiet some one =
     let none : messages_in x.message ≡ 0 = ap messages_in quiet in
     record { sends = r; enters = 0; may = inr (closes, inl some); sent = omega (arith, none); room = omega (arith, most, more) }
 
--- a tick after it
+-- a tick of a node that has closed its stage goes on within `MayBreak`
 closed-few : (sc : Scenario) (hands : List HandIn) → IsLawful sc → HasRoom sc.plan → (sent : Side → ℕ → ℕ → Bool) (ports : List PortState) (p q : ℕ) → IsRunning (moment sc hands p) → q < 2
     → (moment sc hands p).window ≡ 3 * sync_slot_of sc.sizes + q → (me : Side) (i : ℕ) (s : Site) (a : Timed) (r e : ℕ) → TickBreaks sc hands sent ports p me i s a → a.tick < 2 ^ 31
     → HasClosed sc hands me i p s → (1 ≤ r) ⊎ HasSpoken sc.sizes sc.plan me s.core.state s.core.had
@@ -201,7 +201,7 @@ closed-few sc hands lawful room sent ports p q running small at me i s a r e t f
           }
         ]
 
--- a due tick
+-- a due tick goes on within `MayBreak`
 pub breaks-few : (sc : Scenario) (hands : List HandIn) → IsLawful sc → HasRoom sc.plan → (sent : Side → ℕ → ℕ → Bool) (now : ℕ) (ports : List PortState) (p q : ℕ) → IsRunning (moment sc hands p) → q < 2
     → (moment sc hands p).window ≡ 3 * sync_slot_of sc.sizes + q → (me : Side) (i : ℕ) (s : Site) (a : Timed) (r e : ℕ) → TickBreaks sc hands sent ports p me i s a → a.tick < 2 ^ 31
     → SiteBreaks sc hands sent now p me i s → MayBreak sc hands p me i r e s

@@ -48,7 +48,7 @@ may_at sc zero hands b me i r e s = MayBreak sc hands b me i r e s
 may_at sc (suc zero) hands b me i r e s = MayBreak sc hands b me i r e s
 may_at sc (suc (suc q)) hands b me i r e s = MayLast sc hands b me i r e s
 
--- the room at all nodes
+-- all nodes have room for what is still to come
 pub record FewOff (sc : Scenario) (q : ℕ) (hands : List HandIn) (b : ℕ) (sites : Each Site) : Type 0 where
   pub sends : Side → ℕ → ℕ
   pub enters : Side → ℕ → ℕ
@@ -170,7 +170,7 @@ may-arrives sc q hands b me i r e n c s moves before h = by q h
     by (suc zero) h = early h
     by (suc (suc q)) h = late h
 
--- one node changes, and a message is on its way
+-- the room is enough if one node changes and a message is on its way
 changes-few : (sc : Scenario) (q : ℕ) (hands : List HandIn) (b : ℕ) (sites : Each Site) (me : Side) (i frame k : ℕ) (m : Option Message) (change : Site → Site) (s : Site) (r e : ℕ)
     → (h : FewOff sc q hands b sites) → slice_get (of_kind me sites) i ≡ Some s → length (change s).coming + e * length sc.says ≤ length s.coming + h.enters me i * length sc.says
     → r + messages_in m ≤ h.sends me i → may_at sc q hands b me i r e (change s) → FewOff sc q hands b (with_message sc me i frame k m (at_node me i change sites))

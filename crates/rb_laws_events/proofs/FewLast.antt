@@ -95,7 +95,7 @@ tail-alike sizes plan me i frame e x c word room low h lt = by (is_spent c)
         act_of : NodeState → Act
         act_of y = act_on sizes plan me i c y (said_at sizes plan me i y word c.had) (state_kept sizes me i y word (said_at sizes plan me i y word c.had))
 
--- a tick after it
+-- a tick of a node that has told its row goes on within `MayLast`
 told-few : (sc : Scenario) (hands : List HandIn) → IsLawful sc → HasRoom sc.plan → (sent : Side → ℕ → ℕ → Bool) (ports : List PortState) (p : ℕ) → IsRunning (moment sc hands p)
     → (moment sc hands p).window ≡ 3 * sync_slot_of sc.sizes + 2 → (me : Side) (i : ℕ) (s : Site) (a : Timed) (r e : ℕ) → TickBreaks sc hands sent ports p me i s a → ToldFew sc hands p me i r e s
     → StepsOn sc (MayLast sc hands p me i) (pass_and_tick sc ports me i a.tick s.core).message s (after_act sc ports me i (pass_and_tick sc ports me i a.tick s.core) s) r e
@@ -153,7 +153,7 @@ told-few sc hands lawful room sent ports p running at me i s a r e t g = by next
     frame_is : z.core.state.frame ≡ x.core.state.frame
     frame_is = ap (λ (c : Core). c.state.frame) core
 
-    -- in the tail
+    -- the tick is in the tail
     in-it : IsInTail sc.sizes sc.plan me h.st.frame h.st.epoch h.x s.core.state s.core.had → a.tick < h.x → (o : Option Message) → x.message ≡ o → StepsOn sc (MayLast sc hands p me i) x.message s z r e
     in-it tail lt o f = entering (cases_lt (a.tick + 1) h.x) (messages o f (g.tail tail.in_frame))
       where
@@ -235,7 +235,7 @@ told-few sc hands lawful room sent ports p running at me i s a r e t g = by next
             let less = one-less e (length sc.says) one in
             record { sends = y.0; enters = e - 1; may = may y.0 (e - 1) (λ early. absurd (omega (arith, early, z_had, outer))) y.1.1; sent = y.1.0; room = omega (arith, most, less) }
 
-    -- in the next frame
+    -- the tick is in the next frame
     beyond : h.x ≤ a.tick → (1 ≤ r) ⊎ (h.x + sc.plan.h < a.tick) → (o : Option Message) → x.message ≡ o → StepsOn sc (MayLast sc hands p me i) x.message s z r e
     beyond late once o f = steps o f once
       where
@@ -285,7 +285,7 @@ told-few sc hands lawful room sent ports p running at me i s a r e t g = by next
         let begun = y.begun in
         beyond (omega (arith, begun, had)) (elim (g.turned y.in_frame) [ inl one ↦ inl one | inr over ↦ inr (omega (arith, over, had)) ]) x.message refl
 
--- a due tick
+-- a due tick goes on within `MayLast`
 pub last-few : (sc : Scenario) (hands : List HandIn) → IsLawful sc → HasRoom sc.plan → (sent : Side → ℕ → ℕ → Bool) (ports : List PortState) (p : ℕ) → IsRunning (moment sc hands p)
     → (moment sc hands p).window ≡ 3 * sync_slot_of sc.sizes + 2 → (me : Side) (i : ℕ) (s : Site) (a : Timed) (r e : ℕ) → TickBreaks sc hands sent ports p me i s a
     → SiteLast sc hands sent p me i s → MayLast sc hands p me i r e s

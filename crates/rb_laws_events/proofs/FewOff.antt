@@ -88,7 +88,7 @@ sum-added sc me i r m sends side below le = by me side below le
     by Rmu Biu below le = sum-larger (moved Rmu i r sends Rmu) (sends Rmu) i (messages_in m) (count_of Rmu sc.sizes) below (no-more Rmu le) (its Rmu le)
     by Rmu Rmu below le = let same = sum-le (moved Rmu i r sends Biu) (sends Biu) (count_of Biu sc.sizes) (λ j. omega arith) in omega (arith, same)
 
--- one node changes, and may send a message
+-- the rooms are enough if one node changes and may send a message
 pub rooms-change : (sc : Scenario) (most : Side → ℕ) (sends enters : Side → ℕ → ℕ) (sites : Each Site) (me : Side) (i frame k : ℕ) (m : Option Message) (change : Site → Site) (s : Site) (r e : ℕ)
     → i < count_of me sc.sizes → slice_get (of_kind me sites) i ≡ Some s → length (change s).coming + e * length sc.says ≤ length s.coming + enters me i * length sc.says
     → r + messages_in m ≤ sends me i → HaveRooms sc most sends enters sites

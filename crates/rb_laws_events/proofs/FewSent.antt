@@ -28,7 +28,7 @@ use Rattle.rb_laws_events.proofs.TickWindows.{IsTickIn, ends-before-later, first
 abbrev pub HasSpoken : Sizes → Plan → Side → NodeState → ℕ → Type 0
 HasSpoken sizes plan me st had = (stage t : ℕ) → listens (other me) Sync stage ≡ true → call_tick_of sizes plan st stage ≡ Some t → t < had
 
--- states with the same ticks of calls
+-- the states have the same ticks of calls
 pub record CallsAlike (st y : NodeState) : Type 0 where
   pub epoch : y.epoch ≡ st.epoch
   pub k1 : y.k1 ≡ st.k1
@@ -135,7 +135,7 @@ says-some sizes plan me i c word m = by (is_spent c)
 
 -- One message.
 
--- a node calls in one stage after the first
+-- a stage in which a node calls is stage 1 or the later one of its kind
 calls-in : (me : Side) (stage : ℕ) → listens (other me) Sync stage ≡ true → (stage ≡ 1) ⊎ (stage ≡ elim me as (λ _. ℕ) [ Biu ↦ 3 | Rmu ↦ 2 ])
 calls-in Biu stage e = elim (or_cases (stage == 1) _ e) [ inl f ↦ inl (eqb-true stage 1 f) | inr f ↦ inr (eqb-true stage 3 (and_first (stage == 3) _ f)) ]
 calls-in Rmu stage e = inr (eqb-true stage 2 e)
@@ -151,7 +151,7 @@ first-over sizes plan me st n k t room lt le at e =
     let h : plan.h < plan.l = room.inside.in_l in
     omega (arith, tick, last, before, from, h)
 
--- after a message nothing more is said in the slot
+-- after its message a node says nothing more in the slot
 pub speaks-once : (sizes : Sizes) (plan : Plan) (me : Side) (i : ℕ) (st : NodeState) (n k word : ℕ) → HasRoom plan → 3 * sync_slot_of sizes < n → n ≤ stages_in sizes → IsTickIn sizes plan me st n k
     → IsSentThen sizes plan me i st (sync_slot_of sizes) word k → HasSpoken sizes plan me st (k + 1)
 speaks-once sizes plan me i st n k word room lt le at h stage t heard e =

@@ -25,7 +25,7 @@ use Rattle.rb_laws_events.proofs.Waiting.{none-told}
 use Rattle.rb_rules.specs.Hearing.{Span, port_at}
 use Rattle.rb_laws_events.proofs.WorldNodes.{first-counts}
 
--- in the first world nobody has told anything
+-- to enter a window changes neither what a node has told nor the frame that it has begun
 entered-tells : (sc : Scenario) (me : Side) (i : ℕ) (o : Option Span) (s : Site) → ((enter sc me i o s).row ≡ s.row) × ((enter sc me i o s).begun ≡ s.begun)
 entered-tells sc me i None s = (refl, refl)
 entered-tells sc me i (Some span) s = by (is_good sc me i span.place.frame span.place.slot)
@@ -92,7 +92,7 @@ first-settled sc =
       turn = λ frame e. none-some frame e;
     }
 
--- the first world
+-- the first world is in time
 times-first : (sc : Scenario) → IsLawful sc → AreInTime sc [] at_begin
 unfolding begin_frame
 times-first sc lawful =

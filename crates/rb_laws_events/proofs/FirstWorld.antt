@@ -68,7 +68,7 @@ heard-none sc m me i j st frame =
 nothing-heard : (j u : ℕ) → Hears j u [] [] [] []
 nothing-heard j u = record { came = tt; pends = tt; as_many = refl; later = refl }
 
--- the site of a node before it enters the first window
+-- a good node's site enters the first window
 first-enters : (sc : Scenario) (hands : List HandIn) (me : Side) (i : ℕ) → IsLawful sc → HasRoom sc.plan → is_good_at sc (moment sc hands 0) me i ≡ true
     → Enters sc hands none_sent 0 me i 0 0 (first_state sc.sizes me) (fresh_site sc.sizes me)
 unfolding begin_frame
@@ -127,7 +127,7 @@ first-span sc hands me room =
     let at : IsTickIn sc.sizes sc.plan me st 0 0 = first-tick sc me in
     span-begins sc.sizes sc.plan me st st 0 0 (not-turned sc.sizes sc.plan me 0) (here-is sc.sizes sc.plan me st 0 0 room.ticks (omega arith) at) first
 
--- a node of the first world
+-- a node of the first world runs or is down, and has sent nothing
 pub record FirstNode (sc : Scenario) (hands : List HandIn) (me : Side) (i : ℕ) (s : Site) : Type 0 where
   pub node : ((s.runs ≡ true) × IsUp sc hands none_sent 0 me i 0 s) ⊎ ((s.runs ≡ false) × IsDown sc hands me i 0 s)
   pub silent : past (sending_of sc (moment sc hands 0) me i) s.ahead ≡ false

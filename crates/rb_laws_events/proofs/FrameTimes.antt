@@ -33,7 +33,7 @@ use Rattle.rb_laws_events.proofs.CloseOrder.{IsWindowLater, WasGood, was-good, w
 use Rattle.rb_laws_events.proofs.Invariant.{is_good_at}
 use Rattle.rb_laws_events.proofs.RoundNodes.{moments-stand, slot-is}
 
--- a good node of a moment, in the words of the rounds and in those of agreement
+-- a good node of a moment is a good node in the words of agreement too
 pub node-in : (sc : Scenario) (m : Moment) (me : Side) (i : ℕ) (st : NodeState) → IsGoodIn sc m me i st → IsGoodNode sc m me i st
 node-in sc m me i st h = record { there = h.0; good = ap (is_good sc me i m.frame) (sym (slot-is sc.sizes sc.plan me st m.window)) ∙ h.1 }
 

@@ -21,7 +21,7 @@ use Rattle.rb_laws_events.proofs.SettledOnce.{FrameGiven, frame-given}
 use Rattle.rb_laws_events.proofs.Waiting.{no-good, told-all}
 use Rattle.rb_laws_events.proofs.WorldBooks.{go-on-turn, last-one, settle_rest}
 
--- where nobody is good, all that is asked for has been told
+-- if nobody is good, all that is asked for has been told
 pub none-asked : {X : Type 0} (sc : Scenario) (frame slot : ℕ) (tells : Site → Option X) (sites : Each Site) → IsShape sc.sizes → nobody_good sc frame slot ≡ true
     → all_have_told sc frame slot tells sites ≡ true
 none-asked sc frame slot tells sites shape h =
@@ -100,7 +100,7 @@ stage-turn sc n w place shape going up nobody =
     let none : good_at sc Biu place.frame place.slot ≡ 0 = no-good sc Biu place.frame place.slot (nobody-each sc place.frame place.slot shape nobody Biu) in
     (Breach place FewGoodBiu, settle-gives sc n w (next_world sc w (Stage place)) (Breach place FewGoodBiu) next (stage-gives sc place _ w.book going none))
 
--- after the start of a frame at which nobody is good, which has no record, comes one of these
+-- if nobody is good at the start of a frame, which has no record, the milestone after it gives one
 begin-turn : (sc : Scenario) (n : ℕ) (w : World) (frame : ℕ) → IsShape sc.sizes → w.book.ended ≡ false → w.book.upcoming ≡ Begin frame → nobody_good sc frame 0 ≡ true
     → (r : Record) × ((settle sc ByItself (suc (suc n)) w).turn ≡ Some r)
 begin-turn sc n w frame shape going up nobody =

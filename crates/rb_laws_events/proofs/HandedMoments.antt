@@ -78,7 +78,7 @@ before-frame sc hands n frame lt =
           absurd (omega (arith, number.0, up, lt))
     ]
 
--- the frame and the window of a moment from its number
+-- the number of a moment fixes its frame and its window
 pub place-of : (sc : Scenario) (hands : List HandIn) (n frame window : ℕ) → n ≡ frame * (windows_in sc.sizes + 1) + window → window ≤ windows_in sc.sizes
     → ((moment sc hands n).frame ≡ frame) × ((moment sc hands n).window ≡ window)
 place-of sc hands n frame window is within =
@@ -182,7 +182,7 @@ handed-is sc hands h (suc n) before =
     ] in
     subst (λ y. y ≡ record (stepped sc hands m over in_frame) { ports = y.ports }) (sym tests) then_is
 
--- the moments before the frame's data slots, with one hand-in more
+-- one more hand-in leaves the moments before its frame's data slots as they are
 pub handed-alike : (sc : Scenario) (hands : List HandIn) (h : HandIn) (n : ℕ) → n < h.frame * (windows_in sc.sizes + 1) + 3 * sc.sizes.bius
     → Alike sc (moment sc hands n) (moment sc (hands ++ h ∷ []) n)
 handed-alike sc hands h n before = alike-from sc hands h n before (handed-is sc hands h n before)

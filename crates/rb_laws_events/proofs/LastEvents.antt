@@ -117,7 +117,7 @@ before-end sc hands sent lawful ports p running at me i s a t h =
     let first : a.time ≤ time_of (clock_of sc t.you t.j) (last_tick sc (moment sc hands p) t.you t.yours) = t.first in
     closes-later sc hands lawful p running at t.you t.j t.yours t.there t.good me i h.st h.state h.good h.x a.tick h.low (omega (arith, at_time, first))
 
--- after it the node has told its row
+-- after its due tick a node has told the row of the last stage
 pub last-ticks : (sc : Scenario) (hands : List HandIn) → IsLawful sc → HasRoom sc.plan → (sent : Side → ℕ → ℕ → Bool) (ports : List PortState) (p : ℕ) → IsRunning (moment sc hands p)
     → (moment sc hands p).window ≡ 3 * sync_slot_of sc.sizes + 2 → (me : Side) (i : ℕ) (s : Site) (a : Timed) → TickBreaks sc hands sent ports p me i s a → SiteLast sc hands sent p me i s
     → HasToldLast sc hands me i p (after_act sc ports me i (pass_and_tick sc ports me i a.tick s.core) s)

@@ -61,7 +61,6 @@ last-ahead sc hands sent p me i s (inr (inl h)) a e =
 last-ahead sc hands sent p me i s (inr (inr (inl h))) a e = subst (IsAhead sc me i s) (same_Some h.a a (sym h.pends ∙ e)) (h.had, h.at_time)
 last-ahead sc hands sent p me i s (inr (inr (inr h))) a e = let next = h.ahead a e in (next.had, next.at_time)
 
--- each node of the world
 abbrev pub NodesLast : Scenario → List HandIn → ℕ → (Side → ℕ → ℕ → Bool) → Each Site → Type 0
 NodesLast sc hands p sent sites = SitesLast sc hands sent p sites
 

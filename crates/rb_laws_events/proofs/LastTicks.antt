@@ -33,7 +33,7 @@ below-end sizes plan me i st (suc n) k t e = by (is_busy sizes plan me i st k) (
     by true rest f = let same : k ≡ t = cc in omega (arith, same)
     by false rest f = let lt : t < suc k + n = rest f in omega (arith, lt)
 
--- the node's next tick
+-- `a` is the node's next tick
 pub record PendsNext (sc : Scenario) (me : Side) (i : ℕ) (core : Core) (a : Timed) : Type 0 where
   pub next : next_tick sc.sizes sc.plan me i core ≡ Some a.tick
   pub at_time : a.time ≡ time_of (clock_of sc me i) a.tick

@@ -71,7 +71,7 @@ one-number sc hands p q e f =
 abbrev pub place_at : Sizes → Moment → Place
 place_at sizes m = record { frame = m.frame; slot = slot_numbered sizes m.window; stage = m.window % 3 + 1 }
 
--- the stage of a place
+-- the slot and the stage of a moment fix its window
 pub one-place : (sizes : Sizes) (m x : Moment) → m.window < stages_in sizes → x.window < stages_in sizes
     → slot_numbered sizes m.window ≡ slot_numbered sizes x.window → m.window % 3 + 1 ≡ x.window % 3 + 1 → m.window ≡ x.window
 one-place sizes m x a b e f = omega arith
@@ -249,7 +249,6 @@ stepped-next sc hands m true in_frame e f h going = true-false (sym (ended-end m
 stepped-next sc hands m false true e f h going = window-next sc m _ (slice_get (windows_of_frame sc.sizes sc.plan) m.window) refl e h going
 stepped-next sc hands m false false e f h going = frame-next sc (m.frame + 1) _ m.book going
 
--- of each moment
 pub settles-next : (sc : Scenario) (hands : List HandIn) (p : ℕ) → SettlesNext sc (moment sc hands p)
 unfolding SettlesNext begin_frame step
 settles-next sc hands zero going = frame-next sc 0 _ fresh_book going

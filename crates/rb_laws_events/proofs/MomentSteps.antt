@@ -48,7 +48,7 @@ good-some-before sc hands p (suc n) me i good =
     let e : suc n + p ≡ suc (n + p) = omega arith in
     good-some-before sc hands p n me i (good-before sc hands (n + p) me i (ap (λ k. is_good_at sc (moment sc hands k) me i) (sym e) ∙ good))
 
--- in each earlier one
+-- a node that is good in a moment was good in each earlier one
 pub good-back : (sc : Scenario) (hands : List HandIn) (p q : ℕ) (me : Side) (i : ℕ) → p ≤ q → is_good_at sc (moment sc hands q) me i ≡ true
     → is_good_at sc (moment sc hands p) me i ≡ true
 good-back sc hands p q me i le good =
@@ -74,7 +74,8 @@ next-inner sizes m p h =
 pub next-outer : (sizes : Sizes) (m : Moment) (p : ℕ) → stages_in sizes ≤ m.window + 1 → next_stage sizes m p ≡ p + (windows_in sizes + 1 - m.window)
 next-outer sizes m p h = ap (λ b. p + (if b then 1 else windows_in sizes + 1 - m.window)) (le-ltb (m.window + 1) (stages_in sizes) h)
 
--- it is a stage, and what lies before it is the tail or the end of the frame
+-- the next milestone's moment is a stage, and the moments before it are the tail or the end of the
+-- frame
 pub record NextIsStage (sc : Scenario) (hands : List HandIn) (p : ℕ) : Type 0 where
   pub window : (moment sc hands (next_stage sc.sizes (moment sc hands p) p)).window < stages_in sc.sizes
   pub later : p < next_stage sc.sizes (moment sc hands p) p

@@ -109,7 +109,7 @@ tick-by sizes plan me i c y given below now =
     ap (λ b. elim b as (λ _. Act) [ true ↦ record { core = c; epoch = None; message = None; closed = None } | false ↦ act_at sizes plan me i c given ]) (not-spent c below)
     ∙ ap (λ st. act_on sizes plan me i c st (said_at sizes plan me i st given c.had) (state_kept sizes me i st given (said_at sizes plan me i st given c.had))) now
 
--- an act with its parts
+-- an act that closes no window
 abbrev pub open_act : NodeState → ℕ → Core → Option Epoch → Option Message → Act
 open_act st k c epoch message = record { core = record { state = st; had = k + 1; inbox = c.inbox }; epoch = epoch; message = message; closed = None }
 
@@ -157,7 +157,7 @@ given-is sc ports me i c y below now =
     ap (λ (x : Act). word_wanted sc ports i x.message) (tick-by sc.sizes sc.plan me i c y 0 below now)
     ∙ ap (word_wanted sc ports i) (act-message sc.sizes sc.plan me i c y (said_at sc.sizes sc.plan me i y 0 c.had) (state_kept sc.sizes me i y 0 (said_at sc.sizes sc.plan me i y 0 c.had)))
 
--- when the last tick of the window has come the node has said all that it has to say there
+-- at the last tick of its window a node has said all that it has to say there
 pub all-said : (sizes : Sizes) (plan : Plan) (me : Side) (i : ℕ) (st : NodeState) (n word k : ℕ) → HasRoom plan → KeepsTime sizes plan me st
     → n ≤ stages_in sizes → (window_numbered sizes plan me st n).slot ≤ sync_slot_of sizes → st.epoch + last_of sizes plan me st n ≤ k
     → state_in sizes plan me i st n word (k + 1) ≡ kept_in sizes plan me i st n word
@@ -241,7 +241,7 @@ acts-open sc ports me i st n word c room stands below words before =
     below-differs : (a b : ℕ) → a < b → (a == b) ≡ false
     below-differs a b h = grind (arith, nat_tests)
 
--- the window's last tick
+-- at the window's last tick the node closes the window
 pub acts-close : (sc : Scenario) (ports : List PortState) (me : Side) (i : ℕ) (st : NodeState) (n word : ℕ) (c : Core) → HasRoom sc.plan
     → IsInWindow sc.sizes sc.plan me i st n word c.had c.state → c.had < 2 ^ 31 → HasWord sc ports me i st n word
     → c.had ≡ st.epoch + last_of sc.sizes sc.plan me st n

@@ -140,7 +140,7 @@ pub good-span : (sc : Scenario) (m : Moment) (me side : Side) (j : ℕ) (st : No
 good-span sc m me side j st frame =
     ap (λ f. is_good sc side j f (window_in sc m me st).slot) frame ∙ ap (is_good sc side j m.frame) (slot-is sc.sizes sc.plan me st m.window)
 
--- where all good sources have sent, the node has been sent what it hears in the rounds
+-- if all good sources have sent, the node has been sent what it hears in the rounds
 pub heard-all : (sc : Scenario) (m : Moment) (me : Side) (i j : ℕ) (st : NodeState) (sent : ℕ → Bool) → st.frame ≡ m.frame
     → (is_good_at sc m (other me) j ≡ true → (sent j ≡ true) ⊎ (entry_of sc m me i j ≡ []))
     → heard_so_far sc m me i (span_of st (window_in sc m me st)) sent j ≡ heard_at sc me i st (window_in sc m me st) (sent_in sc m) j
@@ -177,7 +177,7 @@ heard-all sc m me i j st sent frame all = by (is_good_at sc m (other me) j) refl
           | false ↦ said_by sc me i (span_of st (window_in sc m me st)) j
         ]) (good-span sc m me (other me) j st frame ∙ e))
 
--- at the last tick, with all that pends later, all that was sent has come
+-- if all that is pending comes after time `t`, all that was sent has come
 pub all-here : (j t : ℕ) (got coming sent next : List Coming) → Every (λ c. t < c.time) coming → Hears j t got coming sent next → AllOf (coming_from got j) sent
 all-here j t got coming sent next after h = all-came j t got coming sent next (none-now j t coming after) h
 

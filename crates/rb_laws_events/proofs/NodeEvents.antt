@@ -106,7 +106,6 @@ pub epoch-is : (sc : Scenario) (ports : List PortState) (me : Side) (i : ℕ) (e
 epoch-is sc ports me i None s = refl
 epoch-is sc ports me i (Some e) s = refl
 
--- after a tick that closes no window, and after which none begins
 pub after-open : (sc : Scenario) (ports : List PortState) (me : Side) (i k : ℕ) (x : Act) (s : Site) → x.closed ≡ None
     → span_from sc.sizes sc.plan me x.core.state x.core.had ≡ None → next_tick sc.sizes sc.plan me i x.core ≡ Some k
     → after_act sc ports me i x s ≡ record s {

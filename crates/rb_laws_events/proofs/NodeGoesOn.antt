@@ -135,7 +135,7 @@ pub record Enters (sc : Scenario) (hands : List HandIn) (sent : Side → ℕ →
       (heard_so_far sc (moment sc hands q) me i (span_of st (window_in sc (moment sc hands q) me st)) (λ j. sent (other me) j q) j)
       (ahead_so_far sc (moment sc hands (next_stage sc.sizes (moment sc hands q) q)) me i (λ j. sent (other me) j (next_stage sc.sizes (moment sc hands q) q)) j)
 
--- the site then, with its next busy tick
+-- the site of a node that enters window `q`, with its next busy tick
 pub record Entered (sc : Scenario) (hands : List HandIn) (sent : Side → ℕ → ℕ → Bool) (t : ℕ) (me : Side) (i q : ℕ) (st : NodeState) (s : Site) : Type 0 where
   pub a : Timed
   pub site : await sc me i (says_in sc me i (span_of st (window_in sc (moment sc hands q) me st))) s

@@ -131,7 +131,7 @@ pub record Closed (sc : Scenario) (hands : List HandIn) (me : Side) (i p : ℕ) 
   pub frame : st.frame ≡ (moment sc hands p).frame
   pub knows : Knows sc.sizes me (moment sc hands p).window st
   pub some : first_of sc.sizes sc.plan me st (moment sc hands p).window ≤ last_of sc.sizes sc.plan me st (moment sc hands p).window
-  -- where the node is good in the next moment, it keeps time there
+  -- a node that is good in the next moment keeps time there
   pub keeps : (moment sc hands p).window < stages_in sc.sizes → is_good_at sc (moment sc hands (suc p)) me i ≡ true
       → KeepsTime sc.sizes sc.plan me (state_after sc (moment sc hands p) me i st)
 
@@ -157,7 +157,7 @@ first-alike sizes plan me a b n ticks h =
         same_Some (window_numbered sizes plan me b n) (window_numbered sizes plan me a n)
         (sym (get-window sizes plan me b n h) ∙ get-window sizes plan me a n h)
 
--- the next stage of the frame
+-- a node that has closed a stage before the last goes on to the next one
 pub inner : (sc : Scenario) (hands : List HandIn) (me : Side) (i p : ℕ) (st : NodeState) → HasTicks sc.plan → Closed sc hands me i p st
     → (moment sc hands p).window + 1 < stages_in sc.sizes
     → ((is_good_at sc (moment sc hands (suc p)) me i ≡ true) ⊎ ((moment sc hands p).window + 1 ≤ 3 * sync_slot_of sc.sizes))
@@ -217,7 +217,7 @@ turned-place sc hands me i p e k x c ticks over there frame known is place =
       some = subst (λ j. first_of sc.sizes sc.plan me y j ≤ last_of sc.sizes sc.plan me y j) w t.some;
     }
 
--- after the last stage the tail, or if that is empty the next frame
+-- after the last stage a node goes on to the tail, or if that is empty to the next frame
 pub last-stage : (sc : Scenario) (hands : List HandIn) (me : Side) (i p : ℕ) (st : NodeState) → HasTicks sc.plan → Closed sc hands me i p st
     → (moment sc hands p).window + 1 ≡ stages_in sc.sizes → is_good_at sc (moment sc hands (suc p)) me i ≡ true
     → NextPlace sc hands me i p (st.epoch + last_of sc.sizes sc.plan me st (moment sc hands p).window + 1) (state_after sc (moment sc hands p) me i st)
@@ -273,7 +273,7 @@ last-stage sc hands me i p st ticks h at_last good =
           (next-of-outer sc.sizes m p (suc (suc (suc p))) (omega arith) (omega arith))
     ]
 
--- after the tail the next frame
+-- after the tail a node goes on to the next frame
 pub after-tail : (sc : Scenario) (hands : List HandIn) (me : Side) (i p x : ℕ) (st : NodeState) → HasTicks sc.plan → Closed sc hands me i p st
     → (moment sc hands p).window ≡ stages_in sc.sizes → new_epoch_of sc.plan me (state_after sc (moment sc hands p) me i st) ≡ Some x
     → x ≡ st.epoch + last_of sc.sizes sc.plan me st (moment sc hands p).window + 1

@@ -114,7 +114,7 @@ within sizes plan me i st y n had k room le keeps at like next =
       | inr ge ↦ omega arith
     ]
 
--- up to it nothing is said
+-- nothing is said up to the node's next tick
 unchanged : (sizes : Sizes) (plan : Plan) (me : Side) (i : ℕ) (st y : NodeState) (n word had k : ℕ) → HasRoom plan → n ≤ stages_in sizes
     → KeepsTime sizes plan me st → IsTickIn sizes plan me st n had → k ≤ st.epoch + last_of sizes plan me st n → Like sizes plan me i st y
     → IsNext sizes plan me i y had k → (o : Option Sending) → sending_at sizes plan me i st n word ≡ o → gone o had ≡ gone o k

@@ -123,7 +123,7 @@ past-tail sizes plan me st k x ticks low at e =
     let to : k ≤ st.epoch + last_of sizes plan me st (stages_in sizes) = at.to in
     omega arith
 
--- its next epoch comes after each tick of its windows
+-- a node's next epoch comes after each tick of its windows
 pub epoch-later : (sizes : Sizes) (plan : Plan) (me : Side) (st : NodeState) (n k x : ℕ) → HasTicks plan → KeepsTime sizes plan me st
     → n ≤ stages_in sizes → IsTickIn sizes plan me st n k → new_epoch_of plan me st ≡ Some x → k < x
 epoch-later sizes plan me st n k x ticks keeps le at e =

@@ -276,8 +276,7 @@ taken-word sc ports i slot stage m p b e =
     by true = refl
     by false = refl
 
--- at any tick the word that is wanted for what would be said with word 0 comes to the same as the
--- one of the rounds
+-- at any tick the word that is wanted for what would be said with word 0 is that of the rounds
 pub wanted-fits : (sc : Scenario) (ports : List PortState) (me : Side) (i : ℕ) (st : NodeState) (slot stage : ℕ) (b : Bool)
     → WordFits sc.sizes me i st slot stage (word_wanted sc ports i (at_its_tick b (message_said sc.sizes me i st slot stage 0)))
     (word_for sc ports i slot (role_of sc.sizes slot)) b

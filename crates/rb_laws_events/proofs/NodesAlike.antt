@@ -90,7 +90,7 @@ own-is {w} {me} sc frame slot node at =
     ap (λ f. before_stage sc w.hands f (window_of sc node).slot (window_of sc node).stage) at.frame_is
     ∙ ap (λ s. before_stage sc w.hands frame s (window_of sc node).stage) at.slot_is
 
--- the places of a window in its frame
+-- no window is in a slot after the sync slot
 at-most-sync : (sizes : Sizes) (n : ℕ) → slot_numbered sizes n ≤ sync_slot_of sizes
 at-most-sync sizes n = omega arith
 
@@ -105,7 +105,7 @@ inside-of f g w slot stage window sync h e le most =
     let same : f * w ≡ g * w = ap (λ f. f * w) e in
     omega (arith, h, same, le, most)
 
--- where its own moment is of the run
+-- the node's window is in the slot if its own moment is of the run
 is-in : {w : World} {me : Side} (sc : Scenario) → IsLawful sc → (frame slot : ℕ) (node : RunningNode w me) → FollowsTheRounds sc w → StandsInSlot sc frame slot node
     → IsRunning (before_stage sc w.hands frame slot (window_of sc node).stage) → IsIn sc frame slot node
 is-in {w} {me} sc lawful frame slot node follow at running =

@@ -121,7 +121,7 @@ ClosesEarlier sc hands at n me i (Tick k) =
     (st : NodeState) → slice_get (of_kind me (moment sc hands (at me i)).nodes) i ≡ Some st → k ≡ last_tick sc (moment sc hands (at me i)) me st → at me i < n
 ClosesEarlier sc hands at n me i (Arrival place c) = ⊤
 
--- a tick of a node, in the world
+-- a tick that happens leaves the world in the rounds
 tick-happens : (sc : Scenario) (now : ℕ) (at : Side → ℕ → ℕ) (w : World) (n : ℕ) (me : Side) (i k t : ℕ) (s : Site) (a : Timed) → IsLawful sc → HasRoom sc.plan
     → AreInTime sc w.hands at → WorldInRounds sc now at w → MayHappen sc at w n → ClosesEarlier sc w.hands at n me i (Tick k) → slice_get (of_kind me w.sites) i ≡ Some s → s.ahead ≡ Some a → a.tick ≡ k → a.time ≡ t
     → Every (λ c. t < c.time) s.coming → AllPend t w.sites → AfterEvent sc at w n t (with_act sc w me i k (pass_and_tick sc w.ports me i k s.core))
@@ -198,7 +198,7 @@ tick-happens sc now at w n me i k t s a lawful room times h may early there pend
     is-up true e = e
     is-up false e = let down : IsDown sc w.hands me i (at me i) s = h.sites.down me i s there e in absurd (none-some a (sym down.ahead ∙ pend))
 
--- an arrival, in the world
+-- an arrival changes nothing of what the nodes have told
 arrival-told : (sc : Scenario) (hands : List HandIn) (sites : Each Site) (me : Side) (i n : ℕ) (c : Coming) (s : Site) → slice_get (of_kind me sites) i ≡ Some s
     → TellRounds sc hands sites → TellRounds sc hands (at_node me i (after_arrival sc me i n c) sites)
 unfolding after_arrival

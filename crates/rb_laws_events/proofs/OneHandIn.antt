@@ -80,8 +80,8 @@ every-more : {X : Type 0} (P : X → Type 0) (xs : List X) (x : X) → Every P x
 every-more P [] x all one = (one, tt)
 every-more P (y ∷ ys) x all one = (all.0, every-more P ys x all.1 one)
 
--- after a hand-in: the nodes stand where they stood, and a run that gets a state goes on up to a
--- frame's start, which no node has passed
+-- after a hand-in the nodes stand where they stood, and a run that gets a state goes on up to the
+-- start of a frame, which no node has passed
 pub record HandsIn (sc : Scenario) (now : ℕ) (at : Side → ℕ → ℕ) (w y : World) : Type 0 where
   pub stands : WorldInRounds sc now at y
   pub sites : y.sites ≡ w.sites

@@ -150,7 +150,7 @@ pub record StandsUpTo (sc : Scenario) (hands : List HandIn) (n : ℕ) (w : World
   pub hands_are : w.hands ≡ hands
   pub bound : (me : Side) (i : ℕ) (s : Site) → slice_get (of_kind me w.sites) i ≡ Some s → stands.at me i ≤ n
 
--- where the next record needs an event, no event closes the window of the moment at which the book
+-- if the next record needs an event, no event closes the window of the moment at which the book
 -- waits
 pub closes-earlier : (sc : Scenario) (now : ℕ) (at : Side → ℕ → ℕ) (w : World) (n : ℕ) (d : Due) → IsLawful sc → WorldInRounds sc now at w → WaitsAt sc w.hands at w.sites w.book n
     → UpTo sc w.hands n → (due : IsDue w d) → ClosesEarlier sc w.hands at n d.side d.node d.pending

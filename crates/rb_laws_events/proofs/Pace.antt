@@ -173,7 +173,7 @@ begin-waits sc hands at sites frame counts told before m e =
         stage-waits sc hands at sites (record { frame = frame; slot = 0; stage = 1 }) counts told
         (λ me i s there. let le : at me i ≤ frame * (windows_in sc.sizes + 1) = before me i s there in omega arith) h
 
--- the last stage of a frame
+-- `place` is the last stage of a frame
 pub record IsLastStage (sc : Scenario) (place : Place) : Type 0 where
   pub stage : nat_lt place.stage 3 ≡ false
   pub slot : (place.slot == sync_slot_of sc.sizes) ≡ true
@@ -343,7 +343,7 @@ last-given sc place rows b last = by b.ended (verdict_of (judged_of sc place row
     by true v h = refl
     by false v h = verdict v h
 
--- where an event completes nothing more, what the book waits for is not complete
+-- if an event completes nothing more, what the book waits for is not complete
 left-waits : (sc : Scenario) (w : World) (sites : Each Site) → w.sites ≡ sites → IsLeft sc ByAnEvent w → Waits sc sites w.book
 left-waits sc w sites same off going needs = by (needs_no_event sc w.book.upcoming) (is_complete sc sites w.book.upcoming) needs (ap (λ x. not (needs_no_event sc w.book.upcoming) && is_complete sc x w.book.upcoming) (sym same) ∙ off.test)
   where

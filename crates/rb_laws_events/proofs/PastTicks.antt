@@ -30,7 +30,7 @@ pub record IsPast (sizes : Sizes) (plan : Plan) (me : Side) (frame e n : ℕ) (c
   pub from : c.epoch + first_of sizes plan me c n ≤ had
   pub next : (x : ℕ) → new_epoch_of plan me c ≡ Some x → c.epoch + tail_start_of sizes plan ≤ x
 
--- it turns at no tick of the window
+-- a node turns at no tick of its window
 pub turns-later : (sizes : Sizes) (plan : Plan) (me : Side) (c : NodeState) (n k : ℕ) → HasTicks plan → ((x : ℕ) → new_epoch_of plan me c ≡ Some x → c.epoch + tail_start_of sizes plan ≤ x)
     → n ≤ stages_in sizes → IsTickIn sizes plan me c n k → state_at sizes plan me c k ≡ c
 unfolding state_at
@@ -86,7 +86,7 @@ pub record TellsNone (sizes : Sizes) (plan : Plan) (me : Side) (i frame e n : �
   pub like : Like sizes plan me i was x.core.state
   pub past : IsPast sizes plan me frame e n x.core.state x.core.had
 
--- at a tick of the window before its last a node that stands in it closes no window
+-- a tick of a window before its last closes no window
 pub past-tick : (sizes : Sizes) (plan : Plan) (me : Side) (i frame e n : ℕ) (c : Core) (word : ℕ) → HasTicks plan → n ≤ stages_in sizes → IsPast sizes plan me frame e n c.state c.had
     → c.had < c.state.epoch + last_of sizes plan me c.state n → TellsNone sizes plan me i frame e n c.state (tick sizes plan me i c word)
 unfolding tick act_at act_on

@@ -20,8 +20,8 @@ is_now j t c = (c.from == j) && nat_le c.time t
 abbrev pub is_later : ℕ → ℕ → Coming → Bool
 is_later j t c = (c.from == j) && nat_lt t c.time
 
--- of source j: what came and what is still pending by time t are together what was sent for the
--- open window so far, and what pends for later is what was sent for the next one
+-- what came from source `j` and what is still pending by time `t` are together what it sent for the
+-- open window so far, and what pends for later is what it sent for the next window
 pub record Hears (j t : ℕ) (got coming sent next : List Coming) : Type 0 where
   pub came : Every (λ c. IsOneOf c sent) (coming_from got j)
   pub pends : Every (λ c. IsOneOf c sent) (filter (is_now j t) coming)
@@ -124,14 +124,14 @@ arrival-keeps j t n c got coming sent next at le h =
     ] in
     go (c.from == j) refl
 
--- where nothing is pending for the window, all that was sent has come
+-- if nothing is pending for the window, all that was sent has come
 pub all-came : (j t : ℕ) (got coming sent next : List Coming) → filter (is_now j t) coming ≡ [] → Hears j t got coming sent next → AllOf (coming_from got j) sent
 all-came j t got coming sent next none h =
     let as_many : length (coming_from got j) + length (filter (is_now j t) coming) ≡ length sent = h.as_many in
     let zero_now : length (filter (is_now j t) coming) ≡ 0 = ap length none in
     record { as_many = omega arith; entries = h.came }
 
--- nothing is pending for the window where all that is pending comes after its last tick
+-- if all that is pending comes after time `t`, nothing is pending for the window
 pub none-now : (j t : ℕ) (coming : List Coming) → Every (λ c. t < c.time) coming → filter (is_now j t) coming ≡ []
 none-now j t [] e = refl
 none-now j t (c ∷ cs) e =

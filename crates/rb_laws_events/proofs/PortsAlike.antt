@@ -72,7 +72,6 @@ is-after {w} sc lawful frame slot node h in_rounds at = by at.place
           ];
         }
 
--- before the break or not
 after-slot : (sc : Scenario) → IsLawful sc → (choices : List Choice) (frame slot : ℕ) (node : RunningNode (world_after sc choices) Biu) → StandsAfterSlot sc frame slot node
     → IsAfter sc frame slot node
 after-slot sc lawful choices frame slot node at = by at.goes_on

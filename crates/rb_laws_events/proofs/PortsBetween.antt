@@ -76,7 +76,7 @@ still sc hands p i ticks counted inside other =
 third-number : (a slot : ℕ) → suc (a + 3 * slot + 3 - 1) ≡ a + 3 * slot + 4 - 1
 third-number a slot = omega arith
 
--- before its third stage the port is that after the slot
+-- before the third stage of a slot a port is as after the slot
 pub before-third : (sc : Scenario) (hands : List HandIn) → IsLawful sc → (frame slot i : ℕ) → slot ≤ sync_slot_of sc.sizes → IsComplete sc hands frame slot → i < sc.sizes.bius
     → port_at sc (before_stage sc hands frame slot 3).ports i ≡ port_at sc (after_slot sc hands frame slot).ports i
 before-third sc hands lawful frame slot i le complete counted =
@@ -109,7 +109,7 @@ then-second sc hands lawful frame slot i le complete counted =
 begin-second : (a : ℕ) → a + 3 * 0 + 2 - 1 ≡ suc (a + 3 * 0 + 1 - 1)
 begin-second a = omega arith
 
--- before the second stage of a frame it is that before the first
+-- before stage 2 of a frame's first slot a port is as before stage 1
 pub begin-stays : (sc : Scenario) (hands : List HandIn) → IsLawful sc → (frame i : ℕ) → IsRunning (before_stage sc hands frame 0 1) → i < sc.sizes.bius
     → port_at sc (before_stage sc hands frame 0 2).ports i ≡ port_at sc (before_stage sc hands frame 0 1).ports i
 begin-stays sc hands lawful frame i running counted =

@@ -132,7 +132,7 @@ ports-turned sc hands p over =
 
 -- The place where a node stands after a close.
 
--- from the moment after a window to that where the node stands nothing changes at the port, unless
+-- from the moment after a window to the node's own moment nothing changes at the port, unless
 -- something has been handed in
 pub port-there : (sc : Scenario) (hands : List HandIn) (p q i : ℕ) → HasTicks sc.plan → i < sc.sizes.bius → (moment sc hands p).window ≤ stages_in sc.sizes
     → (q ≡ next_stage sc.sizes (moment sc hands p) p) ⊎ ((q ≡ suc p) × ((moment sc hands q).window ≡ stages_in sc.sizes))
@@ -188,7 +188,7 @@ port-then sc hands ports p q i st x heard closed c ticks counted many within pla
     ∙ sym (port-after-window sc hands p i st (omega arith) counted there)
     ∙ sym (port-there sc hands p q i ticks counted within place none)
 
--- in the sync slot the port plays no part in what a node says
+-- in the sync slot what a node says does not depend on its port
 pub sync-word : (sc : Scenario) (ports : List PortState) (m : Moment) (me : Side) (i : ℕ) (st : NodeState) (q : ℕ) → q < 3 → m.window ≡ 3 * sync_slot_of sc.sizes + q
     → HasWord sc ports me i st m.window (word_at sc m me i st)
 sync-word sc ports m me i st q small at =

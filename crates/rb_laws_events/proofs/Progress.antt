@@ -11,7 +11,7 @@ use Rattle.rb_laws_events.proofs.DueEvents.{every-at, every-back, every-front, e
 use Rattle.rb_laws_events.proofs.SameHeard.{Every}
 use Rattle.rb_laws_events.proofs.WorldNodes.{worlds-known}
 
--- a node with a pending tick
+-- some node has a pending tick
 pub record SomePends (w : World) : Type 0 where
   pub me : Side
   pub i : ℕ
@@ -20,7 +20,7 @@ pub record SomePends (w : World) : Type 0 where
   pub there : slice_get (of_kind me w.sites) i ≡ Some s
   pub pends : s.ahead ≡ Some a
 
--- its next tick is among all that pends
+-- if a tick is pending, what is pending has a least time
 pub some-time : (w : World) (me : Side) (i : ℕ) (s : Site) (a : Timed) → slice_get (of_kind me w.sites) i ≡ Some s → s.ahead ≡ Some a
     → (t : ℕ) × (least (flat_map times_of (in_order w.sites)) ≡ Some t)
 some-time w me i s a there pend = by (least (flat_map times_of (in_order w.sites))) refl
@@ -38,7 +38,7 @@ some-time w me i s a there pend = by (least (flat_map times_of (in_order w.sites
         let none : Every (λ u. ⊥) (flat_map times_of (in_order w.sites)) = least-none (λ u. ⊥) (flat_map times_of (in_order w.sites)) e in
         absurd (own (at me there (every-unflat (λ u. ⊥) times_of (in_order w.sites) none)))
 
--- where a tick is pending, some event is due
+-- if a tick is pending, some event is due
 due-where-pends : (sc : Scenario) (choices : List Choice) → SomePends (world_after sc choices)
     → (world_after sc choices).book.ended ≡ false → needs_no_event sc (world_after sc choices).book.upcoming ≡ false → 1 ≤ length (due_of sc (world_after sc choices))
 due-where-pends sc choices node going needs =

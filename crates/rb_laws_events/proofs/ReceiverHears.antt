@@ -75,7 +75,7 @@ comes-after sc lawful me i j frame x =
 
 -- What is known of who has sent what.
 
--- where it stays the same for all sources, the node stands as before
+-- if what was sent stays the same for all sources, the node stands as before
 pub stands-same : (sc : Scenario) (hands : List HandIn) (sent sent2 : Side → ℕ → ℕ → Bool) (now : ℕ) (me : Side) (i p : ℕ) (s : Site) (st : NodeState) (a : Timed)
     → ((j p : ℕ) → sent2 (other me) j p ≡ sent (other me) j p) → NodeStands sc hands sent now me i p s st a → NodeStands sc hands sent2 now me i p s st a
 stands-same sc hands sent sent2 now me i p s st a same h =
@@ -128,7 +128,7 @@ ahead-same : (sc : Scenario) (m : Moment) (me : Side) (i j : ℕ) (sent sent2 : 
 ahead-same sc m me i j sent sent2 e =
     ap (λ (c : Bool). elim (is_good_at sc m (other me) j) as (λ _. List Coming) [ true ↦ elim c as (λ _. List Coming) [ true ↦ entry_of sc m me i j | false ↦ [] ] | false ↦ [] ]) e
 
--- where it lands: in the receiver's window, or it is for its next stage
+-- the message lands in the receiver's window, or it is for its next stage
 abbrev pub Lands : Scenario → List HandIn → Side → ℕ → ℕ → ℕ → NodeState → Coming → Type 0
 Lands sc hands me i p q st e =
     ((q ≡ p) × (e.time ≤ time_of (clock_of sc me i) (last_tick sc (moment sc hands p) me st)))

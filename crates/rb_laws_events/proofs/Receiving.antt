@@ -71,7 +71,7 @@ stamp-between clock moves had tick t reached behind =
       | inr ge ↦ ge
     ]
 
--- one arrival
+-- an arrival keeps `Receives`
 pub arrival-received : (sc : Scenario) (me : Side) (i last : ℕ) (sent next : ℕ → List Coming) (now n : ℕ) (c : Coming) (s : Site) (a : Timed)
     → Moves (clock_of sc me i) → ArrivesNow n c s a → Receives sc me i last sent next now s a
     → Receives sc me i last sent next c.time (after_arrival sc me i n c s) a

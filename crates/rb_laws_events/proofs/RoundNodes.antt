@@ -160,7 +160,7 @@ frame-stand sc hands m over h =
           turned-stand sc hands m me i old.0 st full old.1 there (h.stands me i old.0 old.1 before);
     }
 
--- the book plays no part in it
+-- with another book all nodes stand as before
 other-book : (sc : Scenario) (m : Moment) (b : Book) → AllStand sc m → AllStand sc (record m { book = b })
 other-book sc m b h = record {
   window = h.window;

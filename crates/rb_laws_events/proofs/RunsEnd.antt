@@ -32,7 +32,7 @@ pub record HasTicksLeft (sc : Scenario) (w : World) : Type 0 where
   pub counts : (me : Side) → length (of_kind me w.sites) ≡ count_of me sc.sizes
   pub left : (me : Side) (i : ℕ) (s : Site) (a : Timed) → slice_get (of_kind me w.sites) i ≡ Some s → s.ahead ≡ Some a → AllPend a.time w.sites → (s.core.had ≤ a.tick) × (a.tick < 2 ^ 31)
 
--- as each world that stands in the rounds is
+-- each world in the rounds has ticks left
 pub in-rounds-left : (sc : Scenario) (w : World) → StandsInRounds sc w → HasTicksLeft sc w
 in-rounds-left sc w h = record {
   counts = h.stands.sites.counts;

@@ -31,7 +31,7 @@ abbrev pub Every : {X : Type 0} → (X → Type 0) → List X → Type 0
 Every P [] = Unit {0}
 Every P (x ∷ xs) = P x × Every P xs
 
--- as many entries, all of them entries of the other list
+-- `xs` has as many entries as `ys`, and all of them are entries of `ys`
 pub record AllOf (xs ys : List Coming) : Type 0 where
   pub as_many : length xs ≡ length ys
   pub entries : Every (λ x. IsOneOf x ys) xs
@@ -56,7 +56,7 @@ same-time (x ∷ []) (y ∷ (z ∷ ys)) a = absurd (omega (arith, a.as_many))
 same-time (x ∷ (z ∷ xs)) (y ∷ []) a = absurd (omega (arith, a.as_many))
 same-time (x ∷ (z ∷ xs)) (y ∷ (v ∷ ys)) a = refl
 
--- as the core keeps what came
+-- an arrival as the core keeps it
 abbrev pub kept_as : Timeline → Coming → ℕ × Arrival
 kept_as clock c = (c.from, arrival_of clock c)
 

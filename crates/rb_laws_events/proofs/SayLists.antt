@@ -67,7 +67,7 @@ said-in-window sc lawful me i j span lengths = said-all sc me i j span lengths s
 
 -- Sources.
 
--- only nodes of the bus say anything
+-- a number that names a node of the bus is below the count of its kind
 same-index : (sizes : Sizes) (side : Side) (from : NodeName) (j : ℕ) → IsNodeOf sizes from → same_node from (name_of side j) ≡ true → j < count_of side sizes
 same-index sizes Biu (node.Biu i) j h e = let same : i ≡ j = grind (arith, nat_tests) in omega arith
 same-index sizes Biu (node.Rmu i) j h e = cc
@@ -125,7 +125,7 @@ not-same : (a j k : ℕ) → a ≡ k → (k < j) ⊎ (j < k) → (a == j) ≡ fa
 not-same a j k e (inl lt) = grind (arith, nat_tests)
 not-same a j k e (inr gt) = grind (arith, nat_tests)
 
--- of another source nothing passes
+-- entries of source `k` do not pass for another source `j`
 others-now : (j k u : ℕ) (xs : List Coming) → (k < j) ⊎ (j < k) → Every (λ c. c.from ≡ k) xs → filter (is_now j u) xs ≡ []
 others-now j k u xs h e =
     filter-no (is_now j u) xs (every-to (λ c. c.from ≡ k) (λ c. is_now j u c ≡ false) (λ c f. ap (λ b. b && nat_le c.time u) (not-same c.from j k f h)) xs e)
@@ -227,7 +227,7 @@ pub each-itself : (xs ys : List Coming) → ((x : Coming) → IsOneOf x xs → I
 each-itself [] ys f = tt
 each-itself (x ∷ xs) ys f = (f x (inl refl), each-itself xs ys (λ z h. f z (inr h)))
 
--- with what is said in the window the lists go together
+-- entries that are said in the window are added to what is pending and to what was sent
 pub say-more : (j u : ℕ) (coming says said sent next : List Coming) → filter (is_now j u) says ≡ said → Every (λ c. c.time ≤ u) says
     → (said ≡ []) ⊎ (sent ≡ []) → Hears j u [] coming sent next → Hears j u [] (coming ++ says) (sent ++ said) next
 say-more j u coming says said sent next now times (inl none) h =

@@ -47,7 +47,7 @@ say-next j t got coming sent e its lt h =
       later = filter-last (is_later j t) coming e ∙ ap (λ b. filter (is_later j t) coming ++ cond b (e ∷ []) []) later ∙ ap (λ l. l ++ e ∷ []) h.later;
     }
 
--- another source sends
+-- a message from another source changes nothing for source `j`
 pub say-other : (j t : ℕ) (got coming sent next : List Coming) (e : Coming) → (e.from == j) ≡ false → Hears j t got coming sent next → Hears j t got (coming ++ e ∷ []) sent next
 say-other j t got coming sent next e its h =
     let now : is_now j t e ≡ false = rw its refl in

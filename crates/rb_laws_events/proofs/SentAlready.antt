@@ -44,8 +44,7 @@ said-nothing sizes plan me i st y n word k room le stands z like gone =
     by true e = none-message sizes me i z slot stage word 0 e
     by false e = refl
 
--- if it is busy at a later tick of the window, after the start of its frame, this is the window's
--- last tick
+-- a busy tick after the start of the frame and after the node's message is the window's last tick
 pub waits-for-last : (sizes : Sizes) (plan : Plan) (me : Side) (i : ℕ) (st c : NodeState) (n word k : ℕ) → HasRoom plan → IsInWindow sizes plan me i st n word k c
     → is_busy sizes plan me i c k ≡ true → st.epoch < k → ((s : Sending) → sending_at sizes plan me i st n word ≡ Some s → s.tick < k)
     → k ≡ st.epoch + last_of sizes plan me st n

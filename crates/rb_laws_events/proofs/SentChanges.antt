@@ -76,7 +76,7 @@ pub record Steps (so : ℕ → Option Sending) (q k r : ℕ) (b : Option Timed) 
   pub between : (p : ℕ) → q < p → p < r → so p ≡ None
   pub all : q < r → (s : Sending) → so q ≡ Some s → s.tick ≤ k
 
--- it said nothing, and what it has sent is the same
+-- the node says nothing at tick `k`, and what it has sent is the same
 pub record SaysNothing (so : ℕ → Option Sending) (q k r : ℕ) (a : Timed) (b : Option Timed) : Type 0 where
   pub silent : if_at k (so q) ≡ None
   pub same : (p : ℕ) → has_sent (so p) r b p ≡ has_sent (so p) q (Some a) p
@@ -149,7 +149,7 @@ lt-same s k e = elim (other-than s.tick k e) [
   | inr gt ↦ le-ltb s.tick (k + 1) (omega arith) ∙ sym (le-ltb s.tick k (omega arith))
 ]
 
--- in its own moment
+-- at a tick a node says nothing, or what it says in its own moment
 sent-own : (so : ℕ → Option Sending) (q k r : ℕ) (a : Timed) (b : Option Timed) → a.tick ≡ k → Steps so q k r b → (o : Option Sending) → so q ≡ o
     → (SaysNothing so q k r a b) ⊎ (SaysNow so q k r a b)
 sent-own so q k r a b at steps None e =

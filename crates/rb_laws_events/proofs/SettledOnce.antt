@@ -139,7 +139,7 @@ frame-record frame its (b ∷ bs) xs e = one (sym (ap frame_in (last-one xs (xs 
     one : Some frame ≡ Some its → its ≡ frame
     one e = cc
 
--- after it all that is known while it is the turn
+-- while the record of a frame is the turn, `AfterRecord` holds for that frame
 pub after-frame : (sc : Scenario) (hands : List HandIn) (at : Side → ℕ → ℕ) (w : World) (frame its : ℕ) (begun : List Begun) (b : Book) → b.ended ≡ false → w.book ≡ with_frame sc frame begun b
     → is_complete sc w.sites (Begin frame) ≡ true
     → ((me : Side) (i : ℕ) (s : Site) → slice_get (of_kind me w.sites) i ≡ Some s → at me i ≤ frame * (windows_in sc.sizes + 1) + 1)

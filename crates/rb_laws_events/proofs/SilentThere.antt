@@ -43,7 +43,7 @@ deaf-keeps sizes plan me st stage first sense deaf keeps =
       next = λ x e. h.next x e;
     }
 
--- where the other kind does not listen a node says nothing
+-- a node says nothing in a stage in which the other kind does not listen
 none-called : (sizes : Sizes) (plan : Plan) (me : Side) (i : ℕ) (c : NodeState) (stage word : ℕ) → listens (other me) Sync stage ≡ false
     → sending sizes plan me i c (sync_slot_of sizes) stage word ≡ None
 none-called sizes plan me i c stage word unheard = by (sending sizes plan me i c (sync_slot_of sizes) stage word) refl

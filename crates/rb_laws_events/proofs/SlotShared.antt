@@ -34,7 +34,7 @@ of-three sc hands frame slot s a b c (suc (suc zero)) some most = b
 of-three sc hands frame slot s a b c (suc (suc (suc zero))) some most = c
 of-three sc hands frame slot s a b c (suc (suc (suc (suc n)))) some most = absurd (omega (arith, most))
 
--- of a slot below the sync slot
+-- `SharedIn` holds for a complete slot below the sync slot
 below-sync : (sc : Scenario) (hands : List HandIn) → IsLawful sc → (frame slot : ℕ) → slot < sync_slot_of sc.sizes → IsComplete sc hands frame slot → SharedIn sc hands frame slot
 below-sync sc hands lawful frame slot below complete =
     let r : IsSlot sc hands frame slot = slot_runs sc hands lawful frame slot below complete in
@@ -83,7 +83,7 @@ in-sync sc hands lawful frame complete =
     let c : SharedAt sc hands frame slot p.shared 3 = sync-on sc hands lawful frame 1 p.shared (omega arith) complete b in
     record { shared = p.shared; at = of-three sc hands frame slot p.shared a b c; tail = λ same. sync-on sc hands lawful frame 2 p.shared (omega arith) complete c }
 
--- in each slot that is complete
+-- `SharedIn` holds for each complete slot
 pub shared-in : (sc : Scenario) (hands : List HandIn) → IsLawful sc → (frame slot : ℕ) → slot ≤ sync_slot_of sc.sizes → IsComplete sc hands frame slot → SharedIn sc hands frame slot
 shared-in sc hands lawful frame slot le complete =
     elim (cases_lt slot (sync_slot_of sc.sizes)) [

@@ -6,7 +6,7 @@ use Rattle.rb_rules.specs.Hearing.{Coming}
 use Rattle.rb_laws_events.proofs.PendingLists.{is_later, is_now}
 use Rattle.rb_laws_events.proofs.SameHeard.{Every}
 
--- the sum over all sources below n
+-- the sum of `f` over the numbers below `n`
 abbrev pub sum_to : (ℕ → ℕ) → ℕ → ℕ
 sum_to f zero = 0
 sum_to f (suc n) = sum_to f n + f n
@@ -15,7 +15,7 @@ pub sum-le : (f g : ℕ → ℕ) (n : ℕ) → ((j : ℕ) → f j ≤ g j) → s
 sum-le f g zero le = omega arith
 sum-le f g (suc n) le = let rest = sum-le f g n le in let here : f n ≤ g n = le n in omega (arith, rest, here)
 
--- one of the numbers is larger by d
+-- if `g` is larger than `f` by `d` at one number and nowhere smaller, its sum is larger by `d`
 pub sum-larger : (f g : ℕ → ℕ) (a d n : ℕ) → a < n → ((j : ℕ) → f j ≤ g j) → f a + d ≤ g a → sum_to f n + d ≤ sum_to g n
 sum-larger f g a d zero below le more = absurd (omega (arith, below))
 sum-larger f g a d (suc n) below le more = elim (cases_lt a n) [
@@ -42,7 +42,7 @@ sum-none p (suc n) fails =
     let here : ◌≡◌ {A = ℕ} (cond (p n) 1 0) 0 = ap (λ b. cond b 1 0) (fails n (omega arith)) in
     omega (arith, rest, here)
 
--- at most one passes the test
+-- if at most one number passes, at most 1 is counted
 sum-once : (p : ℕ → Bool) (n : ℕ) → ((a b : ℕ) → p a ≡ true → p b ≡ true → a ≡ b) → sum_to (λ j. cond (p j) 1 0) n ≤ 1
 sum-once p zero once = omega arith
 sum-once p (suc n) once = by (sum-once p n once) (p n) refl
@@ -60,7 +60,8 @@ sum-once p (suc n) once = by (sum-once p n once) (p n) refl
         let here : ◌≡◌ {A = ℕ} (cond (p n) 1 0) 0 = ap (λ b. cond b 1 0) e in
         omega (arith, rest, here)
 
--- where each item is of at most one source, the items of all sources are no more than there are
+-- if each item is of at most one source, all sources together have at most as many items as there
+-- are
 pub items-once : {X : Type 0} (q : ℕ → X → Bool) (n : ℕ) → ((x : X) (a b : ℕ) → q a x ≡ true → q b x ≡ true → a ≡ b) → (xs : List X)
     → sum_to (λ j. length (filter (q j) xs)) n ≤ length xs
 items-once q n once [] = let none = sum-none (λ _. false) n (λ _ _. refl) in omega (arith, none)

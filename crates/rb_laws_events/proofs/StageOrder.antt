@@ -96,8 +96,8 @@ apart-third sizes plan me you mine yours fit some u =
     let fits_z : skew_of sizes plan + drift_in plan (plan.l + plan.v) + shortest_of plan + plan.h * shortest_of plan ≤ plan.z * shortest_of plan = fit.in_z in
     record { ticks = plan.z; enough = omega (arith, up, sum, fits_z, u); later = omega (arith, o, m, some) }
 
--- from the last stage of a frame to the first of the next, which begins no earlier than the windows
--- of this one end
+-- a frame's last stage is apart from the first one of the next frame, which begins no earlier than
+-- the windows of this frame end
 pub apart-turn : (sizes : Sizes) (plan : Plan) (me you : Side) (mine yours : NodeState) → Fits sizes plan → 1 ≤ plan.l → 1 ≤ shortest_of plan
     → Apart plan (last_of sizes plan me mine (3 * sync_slot_of sizes + 2)) (tail_start_of sizes plan + last_of sizes plan you yours 0)
 apart-turn sizes plan me you mine yours fit some u =

@@ -33,7 +33,7 @@ use Rattle.rb_laws_events.proofs.TickWindows.{first_of}
 
 -- Calls and epochs.
 
--- up to stage 1 of the sync slot a node knows no middles
+-- a node keeps time up to stage 1 of the sync slot, where it knows no middles
 pub keeps-exact : (sizes : Sizes) (plan : Plan) (me : Side) (st : NodeState) (n : ℕ) → n ≤ 3 * sync_slot_of sizes → Knows sizes me n st → KeepsTime sizes plan me st
 keeps-exact sizes plan me st n early known = record {
   second = λ x is. none_and_known st.k1 x (known.k1 ∙ not-yet sizes me 1 n (omega arith)) is;
@@ -45,7 +45,7 @@ keeps-exact sizes plan me st n early known = record {
     no-next Biu known x is = let k = option_map-back (λ k2. k2 + plan.v + plan.z + plan.c) st.k2 x is in none_and_known st.k2 k.0 (known.k2 ∙ not-yet sizes Biu 2 n (omega arith)) k.1.0
     no-next Rmu known x is = let k = option_map-back (λ k3. k3 + plan.z) st.k3 x is in none_and_known st.k3 k.0 (known.k3 ∙ not-yet sizes Rmu 3 n (omega arith)) k.1.0
 
--- in every window of a run that has not ended
+-- good nodes keep time in every window of a run that has not ended
 pub keeps-running : (sc : Scenario) (hands : List HandIn) → IsLawful sc → (p : ℕ) → IsRunning (moment sc hands p) → (me : Side) (i : ℕ) (st : NodeState)
     → slice_get (of_kind me (moment sc hands p).nodes) i ≡ Some st → is_good_at sc (moment sc hands p) me i ≡ true → KeepsTime sc.sizes sc.plan me st
 keeps-running sc hands lawful p running me i st there good =

@@ -116,7 +116,7 @@ closed-same sizes plan me i st w arrivals slot deaf =
 
 -- The node after the last stage of its frame.
 
--- in the tail of a frame that began at tick e, and so up to tick x, with which the next one begins.
+-- the core is in the tail of a frame that began at tick `e`, and the next frame begins at tick `x`.
 -- A BIU's calls went out before
 pub record IsInTail (sizes : Sizes) (plan : Plan) (me : Side) (frame e x : ℕ) (c : NodeState) (had : ℕ) : Type 0 where
   pub in_frame : c.frame ≡ frame
@@ -125,7 +125,7 @@ pub record IsInTail (sizes : Sizes) (plan : Plan) (me : Side) (frame e x : ℕ) 
   pub from : e + tail_start_of sizes plan ≤ had
   pub keeps : listens me Sync 3 ≡ false → KeepsTime sizes plan me c
 
--- after that tick
+-- the core has turned to the next frame, which began at tick `x`
 pub record HasTurned (frame x : ℕ) (c : NodeState) (had : ℕ) : Type 0 where
   pub in_frame : c.frame ≡ frame + 1
   pub epoch : c.epoch ≡ x
@@ -134,7 +134,7 @@ pub record HasTurned (frame x : ℕ) (c : NodeState) (had : ℕ) : Type 0 where
   pub k3 : c.k3 ≡ None
   pub begun : x < had
 
--- at tick k, up to which it has nothing to do
+-- the core is in the tail, and `k` is at most the start of the next frame, or the core has turned
 abbrev pub IsAfter : Sizes → Plan → Side → ℕ → ℕ → ℕ → NodeState → ℕ → ℕ → Type 0
 IsAfter sizes plan me frame e x c had k = (IsInTail sizes plan me frame e x c had × (k ≤ x)) ⊎ HasTurned frame x c had
 

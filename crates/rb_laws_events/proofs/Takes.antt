@@ -53,7 +53,7 @@ sum-past most change k j (x ∷ xs) h =
     differs : (a b : ℕ) → b < a → (a == b) ≡ false
     differs a b h = grind (arith, nat_tests)
 
--- one node changes
+-- if a change leaves one node `d` fewer, all nodes together have `d` fewer left
 sum-one : (most : ℕ) (change : Site → Site) (k i j d : ℕ) (xs : List Site) (s : Site) → j ≡ k + i → slice_get xs i ≡ Some s → left_of most (change s) + d ≤ left_of most s
     → sum_left most (map_from k (λ n s. elim (n == j) as (λ _. Site) [ true ↦ change s | false ↦ s ]) xs) + d ≤ sum_left most xs
 sum-one most change k i j d [] s is e h = cc

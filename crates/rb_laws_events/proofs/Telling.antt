@@ -195,7 +195,7 @@ reached-tells sc me i frame k (Some m) side j s = by (same_side side (other me) 
     by true = (refl, refl)
     by false = (refl, refl)
 
--- where the node of an event tells what it tells in the rounds, all do
+-- if the node of an event tells what it tells in the rounds, all nodes do
 pub still-tell : (sc : Scenario) (hands : List HandIn) (sites : Each Site) (me : Side) (i frame k : ℕ) (m : Option Message) (change : Site → Site) (s : Site)
     → slice_get (of_kind me sites) i ≡ Some s → ((row : Row) → (change s).row ≡ Some row → RowOfRounds sc hands me i row)
     → ((b : Begun) → (change s).begun ≡ Some b → BegunInRounds sc hands me i b) → TellRounds sc hands sites

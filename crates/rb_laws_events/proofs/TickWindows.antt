@@ -49,7 +49,7 @@ tiles-same sizes plan me st n ticks h =
     let some : 1 ≤ plan.l = ticks.l in
     record { some = omega (arith, a, b, some); next = omega (arith, b, c, e, some) }
 
--- the windows of the sync slot by their place in it
+-- `Tiles` holds for each window of the sync slot
 tiles-sync : (sizes : Sizes) (plan : Plan) (me : Side) (st : NodeState) (r : ℕ) → HasTicks plan → r < 3 → Tiles sizes plan me st (3 * sync_slot_of sizes + r)
 tiles-sync sizes plan me st zero ticks h =
     let s : ℕ = 3 * sync_slot_of sizes in
@@ -181,7 +181,7 @@ tail-here sizes plan me st k ticks from =
     none-before sizes plan me st (stages_in sizes) (k - st.epoch) ticks (omega arith) (omega arith) m y (omega arith) there))
     ∙ sym (sync-numbered sizes plan me st 3)
 
--- the window of a tick
+-- the window at a tick of window `n` is window `n`
 pub here-is : (sizes : Sizes) (plan : Plan) (me : Side) (st : NodeState) (n k : ℕ) → HasTicks plan → n ≤ stages_in sizes → IsTickIn sizes plan me st n k
     → window_here sizes plan me st k ≡ window_numbered sizes plan me st n
 here-is sizes plan me st n k ticks h in_it =

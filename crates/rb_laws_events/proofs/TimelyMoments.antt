@@ -76,7 +76,7 @@ pub order-from : (sc : Scenario) (m next : Moment) → CloseInOrder sc m next �
 order-from sc m next order me you i j mine yours there good other_there other_good =
     order me you i j mine yours (good-in sc m me i mine there good) (good-in sc next you j yours other_there other_good)
 
--- in a frame
+-- a good node's window in a frame ends before the next window of any good node does
 pub order-inner : (sc : Scenario) (hands : List HandIn) → IsLawful sc → (p : ℕ) → HaveBegunTogether sc (moment sc hands p)
     → (moment sc hands p).window + 1 < stages_in sc.sizes → (me you : Side) (i j : ℕ) (mine yours : NodeState)
     → slice_get (of_kind me (moment sc hands p).nodes) i ≡ Some mine → is_good_at sc (moment sc hands p) me i ≡ true

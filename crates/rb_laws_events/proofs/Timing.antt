@@ -231,7 +231,7 @@ node-of sc hands now at sites h me i z there = by z.runs refl
     by true e = inl (e, h.up me i z there e)
     by false e = inr (e, h.down me i z there e)
 
--- when a node closes its window the others keep up; t is the time of its last tick
+-- when a node closes its window at time `t`, the other nodes keep up
 pub keep-up : (sc : Scenario) (hands : List HandIn) (t : ℕ) (at : Side → ℕ → ℕ) (sites : Each Site) (me : Side) (i : ℕ) (st : NodeState)
     → IsLawful sc → HasTicks sc.plan → slice_get (of_kind me (moment sc hands (at me i)).nodes) i ≡ Some st → is_good_at sc (moment sc hands (at me i)) me i ≡ true
     → t ≡ time_of (clock_of sc me i) (last_tick sc (moment sc hands (at me i)) me st) → (moment sc hands (at me i)).window ≤ stages_in sc.sizes

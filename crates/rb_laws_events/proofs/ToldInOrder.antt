@@ -103,7 +103,7 @@ good-late sc hands p me i late inside good =
     ∙ ap (λ w. is_good sc me i m.frame (slot_numbered sc.sizes w)) next.window
     ∙ ap (is_good sc me i m.frame) slot ∙ good
 
--- in all moments between a window and the place of the node after it
+-- a node is good in all moments between a window and its own moment after it
 good-between : (sc : Scenario) (hands : List HandIn) (p r : ℕ) (me : Side) (i : ℕ) → (moment sc hands p).window ≤ stages_in sc.sizes
     → (r ≡ next_stage sc.sizes (moment sc hands p) p) ⊎ ((r ≡ suc p) × ((moment sc hands r).window ≡ stages_in sc.sizes))
     → is_good_at sc (moment sc hands p) me i ≡ true → (q : ℕ) → p < q → q < r → is_good_at sc (moment sc hands q) me i ≡ true

@@ -83,7 +83,7 @@ next-tick sizes plan me i frame e x c word room low h before = by (is_spent c)
     by true = still h
     by false = now h
 
--- as ticks pass in which there is nothing to do
+-- ticks in which there is nothing to do keep `IsAfter`
 pub after-later : (sizes : Sizes) (plan : Plan) (me : Side) (frame e x : ℕ) (c : NodeState) (had more k : ℕ) → had ≤ more → IsAfter sizes plan me frame e x c had k → IsAfter sizes plan me frame e x c more k
 after-later sizes plan me frame e x c had more k le (inl t) =
     let from = t.0.from in
@@ -94,7 +94,7 @@ after-later sizes plan me frame e x c had more k le (inr t) =
 
 -- The next tick at which there is something to do.
 
--- it is no later than one that is busy
+-- the first busy tick is at most each tick that is busy
 first-busy : (sizes : Sizes) (plan : Plan) (me : Side) (i : ℕ) (st : NodeState) (n k t x : ℕ) → k ≤ x → is_busy sizes plan me i st x ≡ true → busy_among sizes plan me i st n k ≡ Some t → t ≤ x
 first-busy sizes plan me i st zero k t x le busy e = cc
 first-busy sizes plan me i st (suc n) k t x le busy e = by (is_busy sizes plan me i st k) refl (λ less f. first-busy sizes plan me i st n (suc k) t x less busy f) e
@@ -123,7 +123,7 @@ begin-busy sizes plan me i st x known =
     ∙ ap (λ n. (n == x) || is_last sizes plan me y x || is_some (said_at sizes plan me i y 0 x)) epoch
     ∙ ap (λ b. b || is_last sizes plan me y x || is_some (said_at sizes plan me i y 0 x)) (eq_self x)
 
--- in the tail it is no later than the start of the next frame
+-- the next tick of a core in the tail is at most the start of the next frame
 pub awaits-next : (sizes : Sizes) (plan : Plan) (me : Side) (i frame e x : ℕ) (c : Core) (k : ℕ) → (IsInTail sizes plan me frame e x c.state c.had × (c.had ≤ x)) ⊎ HasTurned frame x c.state c.had
     → next_tick sizes plan me i c ≡ Some k → IsAfter sizes plan me frame e x c.state c.had k
 awaits-next sizes plan me i frame e x c k (inl t) is = inl (t.0, first-busy sizes plan me i c.state (2 ^ 31 - c.had) c.had k x t.1 (begin-busy sizes plan me i c.state x t.0.known) is)

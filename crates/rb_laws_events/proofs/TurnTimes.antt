@@ -32,7 +32,7 @@ use Rattle.rb_laws_events.proofs.SameHeard.{Every}
 use Rattle.rb_laws_events.proofs.SentChanges.{sending-of-is}
 use Rattle.rb_laws_events.proofs.StageOrder.{last_of, last-same}
 
--- in the tail good nodes know when they begin the next frame: from this time on, and within p
+-- moment `t` is the tail of a frame, and its good nodes know when they begin the next one
 pub record Turns (sc : Scenario) (hands : List HandIn) (t : ℕ) : Type 0 where
   pub at : (moment sc hands t).window ≡ stages_in sc.sizes
   pub running : IsRunning (moment sc hands (suc (suc t)))
@@ -109,7 +109,7 @@ before-next sc m lawful me i last later st there good k lt =
     some-time zero u a b c h some on most = absurd (omega arith)
     some-time (suc gap) u a b c h some on most = let e : suc gap * u ≡ u + gap * u = omega arith in omega (arith, e, some, on, most)
 
--- the last tick of the tail
+-- the last tick of a good node's tail comes less than p after the first time of the next frame
 pub tail-ends : (sc : Scenario) (hands : List HandIn) → IsLawful sc → (t : ℕ) (h : Turns sc hands t) (me : Side) (i : ℕ) (st : NodeState)
     → slice_get (of_kind me (moment sc hands t).nodes) i ≡ Some st → is_good_at sc (moment sc hands t) me i ≡ true
     → time_of (clock_of sc me i) (last_tick sc (moment sc hands t) me st) < h.next.0 + sc.plan.p

@@ -22,7 +22,7 @@ next-turn sc before after first (inl none) = inl (none.1, none.0)
 next-turn sc before after first (inr one) =
     inr (one.0, one.1.1, one.1.0, next-of before.book.given (records_of sc after.hands) one.0 (subst (λ given. IsPrefix given (records_of sc after.hands)) one.1.0 first))
 
--- after one choice more the records are still the rounds'
+-- after one more choice the records are still the first ones of the rounds
 first-after : (sc : Scenario) → EventsAreRounds sc → (choices : List Choice) (c : Choice) (w : World) → choose sc (world_after sc choices) c ≡ w
     → IsPrefix w.book.given (records_of sc w.hands)
 first-after sc rounds choices c w is =

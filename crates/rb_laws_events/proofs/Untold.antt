@@ -20,7 +20,7 @@ use Rattle.rb_laws_events.proofs.ToldInOrder.{number_at}
 
 -- Who is good.
 
--- below a number there is one that passes, or none
+-- some number passes, or none below `n` does
 search_below : (p : ℕ → Bool) (n : ℕ) → ((i : ℕ) × (p i ≡ true)) ⊎ ((i : ℕ) → i < n → p i ≡ false)
 search_below p zero = inr (λ i lt. absurd (omega (arith, lt)))
 search_below p (suc n) = elim (search_below p n) [
@@ -42,7 +42,7 @@ zero-is n e = grind (arith, nat_tests)
 kind-empty : (sc : Scenario) (me : Side) (frame slot : ℕ) → ((i : ℕ) → i < 16 → is_good sc me i frame slot ≡ false) → good_at sc me frame slot ≡ 0
 kind-empty sc me frame slot none = sym (is_set_of 0 (λ i. is_good sc me i frame slot) (omega arith) (λ i lt. has_none i ∙ sym (none i lt)))
 
--- where somebody is good, there is such a node
+-- if it is not so that nobody is good, a good node can be named
 pub somebody : (sc : Scenario) (frame slot : ℕ) → nobody_good sc frame slot ≡ false → (me : Side) × ((i : ℕ) × (is_good sc me i frame slot ≡ true))
 somebody sc frame slot h =
     elim (search_below (λ i. is_good sc Biu i frame slot) 16) [

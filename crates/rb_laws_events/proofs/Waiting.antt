@@ -91,7 +91,7 @@ good-told sc frame slot tells sites complete me i s there good =
     or-told true told g h = h
     or-told false told g h = cc
 
--- where a good node has not told, it is not complete
+-- if a good node has not told, what is asked for is not complete
 pub untold : {X : Type 0} (sc : Scenario) (frame slot : ℕ) (tells : Site → Option X) (sites : Each Site) (me : Side) (i : ℕ) (s : Site) → slice_get (of_kind me sites) i ≡ Some s
     → is_good sc me i frame slot ≡ true → is_some (tells s) ≡ false → all_have_told sc frame slot tells sites ≡ false
 untold sc frame slot tells sites me i s there good none = by (all_have_told sc frame slot tells sites) refl
@@ -107,7 +107,7 @@ pub no-good : (sc : Scenario) (side : Side) (frame slot : ℕ) → ((i : ℕ) �
 no-good sc side frame slot none =
     same_set_of (λ i. is_good sc side i frame slot) (λ i. false) (λ i h. none i) ∙ sym (is_set_of 0 (λ i. false) (lit≤ tt) (λ i h. has_none i))
 
--- where no good node has told, it is not complete, or there is none
+-- if no good node has told, what is asked for is not complete, or no node is good
 pub none-told : {X : Type 0} (sc : Scenario) (frame slot : ℕ) (tells : Site → Option X) (sites : Each Site) → ((me : Side) → length (of_kind me sites) ≡ count_of me sc.sizes)
     → ((me : Side) (i : ℕ) (s : Site) → slice_get (of_kind me sites) i ≡ Some s → is_good sc me i frame slot ≡ true → is_some (tells s) ≡ false)
     → (not (nobody_good sc frame slot) && all_have_told sc frame slot tells sites) ≡ false
@@ -227,7 +227,7 @@ begun-there frame (Some b) h = by (b.frame == frame) refl h
     by true e h = (b, (refl, same-number b.frame frame e))
     by false e h = cc
 
--- where all nodes stand at a stage or before it, it waits
+-- if all nodes are at a stage or before it, the stage is not complete
 pub stage-waits : (sc : Scenario) (hands : List HandIn) (at : Side → ℕ → ℕ) (sites : Each Site) (place : Place) → ((me : Side) → length (of_kind me sites) ≡ count_of me sc.sizes)
     → AllTold sc hands at sites → ((me : Side) (i : ℕ) (s : Site) → slice_get (of_kind me sites) i ≡ Some s → at me i ≤ number_at sc.sizes place)
     → is_due sc sites (Stage place) ≡ false

@@ -94,7 +94,8 @@ next-on sc way w = test-on sc w (comes_so sc way w.book.upcoming && is_complete 
 next-more : (sc : Scenario) (way : Way) (w : World) → AtMostOneMore w.book.given (settle_next sc way w).book.given
 next-more sc way w = test-more sc w (comes_so sc way w.book.upcoming && is_complete sc w.sites w.book.upcoming)
 
--- what follows a milestone that gave this
+-- the world after a milestone that gave `r`: without a record, the milestones after it are settled
+-- too
 abbrev pub settle_rest : Scenario → Way → ℕ → World → Option Record → World
 settle_rest sc way others next r = elim r [ None ↦ settle sc way others next | Some r ↦ record next { turn = Some r } ]
 

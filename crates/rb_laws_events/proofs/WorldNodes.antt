@@ -108,12 +108,12 @@ arrival-known : (sc : Scenario) (me : Side) (i place : ℕ) (c : Coming) (s : Si
 unfolding after_arrival
 arrival-known sc me i place c s h = known-remove sc.sizes me place s.coming h
 
--- all nodes of the world
+-- `Known` holds for what comes to each node of the world
 pub record NodesKnown (sc : Scenario) (sites : Each Site) : Type 0 where
   pub counts : (me : Side) → length (of_kind me sites) ≡ count_of me sc.sizes
   pub known : (me : Side) (i : ℕ) (s : Site) → slice_get (of_kind me sites) i ≡ Some s → Known sc.sizes me s.coming
 
--- where each node keeps it, all do
+-- a change that keeps `Known` at each node keeps `NodesKnown`
 each-known : (sc : Scenario) (f : Side → ℕ → Site → Site) (sites : Each Site)
     → ((me : Side) (i : ℕ) (s : Site) → slice_get (of_kind me sites) i ≡ Some s → Known sc.sizes me s.coming → Known sc.sizes me (f me i s).coming)
     → NodesKnown sc sites → NodesKnown sc (map_each f sites)
@@ -136,7 +136,7 @@ changed-at sizes Biu Rmu change s b go k = k
 changed-at sizes Rmu Biu change s b go k = k
 changed-at sizes Rmu Rmu change s b go k = changed sizes Rmu change s b go k
 
--- one node changes
+-- a change of one node that keeps `Known` there keeps `NodesKnown`
 at-known : (sc : Scenario) (me : Side) (i : ℕ) (change : Site → Site) (sites : Each Site)
     → ((s : Site) → Known sc.sizes me s.coming → Known sc.sizes me (change s).coming) → NodesKnown sc sites → NodesKnown sc (at_node me i change sites)
 at-known sc me i change sites go h =
@@ -160,7 +160,7 @@ message-known sc me j frame tick None sites h k = k
 message-known sc me j frame tick (Some m) sites h k =
     each-known sc (sent_to sc me j frame (record { tick = tick; message = m })) sites (λ side i s e known. sent-at sc me side j frame (record { tick = tick; message = m }) i s h known) k
 
--- an event
+-- an event keeps `NodesKnown`
 pending-known : (sc : Scenario) (w : World) (me : Side) (i : ℕ) (s : Site) (p : Pending) → i < count_of me sc.sizes → NodesKnown sc w.sites
     → NodesKnown sc (with_pending sc w me i s p).sites
 unfolding with_act
@@ -222,7 +222,7 @@ pub first-counts : {X : Type 0} (sizes : Sizes) (make : Side → ℕ → X) (me 
 first-counts sizes make Biu = length-map-range_with_len (make Biu) 0 sizes.bius
 first-counts sizes make Rmu = length-map-range_with_len (make Rmu) 0 sizes.rmus
 
--- at first
+-- `NodesKnown` holds for the first world
 pub first-known : (sc : Scenario) → NodesKnown sc (first_world sc).sites
 unfolding first_world
 first-known sc = record {
@@ -240,7 +240,7 @@ from-known : (sc : Scenario) (choices : List Choice) (w : World) → NodesKnown 
 from-known sc [] w known = known
 from-known sc (c ∷ cs) w known = from-known sc cs (choose sc w c) (choose-known sc w c known)
 
--- in every world that choices lead to
+-- `NodesKnown` holds in every world that choices lead to
 pub worlds-known : (sc : Scenario) (choices : List Choice) → NodesKnown sc (world_after sc choices).sites
 worlds-known sc choices = from-known sc choices (first_world sc) (first-known sc)
 

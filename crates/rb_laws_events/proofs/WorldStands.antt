@@ -23,7 +23,7 @@ use Rattle.rb_laws_events.proofs.NodeEvents.{stands-arrival, stands-on}
 use Rattle.rb_laws_events.proofs.Receiving.{ArrivesNow}
 use Rattle.rb_laws_events.proofs.SameHeard.{Every}
 
--- the pending tick of node j among these
+-- the pending tick of node `j` of the sites
 abbrev pub ahead_in : List Site → ℕ → Option Timed
 ahead_in sites j = option_and_then (λ (s : Site). s.ahead) (slice_get sites j)
 
@@ -77,7 +77,7 @@ get-at me side i n change sites = get-each (λ side n s. elim (is_node me i side
 
 -- An arrival.
 
--- it changes no pending tick
+-- a change of one node that keeps its pending tick keeps those of all nodes
 ahead-kept : (me side : Side) (i n : ℕ) (change : Site → Site) (sites : Each Site) → ((s : Site) → (change s).ahead ≡ s.ahead)
     → ahead_in (of_kind side (at_node me i change sites)) n ≡ ahead_in (of_kind side sites) n
 ahead-kept me side i n change sites keeps =

@@ -77,7 +77,7 @@ pub kind-other : (me : Side) → same_side me (other me) ≡ false
 kind-other Biu = refl
 kind-other Rmu = refl
 
--- it does not reach a node of its own kind, nor one that has stopped
+-- a message reaches neither a node of its sender's kind nor one that has stopped
 pub reached-not : (sc : Scenario) (me : Side) (i frame k : ℕ) (m : Option Message) (side : Side) (j : ℕ) (s : Site) → (same_side side (other me) && s.runs) ≡ false
     → reached sc me i frame k m side j s ≡ s
 reached-not sc me i frame k None side j s e = refl
@@ -140,7 +140,7 @@ up-same sc hands sent sent2 now me i p s same h =
 
 -- What happens at the other nodes.
 
--- a node of the same kind
+-- a tick of a node changes nothing of what nodes of the other kind have sent
 same-kind-on : (sc : Scenario) (hands : List HandIn) (at : Side → ℕ → ℕ) (sites : Each Site) (me : Side) (i r : ℕ) (b : Option Timed) (j p : ℕ)
     → sent_then sc hands at sites me i r b (other me) j p ≡ sent_by sc hands at sites (other me) j p
 unfolding sent_then
@@ -169,7 +169,7 @@ own-before sc hands at sites me i s a p there pend =
     ap (λ o. has_sent (sending_of sc (moment sc hands p) me i) (at me i) (option_and_then (λ (s : Site). s.ahead) o) p) there
     ∙ ap (λ o. has_sent (sending_of sc (moment sc hands p) me i) (at me i) o p) pend
 
--- where the node said nothing, all has been sent that was sent before
+-- if the node said nothing, what has been sent stays the same
 then-silent : (sc : Scenario) (hands : List HandIn) (at : Side → ℕ → ℕ) (sites : Each Site) (me : Side) (i k r : ℕ) (s : Site) (a : Timed) (b : Option Timed)
     → slice_get (of_kind me sites) i ≡ Some s → s.ahead ≡ Some a → SaysNothing (λ p. sending_of sc (moment sc hands p) me i) (at me i) k r a b
     → (j p : ℕ) → sent_then sc hands at sites me i r b me j p ≡ sent_by sc hands at sites me j p
@@ -183,7 +183,7 @@ then-silent sc hands at sites me i k r s a b there pend says j p =
     ] in
     go (j == i) refl
 
--- where it said what it says in its moment, it has sent that and no more
+-- if the node said what it says in its moment, it has sent that and no more
 then-said : (sc : Scenario) (hands : List HandIn) (at : Side → ℕ → ℕ) (sites : Each Site) (me : Side) (i k r : ℕ) (s : Site) (a : Timed) (b : Option Timed)
     → slice_get (of_kind me sites) i ≡ Some s → s.ahead ≡ Some a → SaysNow (λ p. sending_of sc (moment sc hands p) me i) (at me i) k r a b
     → SendsFor (sent_by sc hands at sites me) (sent_then sc hands at sites me i r b me) i (at me i)
@@ -218,7 +218,7 @@ reached-running sc me i frame k m j s runs =
       | false ↦ s
     ]) (ap (λ x. x && s.runs) (same_side_self (other me)) ∙ runs)
 
--- a node of the other kind
+-- a node of the other kind still stands when the node's message is on its way to it
 other-on : (sc : Scenario) (hands : List HandIn) (at : Side → ℕ → ℕ) (sites : Each Site) (me : Side) (i frame k r : ℕ) (m : Option Message) (s : Site) (a : Timed) (b : Option Timed)
     → IsLawful sc → TicksNow sc hands at sites me i frame k r m s a b → (j : ℕ) (z : Site) → z.runs ≡ true
     → ((x : Sending) → sending_of sc (moment sc hands (at me i)) me i ≡ Some x → x.tick ≡ k → (st : NodeState) (c : Timed)
@@ -262,7 +262,7 @@ other-on sc hands at sites me i frame k r m s a b lawful now j z runs lands h =
           }))
     ]
 
--- where the messages land that go out now
+-- each message that goes out now lands at its receiver
 unfoldable pub AllLand : Scenario → List HandIn → (Side → ℕ → ℕ) → Each Site → Side → ℕ → ℕ → ℕ → ℕ → Type 0
 AllLand sc hands at sites me i frame k t =
     (j : ℕ) (z : Site) → slice_get (of_kind (other me) sites) j ≡ Some z → (x : Sending) → sending_of sc (moment sc hands (at me i)) me i ≡ Some x → x.tick ≡ k
@@ -302,7 +302,7 @@ any-on sc hands now at sites me i frame k r m s a b lawful later pend ticks land
     subst (λ y. IsUp sc hands new a.time y j (at y j) (reached sc me i frame k m y j z)) (sym same)
     (other-on sc hands at sites me i frame k r m s a b lawful ticks j z runs (land j z its) on)
 
--- one tick, in the whole world
+-- after one tick all nodes of the world still stand
 pub tick-keeps-world : (sc : Scenario) (hands : List HandIn) (now : ℕ) (at : Side → ℕ → ℕ) (sites : Each Site) (me : Side) (i frame k r : ℕ) (m : Option Message) (change : Site → Site) (s : Site) (a : Timed) (b : Option Timed)
     → IsLawful sc → now ≤ a.time → AllPend a.time sites → TicksNow sc hands at sites me i frame k r m s a b → AllLand sc hands at sites me i frame k a.time
     → (change s).ahead ≡ b

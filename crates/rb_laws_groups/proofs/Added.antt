@@ -35,7 +35,7 @@ pub record OneMore (xs ys : List Record) : Type 0 where
   pub is : ys ≡ xs ++ added ∷ []
   pub plain : IsPlain added
 
--- from the first list to the second no record of a slot is added
+-- `ys` is `xs`, or `xs` with one more record that is not of a slot
 abbrev pub AddsNoSlot : List Record → List Record → Type 0
 AddsNoSlot xs ys = (ys ≡ xs) ⊎ OneMore xs ys
 

@@ -77,7 +77,8 @@ none-early sc hands law frame port =
     early : (a q slot bius : ℕ) → q < 0 + (a + 3 * bius + 1 - 1) → suc q ≡ a + 3 * slot + 3 → slot < bius
     early a q slot bius high at = omega (arith, high, at)
 
--- after n data slots what is delivered from each BIU is by its first slot among them
+-- after `n` data slots a port has from each BIU what the first slot of that BIU among them
+-- delivered
 abbrev pub AreDelivered : Scenario → List HandIn → ℕ → ℕ → (ℕ → Option ℕ) → ℕ → Type 0
 AreDelivered sc hands frame port owner n =
     (i : ℕ) → IsDeliveredOf sc hands frame i (first_among owner i (range_with_len sc.sizes.bius n)) (first_of i (told_in frame port (before_slot sc hands frame (sc.sizes.bius + n)).book))

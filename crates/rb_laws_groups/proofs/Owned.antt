@@ -96,8 +96,8 @@ first_among-append owner i (x ∷ xs) ys =
 
 -- What is delivered of a BIU.
 
--- by its first slot: nothing without one, else something, and the word that it offers there if it
--- is good
+-- `o` is what a BIU's first slot in the frame delivers: nothing if it has none, else a value, which
+-- is the word that it offers there if it is good
 abbrev pub IsDeliveredOf : Scenario → List HandIn → ℕ → ℕ → Option ℕ → Option Heard → Type 0
 IsDeliveredOf sc hands frame i None o = o ≡ None
 IsDeliveredOf sc hands frame i (Some slot) o = (is_some o ≡ true) × (is_good sc Biu i frame slot ≡ true → o ≡ Some (Word (offered_in sc hands frame slot i)))
@@ -110,7 +110,7 @@ delivered-more sc hands frame i (Some slot) b (Some x) y h k = h
 
 -- One slot.
 
--- the state of a good port before a data slot
+-- BIU `port` is good before the data slot, in the state `st`
 pub record HasState (sc : Scenario) (hands : List HandIn) (frame slot port : ℕ) : Type 0 where
   pub st : NodeState
   pub is : IsGoodBefore sc hands frame slot Biu port st
@@ -124,7 +124,7 @@ has-state sc hands law frame slot port below complete good =
     let mine : Present (slice_get (of_kind Biu m.nodes) port) = good_state sc hands r.steps m r.shared r.first.agree Biu port now in
     record { st = mine.value; is = record { good = good; state = mine.is } }
 
--- the value of a data slot with an owner
+-- the data slot has an owner and a value, which is the offered word if the owner is good
 record HasSlotValue (sc : Scenario) (hands : List HandIn) (frame slot owner : ℕ) : Type 0 where
   pub value : Heard
   pub given : HasRecord sc hands frame slot (lines_of sc frame slot owner value)

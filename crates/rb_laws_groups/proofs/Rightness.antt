@@ -42,7 +42,7 @@ last-same xs ys a b e =
 same-lines : (frame slot : ℕ) (a b : List SlotLine) → Slot frame slot a ≡ Slot frame slot b → a ≡ b
 same-lines frame slot a b e = cc
 
--- one of these numbers passes the test, or none does
+-- some number passes, or none of `xs` does
 passing : (p : ℕ → Bool) (xs : List ℕ) → (filter p xs ≡ []) ⊎ ((i : ℕ) × (p i ≡ true))
 passing p [] = inl refl
 passing p (x ∷ xs) = by (p x) refl (passing p xs)

@@ -98,7 +98,7 @@ no-owner sizes slot sender (inr late) = by (nat_lt slot sizes.bius) (nat_lt slot
     by false false false true e f = refl
     by false false false false e f = refl
 
--- a good BIU delivers the value once
+-- a good BIU delivers the value of a slot once
 pub one-delivery : (sc : Scenario) (frame slot owner : ℕ) (value : Heard) (i : ℕ) → is_good sc Biu i frame slot ≡ true
     → deliveries_in frame slot i (lines_of sc frame slot owner value) ≡ record { frame = frame; slot = slot; sender = owner; value = value } ∷ []
 one-delivery sc frame slot owner value i good =

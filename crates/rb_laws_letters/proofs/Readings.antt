@@ -151,7 +151,7 @@ more n wanted bytes e lt =
     ap (λ b. elim b as (λ _. Read) [ true ↦ keeps (Some (record { wanted = wanted; bytes = bytes })) | false ↦ with_last wanted bytes ])
     (lt-ltb (length bytes) wanted (omega (arith, e, lt)))
 
--- the last bytes, filled with zeros
+-- the last bytes of a letter, filled with zeros, end it
 last : (wanted : ℕ) (letter zeros bytes : List ℕ) → bytes ≡ letter ++ zeros → length letter ≡ wanted → list_all is_zero zeros ≡ true
     → with_bytes wanted bytes ≡ record { after = None; given = Some letter }
 last wanted letter zeros bytes is long all =

@@ -81,7 +81,7 @@ one-value i k owner value good (suc n) from low high is =
           ∙ ap (λ b. cond (b && (owner == k)) (value ∷ []) []) (eq-eqb from i here)
     ]
 
--- of the lines of a slot a good receiver has one, the owner's
+-- a good receiver has one value in the lines of a slot, that of the owner
 lines-value : (sc : Scenario) (frame slot owner : ℕ) (value : Heard) (i k : ℕ) → is_good sc Biu i frame slot ≡ true
     → values_of i k (lines_of sc frame slot owner value) ≡ cond (owner == k) (value ∷ []) []
 lines-value sc frame slot owner value i k good =

@@ -16,7 +16,7 @@ of-more x xs j e = rw e refl
 pub of-other : (x : ℕ × Arrival) (xs : List (ℕ × Arrival)) (j : ℕ) → (x.0 == j) ≡ false → of_source (x ∷ xs) j ≡ of_source xs j
 of-other x xs j e = rw e refl
 
--- a message among those of one stamp
+-- Arrivals of one stamp.
 
 arrivals-other : (sizes : Sizes) (k : ℕ) (c : Coming) (cs : List Coming) (j : ℕ) → (c.from == j) ≡ false → of_source (arrivals sizes k (c ∷ cs)) j ≡ of_source (arrivals sizes k cs) j
 unfolding arrivals
@@ -59,7 +59,7 @@ one_with_stamp sizes k (x ∷ xs) j (suc nth) c below there from sole =
     arrivals-other sizes k x xs j (false_from_ne_true (x.from == j) (λ e. let zero_is : 0 ≡ suc nth = sole 0 x refl (eqb-true x.from j e) in absurd (omega (arith, zero_is))))
     ∙ one_with_stamp sizes k xs j nth c below there from (λ a d is mine. let e : suc a ≡ suc nth = sole (suc a) d is mine in omega (arith, e))
 
--- among those of all stamps of a window
+-- Arrivals of all stamps of a window.
 
 pub none_collected : (sizes : Sizes) (heard : ℕ → List Coming) (first n j : ℕ) → ((i : ℕ) → i < n → of_source (arrivals sizes (first + i) (heard (first + i))) j ≡ [])
     → of_source (collected sizes heard first n) j ≡ []

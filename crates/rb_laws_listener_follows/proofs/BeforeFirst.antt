@@ -41,7 +41,7 @@ later_follows sc ear k f zero = let e : k ≡ 0 + k = omega arith in subst (λ t
 later_follows sc ear k f (suc d) =
     let e : suc (d + k) ≡ suc d + k = omega arith in subst (λ t. Follows (listening_at sc ear t)) e (next-follows sc ear (d + k) (later_follows sc ear k f d))
 
--- up to where it searches it closes nothing
+-- up to a tick at which the listener searches it closes nothing
 searching-none : (sc : Scenario) (ear : Ear) (tick : ℕ) (s : Search) → listening_at sc ear tick ≡ now.Searching s → (k : ℕ) → k ≤ tick → closing_at sc ear k ≡ None
 searching-none sc ear tick s searching k le = by (listening_at sc ear k) refl
   where

@@ -26,7 +26,7 @@ use Rattle.rb_laws_agreement.proofs.SyncWindows.{tail_keeps_epoch}
 use Rattle.rb_laws_synchrony.proofs.Synchronous.{KnowsEpoch}
 use Rattle.rb_laws_synchrony.proofs.Synchrony.{IsSynchronous, synchrony}
 
--- it knew its epoch after the sync slot, and has turned with it
+-- the node knew its next epoch after the sync slot, and has turned with it
 pub record HasBegun (sc : Scenario) (hands : List HandIn) (frame : ℕ) (me : Side) (i : ℕ) (now : NodeState) : Type 0 where
   pub st : NodeState
   pub after : IsGoodAfter sc hands frame (sync_slot_of sc.sizes) me i st

@@ -102,7 +102,7 @@ first_came sizes heard first (suc n) j x xs h =
 
 -- ---- a call that is taken
 
--- one message was sensed
+-- the arrivals are one message, and it is as expected
 record IsSensed (e : Expect) (xs : List Arrival) (k : ℕ) : Type 0 where
   pub arrival : Arrival
   pub message : Message
@@ -173,7 +173,7 @@ found_at sc ear epoch st j k taken =
 
 -- ---- the times
 
--- when it came what is taken of each RMU
+-- the time of the call that is taken from RMU `j`
 abbrev pub time_second : Scenario → Ear → ℕ → NodeState → ℕ → ℕ
 time_second sc ear epoch st j = call_time sc ear st.frame j (stamp_seen (see_time (taken_second sc ear epoch st j)))
 

@@ -88,7 +88,7 @@ place_is sc slot stage first st sense below =
 
 -- Stages of a slot that is complete.
 
--- the setting of a stage
+-- stage q + 1 of the slot has a setting
 record InStage (sc : Scenario) (hands : List HandIn) (s : Shared) (frame slot q : ℕ) : Type 0 where
   pub steps : ℕ
   pub setting : Setting sc hands steps (before_stage sc hands frame slot (q + 1)) s slot q
@@ -136,7 +136,7 @@ data-after sizes slot n e = go (nat_lt slot sizes.bius) refl e
       | inr ge ↦ ge
     ]
 
--- its vote in stage 2 of a data slot is the value of the bus
+-- the listener's vote in stage 2 of a data slot is the value of the bus
 votes_value : (sc : Scenario) (hands : List HandIn) (stands : StandsFor sc hands) (frame slot q : ℕ) → slot < sync_slot_of sc.sizes → (complete : IsComplete sc hands frame slot) → (x : IsSlot sc hands frame slot)
     → (st : NodeState) (sense : ℕ → Sense) (seen : ℕ → JudgedStage → Option (ℕ → See)) → IsWatched sc (before_stage sc hands frame slot (q + 1)) slot q st sense seen
     → (n : ℕ) → role_of sc.sizes slot ≡ Data n → q + 1 ≡ 2 → listener_vote sc slot q st sense ≡ value_on (stands.bus (steps_to sc.sizes frame slot + 1)) slot

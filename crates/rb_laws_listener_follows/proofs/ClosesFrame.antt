@@ -35,7 +35,7 @@ use Rattle.rb_laws_listener_follows.proofs.SyncPasses.{PassesAtSecond, StandsAtS
 
 -- ---- windows by their number
 
--- the window of a number: below the sync slot, or one of its three
+-- `w` is window `n` of each frame: below the sync slot, or one of its three
 record IsNumbered (sc : Scenario) (n : ℕ) (w : Window) : Type 0 where
   pub inside : n < stages_in sc.sizes
   pub is : (st : NodeState) → window_numbered sc.sizes sc.plan Biu st n ≡ w
@@ -54,7 +54,7 @@ exact_is sc st n w is below = sym ((numbered sc n w is).is st) ∙ exact-numbere
 
 -- ---- where it stands
 
--- it stands before one window of the frame, if it has ticks so far
+-- the listener stands before window `from` of the frame, if it has ticks so far
 pub record StandsFrom (sc : Scenario) (hands : List HandIn) (ear : Ear) (f from epoch low : ℕ) : Type 0 where
   pub law : IsLawful sc
   pub few : from ≤ 1

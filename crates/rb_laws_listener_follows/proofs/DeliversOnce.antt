@@ -89,7 +89,7 @@ close-delivers sizes st slot stage first sense d h = go (slot == sync_slot_of si
     go true e h = absurd (none-some d (sym (sync-delivers sizes st stage (st.epoch + first) sense) ∙ h))
     go false e h = record { of_slot = exact-delivers sizes st slot stage sense d h; exact = e }
 
--- the window of stage 2 of a slot below the sync slot
+-- stage 2 of a slot below the sync slot ends with the last tick of the slot's second window
 exact_last : (sizes : Sizes) (plan : Plan) (st : NodeState) (k : ℕ) → ((window_here sizes plan Biu st k).slot == sync_slot_of sizes) ≡ false → (window_here sizes plan Biu st k).stage ≡ 2
     → ((window_here sizes plan Biu st k).slot < sync_slot_of sizes) × ((window_here sizes plan Biu st k).last ≡ (3 * (window_here sizes plan Biu st k).slot + 1) * plan.l + plan.l - 1)
 exact_last sizes plan st k other stage = go (window_at sizes plan (k - st.epoch)) refl other stage
@@ -162,7 +162,7 @@ act-delivers sizes plan c st d h = by (is_last sizes plan Biu st c.had) refl h
     by true last h = with_last last h
     by false last h = absurd (none-some d h)
 
--- the tick with which it delivers this
+-- the listener delivers `d` with tick `k`
 record DeliversThen (sc : Scenario) (ear : Ear) (k : ℕ) (d : Delivery) : Type 0 where
   pub x : AtTick sc ear k
   pub at : DeliversAt sc.sizes sc.plan x.st x.core.had d
@@ -182,7 +182,7 @@ delivers_then sc ear tick s first w k d in_time told = elim (cases_lt k first.ep
         sym (ap (λ h. h.heed.delivered) x.heeds ∙ ap (λ a. option_and_then (λ (y : Closed). y.delivered) a.closed) acts) ∙ told in
         record { x = x; at = act-delivers sc.sizes sc.plan x.core x.st d said }
 
--- in a frame that it tells with this tick alone
+-- the listener delivers each slot at most once in a frame that it tells with one tick alone
 pub delivers_once : (sc : Scenario) (ear : Ear) (tick : ℕ) (s : Search) (first : First) → WaitsFirst sc ear tick s first → (frame epoch : ℕ)
     → ((k : ℕ) (e : Epoch) → k < ear.ticks → (told_at sc ear k).epoch ≡ Some e → e.frame ≡ frame → k ≡ epoch)
     → (k : ℕ) (d : Delivery) → k < ear.ticks → (told_at sc ear k).delivered ≡ Some d → d.frame ≡ frame

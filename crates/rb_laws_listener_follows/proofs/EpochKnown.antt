@@ -70,7 +70,7 @@ second_number sizes plan st n below slot stage = elim (cases_lt n (3 * sync_slot
         absurd (omega (arith, e))
     in_sync (suc (suc (suc r))) small at = absurd (omega (arith, small))
 
--- its last tick
+-- stage 2 of the sync slot ends with the tick before `second_end`
 second_last : (sizes : Sizes) (plan : Plan) (st : NodeState) (k : ℕ) → (window_here sizes plan Biu st k).slot ≡ sync_slot_of sizes → (window_here sizes plan Biu st k).stage ≡ 2
     → (window_here sizes plan Biu st k).last ≡ second_end sizes plan - 1
 second_last sizes plan st k slot stage = go (window_at sizes plan (k - st.epoch)) refl slot stage
@@ -156,7 +156,7 @@ tick_keeps sizes plan c st = by (is_last sizes plan Biu st c.had) refl
 
 -- ---- a turn
 
--- it turns with this tick
+-- the node turns to its next frame with tick `k`
 pub record Turns (sizes : Sizes) (plan : Plan) (st now : NodeState) (k : ℕ) : Type 0 where
   pub known : new_epoch_of plan Biu st ≡ Some k
   pub frame : now.frame ≡ st.frame + 1

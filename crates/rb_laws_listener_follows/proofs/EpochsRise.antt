@@ -72,7 +72,7 @@ past_epoch sc st k d h = go (st.epoch == k) refl h
 
 -- ---- a tick
 
--- from the state at a tick to before the next one
+-- if `IsIn` holds at a tick, `IsSince` holds before the next one
 since_next : (sc : Scenario) (ear : Ear) (k : ℕ) (c : Core) (st : NodeState) → heed sc.sizes sc.plan (listening_at sc ear k) ≡ followed (follow sc.sizes sc.plan c) → c.had ≡ k → suc k < 2 ^ 31
     → state_at sc.sizes sc.plan Biu c.state k ≡ st → 1 ≤ second_end sc.sizes sc.plan → IsIn sc ear k st → IsSince sc ear (suc k)
 since_next sc ear k c st is had below at some x = record {
@@ -130,7 +130,7 @@ since_next sc ear k c st is had below at some x = record {
       ]
     ]
 
--- from before a tick to the state at it
+-- if `IsSince` holds before a tick, `IsIn` holds at it
 pub in_state : (sc : Scenario) (ear : Ear) (k : ℕ) → k < 2 ^ 31 → 1 ≤ second_end sc.sizes sc.plan → (x : IsSince sc ear k) → IsIn sc ear k (state_at sc.sizes sc.plan Biu x.core.state k)
 in_state sc ear k below some x = elim (turns_or_stays sc.sizes sc.plan x.core.state k) [ inl t ↦ turns t | inr same ↦ stays same ]
   where
@@ -345,8 +345,8 @@ at_tick sc ear tick s first w k from in_time = elim (cases_lt first.epoch k) [
 
 -- ---- what it tells
 
--- with a later tick than the first epoch it tells the frame after the one that it told last, having
--- known that tick
+-- with a tick after the first epoch the listener tells the frame after the one that it told last,
+-- having known that tick
 record TellsNext (sc : Scenario) (ear : Ear) (k : ℕ) (e : Epoch) (x : IsSince sc ear k) : Type 0 where
   pub frame : e.frame ≡ x.core.state.frame + 1
   pub known : new_epoch_of sc.plan Biu x.core.state ≡ Some k
@@ -396,7 +396,7 @@ told_once sc ear tick s first w i k d e i_in k_in told then_told same = elim (ca
   ]
 ]
 
--- the first frame with its first tick
+-- the listener tells its first frame with the first tick alone
 pub first_once : (sc : Scenario) (ear : Ear) (tick : ℕ) (s : Search) (first : First) → WaitsFirst sc ear tick s first → (k : ℕ) (e : Epoch) → k < ear.ticks → (told_at sc ear k).epoch ≡ Some e
     → e.frame ≡ first.frame → k ≡ first.epoch
 first_once sc ear tick s first w k e in_time told same =
@@ -404,7 +404,7 @@ first_once sc ear tick s first w k e in_time told same =
     let x : IsIn sc ear first.epoch (first_core sc.sizes first).state = first_in sc ear tick s first w (omega (arith, ge, in_time)) in
     told_once sc ear tick s first w k x.begun e x.e in_time (omega (arith, ge, in_time, x.epoch_is)) told x.told (same ∙ sym x.frame_is) ∙ sym x.epoch_is
 
--- it tells no frame before the first
+-- the listener tells no frame before its first one
 pub none_earlier : (sc : Scenario) (ear : Ear) (tick : ℕ) (s : Search) (first : First) → WaitsFirst sc ear tick s first → (k : ℕ) (e : Epoch) → k < ear.ticks → (told_at sc ear k).epoch ≡ Some e → first.frame ≤ e.frame
 none_earlier sc ear tick s first w k e in_time told = elim (cases_lt first.epoch k) [ inl after ↦ later after | inr early ↦ at_first early ]
   where

@@ -42,7 +42,7 @@ pub record IsHeldTo (sc : Scenario) (hands : List HandIn) (ear : Ear) (learned :
   pub later : learned < suc f
   pub complete : IsComplete sc hands f (sync_slot_of sc.sizes)
 
--- it goes through this window
+-- the listener goes through window `w` of the frame
 pub record PassesExact (sc : Scenario) (hands : List HandIn) (ear : Ear) (frame w epoch low : ℕ) (x : StandsAt sc hands ear frame w epoch low) : Type 0 where
   pub set : Setting sc hands (w + first_of_frame sc frame) (moment sc hands (w + first_of_frame sc frame)) x.shared (w / 3) (w % 3)
   pub premise : IsPremise sc hands ear (w + first_of_frame sc frame) epoch x.st (w / 3) (w % 3) (seen_following sc ear frame)

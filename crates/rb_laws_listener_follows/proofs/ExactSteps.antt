@@ -49,14 +49,14 @@ pub record Abides (sc : Scenario) (hands : List HandIn) (ear : Ear) (n epoch low
   pub unknown : new_epoch_of sc.plan Biu st ≡ None
   pub tracks : Tracks sc (moment sc hands n) st
 
--- what it senses there
+-- what the listener senses in a stage below the sync slot
 abbrev pub sense_at : Scenario → List HandIn → Ear → ℕ → ℕ → NodeState → ℕ → ℕ → ℕ → Sense
 sense_at sc hands ear n epoch st slot q = sense_heard sc ear epoch (moment sc hands n).window st slot (q + 1)
 
 abbrev pub outcome_at : Scenario → List HandIn → Ear → ℕ → ℕ → NodeState → ℕ → ℕ → Outcome
 outcome_at sc hands ear n epoch st slot q = closed_by sc slot (q + 1) ((moment sc hands n).window * sc.plan.l) st (sense_at sc hands ear n epoch st slot q)
 
--- the premise with the listener in that window
+-- the premise holds with the listener in this window
 pub record IsPremise (sc : Scenario) (hands : List HandIn) (ear : Ear) (n epoch : ℕ) (st : NodeState) (slot q : ℕ) (seen : ℕ → JudgedStage → Option (ℕ → See)) : Type 0 where
   pub most : MostStay sc (moment sc hands n)
   pub none : verdict_with seen (stages_with sc (moment sc hands n) slot (q + 1)) ≡ None
@@ -136,7 +136,7 @@ closing_is sc hands ear n epoch s st slot q c epoch_is =
     here =
         ap (window_here sc.sizes sc.plan Biu st) (sym same) ∙ closes_there sc.sizes sc.plan st w (has_ticks sc c.law) (omega (arith, below)) t.some ∙ ws.are Biu st
 
--- below the sync slot no middle is kept
+-- a stage below the sync slot keeps no middle
 pub exact_keeps : (sizes : Sizes) (plan : Plan) (st : NodeState) (slot stage : ℕ) (sense : ℕ → Sense) → new_epoch_of plan Biu (close_exact sizes Biu 16 st slot stage sense).state ≡ new_epoch_of plan Biu st
 unfolding close_exact outcome_of
 exact_keeps sizes plan st slot stage sense = refl
@@ -154,8 +154,8 @@ keeps_middle sizes plan st slot stage first sense below =
 
 -- ---- the step
 
--- with the last tick it closes the window, keeps up with the bus, and stands before the tick after
--- it
+-- with the last tick of the window the listener closes it, keeps up with the bus, and stands before
+-- the tick after it
 pub record GoesThrough (sc : Scenario) (hands : List HandIn) (ear : Ear) (n epoch : ℕ) (before st : NodeState) (slot q : ℕ) : Type 0 where
   pub core : Core
   pub here : listening_at sc ear (epoch + (moment sc hands n).window * sc.plan.l + (sc.plan.l - 1)) ≡ now.Following core

@@ -35,7 +35,7 @@ use Rattle.rb_laws_listener_follows.proofs.FirstWindow.{BeginsFirst}
 use Rattle.rb_laws_listener_follows.proofs.FramesInTime.{beside_at}
 use Rattle.rb_laws_listener_follows.proofs.HeardExact.{Beside}
 
--- its state
+-- the state with which the listener begins to follow
 abbrev pub first_state : Scenario → First → NodeState
 first_state sc first = (first_core sc.sizes first).state
 
@@ -50,7 +50,7 @@ turned-owners sizes probation epoch me st = refl
 first-unknown : (sc : Scenario) (first : First) → new_epoch_of sc.plan Biu (first_state sc first) ≡ None
 first-unknown sc first = refl
 
--- it begins the frame after the learned one
+-- the listener begins the frame after the learned one
 pub record FirstBegins (sc : Scenario) (hands : List HandIn) (ear : Ear) (learned : ℕ) (first : First) : Type 0 where
   pub low : ℕ
   pub shared : Shared

@@ -57,7 +57,7 @@ span_first sc st w slot stage a ticks s = ap (λ x. x.first) s.window
 span_last : (sc : Scenario) (st : NodeState) (w slot stage a ticks : ℕ) → IsSpan sc st w slot stage a ticks → last_of sc.sizes sc.plan Biu st w ≡ a + ticks - 1
 span_last sc st w slot stage a ticks s = ap (λ x. x.last) s.window
 
--- the ticks of such a window, before the next epoch
+-- a span of ticks before the next epoch is a window
 pub span_window : (sc : Scenario) (before st : NodeState) (w slot stage a ticks epoch : ℕ) → IsSpan sc st w slot stage a ticks → HasTicks sc.plan → st.epoch ≡ epoch
     → state_at sc.sizes sc.plan Biu before (epoch + a) ≡ st → ((x : ℕ) → new_epoch_of sc.plan Biu st ≡ Some x → epoch + a + ticks ≤ x) → epoch + a + ticks ≤ 2 ^ 31
     → IsWindow sc.sizes sc.plan before st (epoch + a) (ticks - 1)
@@ -108,7 +108,7 @@ pub keeps_epoch : (sizes : Sizes) (st : NodeState) (stage first : ℕ) (sense : 
 unfolding close_sync sync_outcome_of
 keeps_epoch sizes st stage first sense = refl
 
--- with the last tick of stage 1 it stands before stage 2
+-- with the last tick of stage 1 the listener stands before stage 2
 pub record PassesFirst (sc : Scenario) (hands : List HandIn) (ear : Ear) (n epoch : ℕ) (before st : NodeState) : Type 0 where
   pub closes : ClosesWindow sc ear before st (epoch + f0_of sc.sizes sc.plan) (sc.plan.l - 1)
   pub now : NodeState
@@ -170,7 +170,7 @@ passes_first sc hands ear n epoch low s before st a c set next_is in_time = reco
     tick : suc (epoch + f0_of sc.sizes sc.plan + (sc.plan.l - 1)) ≡ epoch + (f0_of sc.sizes sc.plan + sc.plan.l)
     tick = omega (arith, a.beside.law.plan.l.0)
 
-    -- of an RMU that stays good nothing comes
+    -- nothing comes from an RMU that stays good
     silent : (j : ℕ) → stays_good sc (moment sc hands n) j ≡ true → sense_span sc ear (epoch + f0_of sc.sizes sc.plan) sc.plan.l st (sync_slot_of sc.sizes) 1 j ≡ Silent
     silent j good =
         let was : is_good_now sc (moment sc hands n) Rmu j ≡ true = was_good sc (moment sc hands n) Rmu j good in

@@ -70,7 +70,7 @@ time_learned sc ear learned records j = call_time sc ear learned j (stamp_seen (
 stamp-seen : (o : Option ℕ) (k : ℕ) → o ≡ Some k → stamp_seen (see_time o) ≡ k
 stamp-seen o k e = ap (λ x. stamp_seen (see_time x)) e
 
--- of whom it took something it trusts, and that is recorded
+-- the listener trusts the RMU from which it took something, and that is recorded
 record IsTakenOf (sc : Scenario) (records : List Sense) (j k : ℕ) : Type 0 where
   pub trusts : has (trusted_rmus sc.sizes records) j ≡ true
   pub recorded : stamp_in (record_of records (sync_slot_of sc.sizes) j) ≡ Some k
@@ -120,8 +120,8 @@ most-good sc hands ear law run frame running =
     has-set_of j (λ j. is_good sc Rmu j frame (sync_slot_of sc.sizes)) below ∙ always-good-in sc hands law j frame (sync_slot_of sc.sizes) running (sym (has-set_of j (is_always_good sc hands) below) ∙ h)) in
     omega (arith, most, fewer)
 
--- before stage 2 of the sync slot of a frame after the first all windows of the frame before it
--- were judged
+-- before stage 2 of the sync slot of a frame after the first, all stages of the frame so far were
+-- judged
 long-stages : (sc : Scenario) (hands : List HandIn) → IsLawful sc → (f : ℕ) → IsRunning (before_stage sc hands (suc f) (sync_slot_of sc.sizes) 2)
     → length (before_stage sc hands (suc f) (sync_slot_of sc.sizes) 2).book.stages ≡ 3 * sync_slot_of sc.sizes + 1
 long-stages sc hands law f running =
@@ -256,7 +256,7 @@ first_near sc hands law ear is run learned tick s decides calm first l = record 
     takes : TakesTheCalls sc hands learned ear.clock (taken_learned sc s.lesson.records) (time_learned sc ear learned s.lesson.records)
     takes = record { trusts = trusts; stamped = stamped; calls = calls }
 
-    -- the judged stage
+    -- the step through the judged stage
     step : IsStepped sc hands (learned * (windows_in sc.sizes + 1) + 3 * sync_slot_of sc.sizes + 2 - 1)
     step =
         stepped sc hands n (omega (arith, at))

@@ -26,7 +26,7 @@ use Rattle.rb_laws_listener_follows.proofs.FirstBegins.{FirstBegins, first_state
 use Rattle.rb_laws_listener_follows.proofs.FirstWindow.{PassesWindow, outcome_first, passes_window}
 use Rattle.rb_laws_listener_follows.proofs.SeenPremise.{holds_following, seen_following}
 
--- it has gone through the first window, and stands before the second
+-- the listener has gone through the first window, and stands before the second
 pub record FirstStands (sc : Scenario) (hands : List HandIn) (ear : Ear) (learned : ℕ) (first : First) (b : FirstBegins sc hands ear learned first) : Type 0 where
   pub window : PassesWindow sc hands ear (moment_before sc (learned + 1) 0 1) first.epoch b.low (first_state sc first) (seen_following sc ear (suc learned))
   pub stands : StandsAt sc hands ear (suc learned) 1 first.epoch b.low

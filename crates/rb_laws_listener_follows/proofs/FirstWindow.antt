@@ -57,8 +57,8 @@ use Rattle.rb_laws_listener_follows.proofs.HeardExact.{Beside, IsOwn, only_own}
 use Rattle.rb_laws_listener_follows.proofs.SeenPremise.{most_stay, place_closed}
 use Rattle.rb_laws_listener_follows.proofs.SeenWindows.{NoneSeen, sees_window}
 
--- with its first tick it has turned to following, and stands beside the run before the frame's
--- first window
+-- with its first tick the listener has turned to following, and stands beside the run before the
+-- first window of the frame
 pub record BeginsFirst (sc : Scenario) (hands : List HandIn) (ear : Ear) (n epoch low : ℕ) (s : Shared) (st : NodeState) : Type 0 where
   pub beside : Beside sc hands ear n epoch low s
   pub window : (moment sc hands n).window ≡ 0
@@ -74,7 +74,7 @@ sense_first sc ear epoch st j = sense_of (expect_of sc.sizes sc.plan.version st 
 abbrev pub outcome_first : Scenario → Ear → ℕ → NodeState → Outcome
 outcome_first sc ear epoch st = closed_by sc 0 1 0 st (sense_first sc ear epoch st)
 
--- with the last tick it closes the window, and stands before the next
+-- with the last tick of a window the listener closes it, and stands before the next one
 pub record PassesWindow (sc : Scenario) (hands : List HandIn) (ear : Ear) (n epoch low : ℕ) (st : NodeState) (seen : ℕ → JudgedStage → Option (ℕ → See)) : Type 0 where
   pub core : Core
   pub here : listening_at sc ear (epoch + (sc.plan.l - 1)) ≡ now.Following core
@@ -117,7 +117,7 @@ goes_on_first sizes plan c below same quiet =
 
 -- Its other ticks.
 
--- a window without its first tick
+-- a window without its first tick is a window of one tick less
 later_window : (sizes : Sizes) (plan : Plan) (st : NodeState) (first n : ℕ) → 1 ≤ n → IsWindow sizes plan st st first n → IsWindow sizes plan st st (suc first) (n - 1)
 later_window sizes plan st first n some w = record {
   turns = w.stays (suc first) (omega arith) (omega (arith, some));

@@ -61,7 +61,7 @@ pub record IsFollowed (sc : Scenario) (hands : List HandIn) (ear : Ear) (frame :
   pub epochs : TellsFrame sc hands ear frame epoch
   pub stands : epoch + from * sc.plan.l ≤ ear.ticks → StandsAt sc hands ear frame from epoch low
 
--- it begins the frame after one that it follows, and stands before its first window
+-- the listener follows the frame from its first window on
 pub record IsBegun (sc : Scenario) (hands : List HandIn) (ear : Ear) (frame : ℕ) : Type 0 where
   pub followed : IsFollowed sc hands ear frame
   pub whole : followed.from ≡ 0
@@ -248,7 +248,7 @@ frame_before sc hands d learned complete =
     let e : (suc d + learned) * (windows_in sc.sizes + 1) ≡ (d + learned) * (windows_in sc.sizes + 1) + (windows_in sc.sizes + 1) = omega arith in
     running_earlier sc hands ((d + learned) * (windows_in sc.sizes + 1) + 3 * sync_slot_of sc.sizes + 4 - 1) ((suc d + learned) * (windows_in sc.sizes + 1) + 3 * sync_slot_of sc.sizes + 4 - 1) (omega (arith, e)) complete
 
--- from one to the next
+-- a listener that follows a frame follows the next one
 followed_step : (sc : Scenario) (hands : List HandIn) → IsLawful sc → (ear : Ear) → IsEar sc ear → (learned : ℕ) (records : List Sense) (tick : ℕ) (s : Search) (first : First)
     → WaitsFirst sc ear tick s first → first.frame ≡ suc learned → (last : ℕ) → HoldsTo sc hands ear learned records last → (d : ℕ) → IsComplete sc hands (suc d + learned) (sync_slot_of sc.sizes) → suc (suc d + learned) * (windows_in sc.sizes + 1) ≤ last
     → IsFollowed sc hands ear (suc (d + learned)) → IsBegun sc hands ear (suc (suc d + learned))
@@ -260,8 +260,8 @@ followed_step sc hands law ear is learned records tick s first w first_is last h
     subst (λ k. IsBegun sc hands ear (suc k)) g
     (followed_next sc hands law ear is learned records tick s first w first_is (d + learned) last (record { holds = holds; later = omega arith; complete = frame_before sc hands d learned complete }) here (omega (arith, more, bound)) x)
 
--- it follows each frame after the learned one that is reached before the first breach of the
--- premise with it
+-- the listener follows each frame after the learned one that is reached before the first breach of
+-- the premise with it
 pub followed_at : (sc : Scenario) (hands : List HandIn) → IsLawful sc → (ear : Ear) → IsEar sc ear → (learned : ℕ) (records : List Sense) (tick : ℕ) (s : Search) (first : First)
     → WaitsFirst sc ear tick s first → first.frame ≡ suc learned → (last : ℕ) → HoldsTo sc hands ear learned records last
     → IsFollowed sc hands ear (suc learned) → (d : ℕ) → IsComplete sc hands (d + learned) (sync_slot_of sc.sizes) → suc (d + learned) * (windows_in sc.sizes + 1) ≤ last
@@ -273,7 +273,7 @@ followed_at sc hands law ear is learned records tick s first w first_is last hol
     (followed_step sc hands law ear is learned records tick s first w first_is last holds d complete le
     (followed_at sc hands law ear is learned records tick s first w first_is last holds begun d (frame_before sc hands d learned complete) (omega (arith, more, le)))).followed
 
--- each after its first from the first window on
+-- the listener follows each frame after its first one from the first window on
 pub begun_at : (sc : Scenario) (hands : List HandIn) → IsLawful sc → (ear : Ear) → IsEar sc ear → (learned : ℕ) (records : List Sense) (tick : ℕ) (s : Search) (first : First)
     → WaitsFirst sc ear tick s first → first.frame ≡ suc learned → (last : ℕ) → HoldsTo sc hands ear learned records last
     → IsFollowed sc hands ear (suc learned) → (d : ℕ) → IsComplete sc hands (suc d + learned) (sync_slot_of sc.sizes) → suc (suc d + learned) * (windows_in sc.sizes + 1) ≤ last

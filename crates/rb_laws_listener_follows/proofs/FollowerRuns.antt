@@ -140,7 +140,7 @@ pub record IsWindow (sizes : Sizes) (plan : Plan) (before st : NodeState) (first
   pub last : is_last sizes plan Biu st (first + n) ≡ true
   pub in_time : first + n < 2 ^ 31
 
--- the state at its ticks, before each
+-- the state before each tick of a window
 abbrev pub state_before : NodeState → NodeState → ℕ → NodeState
 state_before before st zero = before
 state_before before st (suc i) = st
@@ -168,7 +168,7 @@ collected-more sizes heard first i k e =
     ap (λ t. collected sizes heard first (i + 1) ++ arrivals sizes t (heard t)) e
     ∙ ap (collected sizes heard first) (let f : suc (i + 1) ≡ suc i + 1 = omega arith in f)
 
--- from one tick of it to the next
+-- the listener goes on from one tick of its window to the next
 follows_next : (sc : Scenario) (ear : Ear) (before st : NodeState) (first n i : ℕ) → IsWindow sc.sizes sc.plan before st first n → suc i ≤ n
     → listening_at sc ear (first + i) ≡ now.Following (core_in sc.sizes ear before st first i (first + i))
     → listening_at sc ear (suc (first + i)) ≡ now.Following (core_in sc.sizes ear before st first (suc i) (suc (first + i)))

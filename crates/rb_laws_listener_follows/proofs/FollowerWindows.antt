@@ -16,7 +16,7 @@ use Rattle.rb_laws_events.proofs.TickWindows.{first_of, here-is, last-is}
 use Rattle.rb_laws_events.proofs.TurnTicks.{no-next, not-yet}
 use Rattle.rb_laws_listener_follows.proofs.FollowerRuns.{IsWindow}
 
--- before the next epoch the state stays
+-- before its next epoch a node's state stays
 stays-in : (sizes : Sizes) (plan : Plan) (st : NodeState) (k : ℕ) → ((x : ℕ) → new_epoch_of plan Biu st ≡ Some x → k < x) → state_at sizes plan Biu st k ≡ st
 stays-in sizes plan st k before = go (new_epoch_of plan Biu st) refl
   where

@@ -53,7 +53,7 @@ record Learns (sc : Scenario) (hands : List HandIn) (ear : Ear) (learned tick : 
   pub begins : FirstBegins sc hands ear learned first
   pub waits : WaitsFirst sc ear tick s first
 
--- it tells that frame
+-- the listener tells the frame after the learned one
 first_tells : (sc : Scenario) (hands : List HandIn) (ear : Ear) (learned tick : ℕ) (s : Search) (l : Learns sc hands ear learned tick s) → TellsFrame sc hands ear (suc learned) l.first.epoch
 first_tells sc hands ear learned tick s l = record {
   tells = λ me i b good in_time.
@@ -66,14 +66,14 @@ first_tells sc hands ear learned tick s l = record {
     next : suc learned ≡ learned + 1
     next = omega arith
 
--- nothing of frames before it
+-- the listener tells nothing of frames up to the learned one
 later_tells : (sc : Scenario) (hands : List HandIn) (ear : Ear) (learned tick : ℕ) (s : Search) (l : Learns sc hands ear learned tick s) → TellsLater sc ear learned
 later_tells sc hands ear learned tick s l = record {
   epochs = λ k e in_time told. let m : l.first.frame ≤ e.frame = none_earlier sc ear tick s l.first l.waits k e in_time told in omega (arith, m, l.learns.frame);
   deliveries = λ k d in_time told. let m : l.first.frame ≤ d.frame = delivers_later sc ear tick s l.first l.waits k d in_time told in omega (arith, m, l.learns.frame);
 }
 
--- it goes through the first window of that frame
+-- the listener goes through the first window of its first frame
 first_at : (sc : Scenario) (hands : List HandIn) (ear : Ear) (learned tick : ℕ) (s : Search) (l : Learns sc hands ear learned tick s) → (last : ℕ) → HoldsTo sc hands ear learned s.lesson.records last
     → suc (moment_before sc (learned + 1) 0 1) ≤ last → IsRunning (moment sc hands (suc (moment_before sc (learned + 1) 0 1))) → l.first.epoch + sc.plan.l ≤ ear.ticks
     → FirstStands sc hands ear learned l.first l.begins
@@ -114,7 +114,7 @@ in_first sc hands ear learned slot records calm =
       running = running_earlier sc hands (suc (moment_before sc (learned + 1) 0 1)) (suc learned * (windows_in sc.sizes + 1) + 3 * slot + 4 - 1) (omega (arith, rows)) calm.complete;
     }
 
--- it closes the windows of its first frame
+-- the listener closes the windows of its first frame
 closes_in_first : (sc : Scenario) (hands : List HandIn) (stands : StandsFor sc hands) (ear : Ear) (learned tick : ℕ) (s : Search) (l : Learns sc hands ear learned tick s)
     → (n : ℕ) (w : Window) → slice_get (windows_of_frame sc.sizes sc.plan) n ≡ Some w → IsCalm sc hands ear learned s.lesson.records (suc learned) w.slot → l.first.epoch + w.last < ear.ticks
     → ClosesAt sc stands.bus ear (suc learned) w.slot w.stage (l.first.epoch + w.last)
@@ -138,7 +138,7 @@ closes_in_first sc hands stands ear learned tick s l (suc n) w is calm in_time =
     (record { law = l.law; few = omega arith; stands = λ ticks. (first_at sc hands ear learned tick s l first.last first.holds first.le first.running (omega (arith, ticks))).stands })
     (first_state sc l.first) (suc n) w (omega arith) is calm in_time
 
--- in its first frame
+-- the listener follows its first frame
 follows_first : (sc : Scenario) (hands : List HandIn) (stands : StandsFor sc hands) (ear : Ear) (learned tick : ℕ) (s : Search) (l : Learns sc hands ear learned tick s)
     → FollowsFrame sc hands stands.bus ear learned s.lesson.records (suc learned) l.first.epoch
 follows_first sc hands stands ear learned tick s l = record {
@@ -153,7 +153,7 @@ follows_first sc hands stands ear learned tick s l = record {
     next : suc learned ≡ learned + 1
     next = omega arith
 
--- in each later one
+-- the listener follows each later frame
 follows_later : (sc : Scenario) (hands : List HandIn) (stands : StandsFor sc hands) (ear : Ear) (learned tick : ℕ) (s : Search) (l : Learns sc hands ear learned tick s) → (d : ℕ)
     → IsReachedWell sc hands ear learned s.lesson.records (suc (suc d + learned)) → (begin : ℕ) × FollowsFrame sc hands stands.bus ear learned s.lesson.records (suc (suc d + learned)) begin
 follows_later sc hands stands ear learned tick s l d reached = (

@@ -139,7 +139,7 @@ pub record Beside (sc : Scenario) (hands : List HandIn) (ear : Ear) (n epoch low
   pub began : IsBetween low (low + sc.plan.p) (time_of ear.clock epoch)
   pub past : 1 ≤ epoch
 
--- the time of an offset of its frame
+-- an offset of the listener's frame comes between its earliest and its latest time
 pub ear_time : (sc : Scenario) (hands : List HandIn) (ear : Ear) (n epoch low : ℕ) (s : Shared) → Beside sc hands ear n epoch low s → (o : ℕ)
     → IsBetween (low + o * shortest_of sc.plan) (low + sc.plan.p + o * tick_of sc.plan) (time_of ear.clock (epoch + o))
 ear_time sc hands ear n epoch low s b o =
@@ -178,7 +178,7 @@ one_more o n g e = let p : (o + 1) * g ≡ n * g = ap (λ x. x * g) e in omega (
 
 -- ---- its own message
 
--- the ticks of window w of the listener's frame
+-- `k` is a tick of window `w` of the listener's frame
 abbrev pub IsTickOf : Scenario → ℕ → ℕ → ℕ → Type 0
 IsTickOf sc epoch w k = (epoch + w * sc.plan.l ≤ k) × (k + 1 ≤ epoch + w * sc.plan.l + sc.plan.l)
 
@@ -356,7 +356,7 @@ not_earlier sc hands n q epoch k below e in_it =
       ]
     ]
 
--- a message of a later window
+-- no message of a later window comes in the listener's window
 not_later : (sc : Scenario) (hands : List HandIn) (ear : Ear) (n epoch low : ℕ) (s : Shared) → Beside sc hands ear n epoch low s → (moment sc hands n).window < 3 * sync_slot_of sc.sizes
     → (j : ℕ) (q : ℕ) (x : Sending) → SendsIn sc hands q j x → n < q
     → (k : ℕ) → IsStamp ear.clock (coming_to sc ear j (moment sc hands q).frame x).time k → IsTickOf sc epoch (moment sc hands n).window k → ⊥

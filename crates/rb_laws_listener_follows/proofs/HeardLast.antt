@@ -45,8 +45,8 @@ same_place size f w g e small =
       ]
     ]
 
--- where the good nodes and the listener would begin the next frame: all that are good at its first
--- moment, from this time on and within p
+-- the listener, and all nodes that are good at the first moment of the next frame, begin that frame
+-- from time `later` on and within p
 pub record NextBegins (sc : Scenario) (hands : List HandIn) (ear : Ear) (frame next_epoch later : ℕ) : Type 0 where
   pub good : (n : ℕ) → (moment sc hands n).frame ≡ frame + 1 → (moment sc hands n).window ≡ 0 → IsRunning (moment sc hands n) → (me : Side) (i : ℕ) (st : NodeState)
       → IsGoodNode sc (moment sc hands n) me i st → IsBetween later (later + sc.plan.p) (time_of (clock_of sc me i) st.epoch)
@@ -118,7 +118,7 @@ begun_at sc hands ear n epoch low s next_epoch later b next q running after me i
 
 -- ---- nothing comes
 
--- the listener's ticks after stage 2 and before its next frame
+-- `k` is a tick of the listener after stage 2 and before its next frame
 pub record IsLate (sc : Scenario) (epoch next_epoch k : ℕ) : Type 0 where
   pub from : epoch + f0_of sc.sizes sc.plan + sc.plan.l + sc.plan.v ≤ k
   pub before : k < next_epoch
@@ -215,7 +215,7 @@ nothing_late sc hands ear n epoch low s next_epoch later b at next second c st n
         its_node : IsGoodNode sc (moment sc hands (faulty.frame * (windows_in sc.sizes + 1) + 3 * faulty.slot + 1 - 1)) faulty.me faulty.i faulty.state
         its_node = good_before_slot sc hands faulty.frame faulty.slot slot_le place faulty.me faulty.i faulty.state faulty.good
 
-        -- from some tick on, and l ticks more
+        -- a tick from `later` on is less than l ticks before the slot, or after its start
         ends : (e : ℕ) → later ≤ time_of (clock_of sc faulty.me faulty.i) e → e + sc.plan.l ≤ faulty.state.epoch + 3 * faulty.slot * sc.plan.l → ⊥
         ends e time le =
             let clock : Steady (shortest_of sc.plan) (drift_of sc.plan) (clock_of sc faulty.me faulty.i) = clock_now sc b.law (moment sc hands q) faulty.me faulty.i faulty.state its_node in

@@ -55,7 +55,7 @@ frame_soon low p f h l v z u d least most skew x t c delays fits c6 sent reached
 
 -- ---- later frames
 
--- the listener's ticks in the first two stages
+-- tick `k` of the listener is before the end of stage 2 of the sync slot
 abbrev pub IsEarly : Scenario → ℕ → ℕ → Type 0
 IsEarly sc epoch k = k + 1 ≤ epoch + f0_of sc.sizes sc.plan + sc.plan.l + sc.plan.v
 
@@ -143,7 +143,7 @@ no_onset sc hands ear n epoch low s b c good faulty k stamp early =
 
 -- ---- stage 2
 
--- when they call there
+-- a good RMU's call in stage 2 is sent between the bounds of that stage
 pub called_between : (sc : Scenario) (hands : List HandIn) → IsLawful sc → (n j : ℕ) (x : Sending) (sent : SendsIn sc hands n j x) (s : Shared) (low : ℕ)
     → (moment sc hands n).window ≡ 3 * sync_slot_of sc.sizes + 1 → Synchronous sc (moment sc hands n) s low → IsBetween (from_2 sc low) (to_2 sc low) (time_of (clock_of sc Rmu j) x.tick)
 called_between sc hands law n j x sent s low at near =
@@ -171,7 +171,7 @@ calls_in_time sc hands ear n epoch low s b at time between k stamp =
       omega (arith, to, last),
     )
 
--- of an RMU that is good there nothing else comes
+-- nothing but its calls comes from an RMU that is good in the sync slot
 pub only_calls : (sc : Scenario) (hands : List HandIn) (ear : Ear) (n epoch low : ℕ) (s : Shared) → Beside sc hands ear n epoch low s → (moment sc hands n).window ≡ 3 * sync_slot_of sc.sizes + 1
     → (c : Coming) (st : NodeState) → IsGoodNode sc (moment sc hands n) Rmu c.from st → is_good sc Rmu c.from (moment sc hands n).frame (sync_slot_of sc.sizes) ≡ true
     → (k : ℕ) → k < ear.ticks → IsHeard ear k c → epoch + (f0_of sc.sizes sc.plan + sc.plan.l) ≤ k → IsEarly sc epoch k → IsOwn sc hands ear n c
@@ -215,7 +215,7 @@ only_calls sc hands ear n epoch low s b at c st node good k in_time heard from e
 
 -- ---- stage 1
 
--- where stage 1 passes nothing of an RMU that is good there comes in it
+-- if stage 1 passes, nothing comes in it from an RMU that is good in the sync slot
 pub nothing_first : (sc : Scenario) (hands : List HandIn) (ear : Ear) (n epoch low : ℕ) (s : Shared) → Beside sc hands ear n epoch low s → (c1 : IsPassedStage sc hands n (moment sc hands n) s 0)
     → next sc (moment sc hands n) ≡ moment sc hands (suc n)
     → (c : Coming) (st : NodeState) → IsGoodNode sc (moment sc hands n) Rmu c.from st → is_good sc Rmu c.from (moment sc hands n).frame (sync_slot_of sc.sizes) ≡ true

@@ -55,7 +55,8 @@ use Rattle.rb_laws_listener_follows.proofs.SyncPasses.{IsInSync, PassesAtSecond,
 
 -- ---- the frame that it is in
 
--- where a stage of the sync slot passes, one that is like the good BIUs is in the frame of the bus
+-- if a stage of the sync slot passes, a state like those of the good BIUs is in the frame of the
+-- bus
 pub record Like (sc : Scenario) (m : Moment) (s : Shared) (st : NodeState) : Type 0 where
   pub frame : st.frame ≡ m.frame
 
@@ -110,11 +111,11 @@ pub record StandsAtTail (sc : Scenario) (hands : List HandIn) (ear : Ear) (frame
   pub none : NoneSeen sc ear frame (suc (suc (suc (3 * sync_slot_of sc.sizes)))) (epoch + tail_start_of sc.sizes sc.plan)
   pub start : epoch + tail_start_of sc.sizes sc.plan ≤ next_epoch
 
--- when the next frame begins at the listener
+-- the tick with which the listener begins its next frame
 abbrev pub next_epoch_of : (sc : Scenario) (hands : List HandIn) (ear : Ear) (frame epoch low : ℕ) (x : StandsAtSecond sc hands ear frame epoch low) → PassesAtSecond sc hands ear frame epoch low x → ℕ
 next_epoch_of sc hands ear frame epoch low x p = p.through.middle + sc.plan.v + sc.plan.z + sc.plan.c
 
--- it stands before stage 3
+-- the listener stands before stage 3 of the sync slot
 pub record StandsAtThird (sc : Scenario) (hands : List HandIn) (ear : Ear) (frame epoch low next_epoch : ℕ) (s : Shared) (st : NodeState) : Type 0 where
   pub later : ℕ
   pub late : StandsLate sc hands ear (suc (suc (sync_moment sc frame))) epoch low s st (f0_of sc.sizes sc.plan + sc.plan.l + sc.plan.v) next_epoch later

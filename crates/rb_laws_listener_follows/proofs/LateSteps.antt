@@ -36,7 +36,7 @@ use Rattle.rb_laws_listener_follows.proofs.FollowerRuns.{ClosesWindow, IsWindow,
 use Rattle.rb_laws_listener_follows.proofs.HeardExact.{Beside}
 use Rattle.rb_laws_listener_follows.proofs.HeardLast.{NextBegins, nothing_late}
 
--- it accuses no RMU directly that is good in the next frame
+-- the listener directly accuses no RMU that is good in the next frame
 abbrev pub SparesNext : Scenario → ℕ → NodeState → Type 0
 SparesNext sc frame st = (j : ℕ) → is_good sc Rmu j (frame + 1) 0 ≡ true → has st.far.direct j ≡ false
 
@@ -68,7 +68,7 @@ pub record IsDeaf (sc : Scenario) (hands : List HandIn) (ear : Ear) (n epoch : �
   pub before : epoch + a + ticks ≤ next_epoch
   pub in_time : epoch + a + ticks ≤ ear.ticks
 
--- with its last tick the listener stands before the tick after it
+-- with the last of these ticks the listener stands before the tick after it
 pub record PassesLate (sc : Scenario) (hands : List HandIn) (ear : Ear) (n epoch : ℕ) (st : NodeState) (a ticks next_epoch : ℕ) : Type 0 where
   pub closes : ClosesWindow sc ear st st (epoch + a) (ticks - 1)
   pub now : NodeState

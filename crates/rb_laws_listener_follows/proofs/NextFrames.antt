@@ -44,8 +44,8 @@ to_window sc hands ear learned records f last w epoch low h x (suc d) few runnin
 
 -- ---- to the next frame
 
--- when the next frame begins at the listener and at the good nodes. Before stage 3 of the sync slot
--- the listener knows that. If the listener has ticks so far, it stands before its first window
+-- the listener and the good nodes begin the next frame together. Before stage 3 of the sync slot
+-- the listener knows when. If it has ticks so far, it stands before the first window of that frame
 pub record NextFrame (sc : Scenario) (hands : List HandIn) (ear : Ear) (frame epoch : ℕ) : Type 0 where
   pub next_epoch : ℕ
   pub low : ℕ
@@ -56,7 +56,7 @@ pub record NextFrame (sc : Scenario) (hands : List HandIn) (ear : Ear) (frame ep
   pub third_known : new_epoch_of sc.plan Biu third ≡ Some next_epoch
   pub stands : next_epoch ≤ ear.ticks → StandsAt sc hands ear (suc frame) 0 next_epoch low
 
--- it is so where the listener has ticks up to the end of stage 2 of the sync slot
+-- `NextFrame` holds if the listener has ticks up to the end of stage 2 of the sync slot
 pub next_frame_of : (sc : Scenario) (hands : List HandIn) (ear : Ear) (learned : ℕ) (records : List Sense) (f last w epoch low : ℕ) → IsHeldTo sc hands ear learned records f last
     → StandsAt sc hands ear (suc f) w epoch low → w ≤ 3 * sync_slot_of sc.sizes → IsComplete sc hands (suc f) (sync_slot_of sc.sizes) → suc (suc (sync_moment sc (suc f))) ≤ last
     → epoch + (f0_of sc.sizes sc.plan + sc.plan.l) + sc.plan.v ≤ ear.ticks → NextFrame sc hands ear (suc f) epoch

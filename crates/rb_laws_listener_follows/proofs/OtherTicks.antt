@@ -57,7 +57,7 @@ found_at p (y ∷ ys) x h = by (p y) h (λ e. found_at p ys x e)
     by true e rest = record { n = 0; there = e }
     by false e rest = let f : FoundAt ys x = rest e in record { n = suc f.n; there = f.there }
 
--- where a state of the frame closes a stage with a tick, it is that stage's
+-- if a state of the frame closes a stage with a tick, it is a tick of that stage
 its_tick : (sizes : Sizes) (plan : Plan) (st : NodeState) (k frame epoch : ℕ) (x : Closed) → st.frame ≡ frame → st.epoch ≡ epoch → is_last sizes plan Biu st k ≡ true
     → x.place ≡ record { frame = st.frame; slot = (window_here sizes plan Biu st k).slot; stage = (window_here sizes plan Biu st k).stage } → x.place.stage ≤ 3
     → IsItsTick sizes plan frame epoch k x
@@ -92,7 +92,7 @@ closed_by sizes plan c st x is =
 
 -- ---- all ticks
 
--- it follows only after the first epoch
+-- the listener follows only after its first epoch
 follows_after : (sc : Scenario) (ear : Ear) (tick : ℕ) (s : Search) (first : First) → WaitsFirst sc ear tick s first → (k : ℕ) (core : Core) → k < ear.ticks → listening_at sc ear k ≡ now.Following core → first.epoch < k
 follows_after sc ear tick s first w k core in_time here = elim (cases_lt first.epoch k) [ inl less ↦ less | inr early ↦ absurd (by early (cases_lt tick k)) ]
   where
@@ -104,7 +104,7 @@ follows_after sc ear tick s first w k core in_time here = elim (cases_lt first.e
         let both : now.Searching s ≡ now.Following f.core = sym w.searching ∙ f.is in
         cc
 
--- with which tick it closes a stage of a frame that it tells with one tick
+-- a frame that is told with one tick fixes the tick with which each of its stages is closed
 pub closes_only : (sc : Scenario) (ear : Ear) (tick : ℕ) (s : Search) (first : First) → WaitsFirst sc ear tick s first → (frame begin : ℕ)
     → ((k : ℕ) (e : Epoch) → k < ear.ticks → (told_at sc ear k).epoch ≡ Some e → e.frame ≡ frame → k ≡ begin)
     → (k : ℕ) (core : Core) (x : Closed) → k < ear.ticks → listening_at sc ear k ≡ now.Following core → (follow sc.sizes sc.plan core).closed ≡ Some x

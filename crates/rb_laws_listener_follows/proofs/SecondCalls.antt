@@ -39,8 +39,8 @@ use Rattle.rb_laws_listener_follows.proofs.HeardSync.{called_between, calls_in_t
 
 -- ---- a sole message
 
--- where all that comes of RMU j with the stamps of these ticks is one message of it while it was
--- good, this is all there is
+-- if all that comes from RMU `j` with the stamps of these ticks is one message that it sent while
+-- it was good, this is its only arrival
 pub sole_source : (sc : Scenario) (hands : List HandIn) (ear : Ear) → IsEar sc ear → HearsTheRun sc hands ear → (first ticks j k : ℕ) (c : Coming) → IsOfGood sc hands ear c → c.from ≡ j → j < sc.sizes.rmus
     → first + ticks ≤ ear.ticks → first ≤ k → k < first + ticks → IsStamp ear.clock c.time k → IsHeard ear k c
     → ((i : ℕ) → i < ticks → (nth : ℕ) (d : Coming) → slice_get (ear.heard (first + i)) nth ≡ Some d → d.from ≡ j → d ≡ c)

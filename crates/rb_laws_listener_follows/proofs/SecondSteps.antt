@@ -49,7 +49,8 @@ use Rattle.rb_laws_listener_follows.proofs.SecondCalls.{TakesCall, taken_second,
 
 -- ---- what it takes
 
--- these are the times of what it takes: that of a good RMU's call, and else one with the stamp
+-- `time` has the times of what the listener takes: that of a good RMU's call, and else one with the
+-- stamp
 pub record HasTimes (sc : Scenario) (hands : List HandIn) (ear : Ear) (n epoch : ℕ) (st : NodeState) (time : ℕ → ℕ) : Type 0 where
   pub stamped : (j k : ℕ) → taken_second sc ear epoch st j ≡ Some k → (1 ≤ k) × IsStamp ear.clock (time j) k
   pub of_good : (j tick : ℕ) → (t : TakesCall sc hands ear n epoch st j tick) → time j ≡ (coming_to sc ear j (moment sc hands n).frame t.sending).time
@@ -110,14 +111,14 @@ second_span sc st w at some = record {
   some = some;
 }
 
--- it keeps the middle of what it took
+-- stage 2 keeps the middle of what was taken
 keeps_second : (sizes : Sizes) (st : NodeState) (first middle : ℕ) (sense : ℕ → Sense) → middle_of (present (each_node (taken_of stamp_in st.far (expects_call Biu st 2) sense))) ≡ Some middle
     → (close_sync sizes Biu st 2 first sense).state.k2 ≡ Some middle
 unfolding close_sync sync_outcome_of
 keeps_second sizes st first middle sense found = ap (λ o. Some (unwrap_or o first)) found
 
--- with the last tick of stage 2 it knows when its next frame begins, and its middle is near those
--- of the good BIUs
+-- with the last tick of stage 2 the listener knows when its next frame begins, and its middle is
+-- near those of the good BIUs
 pub record PassesSecond (sc : Scenario) (hands : List HandIn) (ear : Ear) (n epoch : ℕ) (st : NodeState) : Type 0 where
   pub closes : ClosesWindow sc ear st st (epoch + (f0_of sc.sizes sc.plan + sc.plan.l)) (sc.plan.v - 1)
   pub now : NodeState

@@ -46,7 +46,7 @@ following_verdict sc ear learned frame records stages later h =
     subst (λ (b : Bool). verdict_with (λ window s. if b then seen_learned sc ear learned records window s else seen_closed sc ear frame (seen_by sc ear frame window ear.ticks)) stages ≡ None)
     (more-differs frame learned later) h
 
--- where it holds up to a moment after the first of a frame, it holds there of what the listener
+-- if the premise holds up to a moment after the first of a frame, it holds for what the listener
 -- closed
 pub holds_following : (sc : Scenario) (hands : List HandIn) (ear : Ear) (learned : ℕ) (records : List Sense) (last : ℕ) → HoldsTo sc hands ear learned records last
     → (k frame : ℕ) → k ≤ last → (moment sc hands k).frame ≡ frame → learned < frame → 1 ≤ (moment sc hands k).window
@@ -79,7 +79,7 @@ most_now sc hands ear law run n running =
 same_place : (j : ℕ) → 0 + j ≡ j
 same_place j = omega arith
 
--- of a window below the sync slot
+-- below the sync slot the listener sees the value that it takes
 pub sees_values : (sc : Scenario) (ear : Ear) (frame slot stage first : ℕ) (st : NodeState) (sense : ℕ → Sense) → slot < sync_slot_of sc.sizes → (j : ℕ) → j < 16
     → timed_see sc ear frame j (get_or (closed_by sc slot stage first st sense).closed.sees j Nothing) ≡ see_value (take_at sc.sizes Biu st slot stage sense j)
 sees_values sc ear frame slot stage first st sense below j small =

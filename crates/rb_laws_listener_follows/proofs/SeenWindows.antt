@@ -35,7 +35,7 @@ quiet_act sizes plan c st quiet = by (is_last sizes plan Biu st c.had) quiet
     by true h = cc
     by false h = refl
 
--- before the last tick of a window nothing is closed
+-- before the last tick of a window the listener closes nothing
 pub closes_nothing : (sc : Scenario) (ear : Ear) (before st : NodeState) (first n : ℕ) → IsWindow sc.sizes sc.plan before st first n → Stands sc ear before first
     → (i : ℕ) → i < n → closing_at sc ear (first + i) ≡ None
 closes_nothing sc ear before st first n w s i lt =
@@ -44,7 +44,7 @@ closes_nothing sc ear before st first n w s i lt =
     ∙ ap (λ a. a.closed) (acts_by sc.sizes sc.plan c st (omega (arith, w.in_time)) (state-in sc.sizes sc.plan before st first n i (first + i) w refl (omega arith)))
     ∙ quiet_act sc.sizes sc.plan c st (w.quiet (first + i) (omega arith) (omega arith))
 
--- with its last tick the window is
+-- with the last tick of a window the listener closes it
 pub closes_last : (sc : Scenario) (ear : Ear) (before st : NodeState) (first n : ℕ) → ClosesWindow sc ear before st first n
     → closing_at sc ear (first + n) ≡ Some (closing sc ear st first n).closed
 closes_last sc ear before st first n c = ap (closing_in sc) c.here ∙ c.closed
@@ -84,14 +84,14 @@ seen_quiet sc ear frame window first none (suc n) quiet =
 abbrev pub IsFrom : ℕ → ℕ → ℕ → ℕ → Type 0
 IsFrom frame w g v = (frame < g) ⊎ ((frame ≡ g) × (w ≤ v))
 
--- up to this tick none of these was closed
+-- up to tick `k` no window from window `w` of the frame on was closed
 abbrev pub NoneSeen : Scenario → Ear → ℕ → ℕ → ℕ → Type 0
 NoneSeen sc ear frame w k = (g v : ℕ) → IsFrom frame w g v → seen_by sc ear g v k ≡ None
 
 three_tests : (a b c : Bool) → a ≡ true → b ≡ true → c ≡ true → (a && b && c) ≡ true
 three_tests a b c p q r = rw (p, q, r) refl
 
--- window w of the frame, by its place
+-- `c` has the place of window `w` of the frame
 abbrev pub IsPlaceOf : Closed → ℕ → ℕ → Type 0
 IsPlaceOf c frame w = c.place ≡ record { frame = frame; slot = w / 3; stage = w % 3 + 1 }
 
@@ -100,7 +100,7 @@ is_this c frame w is =
     three_tests (c.place.frame == frame) (c.place.slot == w / 3) (c.place.stage == w % 3 + 1) (eq-eqb c.place.frame frame (ap (λ p. p.frame) is))
     (eq-eqb c.place.slot (w / 3) (ap (λ p. p.slot) is)) (eq-eqb c.place.stage (w % 3 + 1) (ap (λ p. p.stage) is))
 
--- it is no other
+-- a later window is not window `w` of the frame
 is_other : (c : Closed) (frame w g v : ℕ) → IsPlaceOf c frame w → IsFrom frame (w + 1) g v → is_window g v (Some c) ≡ false
 is_other c frame w g v is later = false_from_ne_true (is_window g v (Some c)) (λ h. differs h later)
   where
@@ -144,7 +144,7 @@ sees_window sc ear before st first n frame w window stands closes none place = r
     before_too g v (inl less) = inl less
     before_too g v (inr same) = inr (same.0, omega (arith, same.1))
 
--- all of a later frame come after all of this one
+-- if no window from window `w` of a frame on was closed, none of the next frame was
 pub none_later : (sc : Scenario) (ear : Ear) (frame w k : ℕ) → NoneSeen sc ear frame w k → NoneSeen sc ear (frame + 1) 0 k
 none_later sc ear frame w k none g v (inl less) = none g v (inl (omega (arith, less)))
 none_later sc ear frame w k none g v (inr same) = none g v (inl (omega (arith, same.0)))

@@ -55,7 +55,7 @@ carried sc hands n m s slot (suc (suc (suc q))) c = let small : suc (suc (suc q)
 abbrev pub inbox_of : Scenario → Ear → ℕ → ℕ → List (ℕ × Arrival)
 inbox_of sc ear epoch w = collected sc.sizes ear.heard (epoch + w * sc.plan.l) sc.plan.l
 
--- what a node in this state senses of it
+-- what a node in the state `st` senses from source `j`
 abbrev pub sense_heard : Scenario → Ear → ℕ → ℕ → NodeState → ℕ → ℕ → ℕ → Sense
 sense_heard sc ear epoch w st slot stage j = sense_of (expect_of sc.sizes sc.plan.version st slot stage) (of_source (inbox_of sc ear epoch w) j)
 

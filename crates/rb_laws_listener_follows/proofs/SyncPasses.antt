@@ -40,7 +40,7 @@ use Rattle.rb_laws_listener_follows.proofs.SeenPremise.{holds_following, most_no
 use Rattle.rb_laws_listener_follows.proofs.SeenWindows.{IsPlaceOf, NoneSeen, SeesWindow, seen_stays, sees_window}
 use Rattle.rb_laws_listener_follows.proofs.SyncRuns.{held_in_sync, stands_second}
 
--- the moment before a stage of the sync slot of a frame, or before its tail
+-- moment `k` is before stage q + 1 of a frame's sync slot, or before its tail
 pub record IsInSync (sc : Scenario) (hands : List HandIn) (frame k q : ℕ) : Type 0 where
   pub window : (moment sc hands k).window ≡ 3 * sync_slot_of sc.sizes + q
   pub frame_is : (moment sc hands k).frame ≡ frame
@@ -195,7 +195,7 @@ sees_second : (sizes : Sizes) (st : NodeState) (first : ℕ) (sense : ℕ → Se
 unfolding close_sync sync_outcome_of
 sees_second sizes st first sense = refl
 
--- it goes through stage 2, and has closed no later window
+-- the listener goes through stage 2 of the sync slot, and has closed no later window
 pub record PassesAtSecond (sc : Scenario) (hands : List HandIn) (ear : Ear) (frame epoch low : ℕ) (x : StandsAtSecond sc hands ear frame epoch low) : Type 0 where
   pub through : PassesSecond sc hands ear (suc (sync_moment sc frame)) epoch x.st
   pub none : NoneSeen sc ear frame (suc (suc (3 * sync_slot_of sc.sizes))) (epoch + (f0_of sc.sizes sc.plan + sc.plan.l + sc.plan.v))

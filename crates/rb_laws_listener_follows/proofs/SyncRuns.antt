@@ -30,7 +30,7 @@ use Rattle.rb_laws_listener_follows.proofs.ExactSteps.{Abides}
 use Rattle.rb_laws_listener_follows.proofs.FirstCalls.{PassesFirst}
 use Rattle.rb_laws_listener_follows.proofs.SecondSteps.{StandsSecond}
 
--- where a stage of the sync slot passes, a listener that keeps up holds what all good nodes do
+-- if a stage of the sync slot passes, a listener that keeps up holds what all good nodes do
 pub held_like : (sc : Scenario) (hands : List HandIn) (n q : ℕ) (s : Shared) → IsPassedStage sc hands n (moment sc hands n) s q → (st : NodeState) → IsLike sc (moment sc hands n) st → Held sc (moment sc hands n) s st
 held_like sc hands n q s c st like =
     let m : Moment = moment sc hands n in

@@ -51,8 +51,8 @@ unfolding heed
 tells_close sc ear k core x is closed =
     ap (λ l. (heed sc.sizes sc.plan l).heed.delivered) is ∙ ap (option_and_then (λ (c : Closed). c.delivered)) closed
 
--- where it begins the frame in a state with the trusted nodes of another one, it tells what a node
--- in that state does
+-- if the listener begins a frame in a state with the trusted nodes of another one, it tells what a
+-- node in that state does
 pub tells_frame : (sc : Scenario) (ear : Ear) (frame tick : ℕ) (st : NodeState) → (told_at sc ear tick).epoch ≡ epoch_at sc.sizes Biu st tick → st.frame ≡ frame → st.epoch ≡ tick
     → (me : Side) (b : NodeState) → st.near ≡ trusted_of Biu me b → st.far.trusted ≡ trusted_of Rmu me b → (told_at sc ear tick).epoch ≡ Some (epoch_with sc frame tick me b)
 tells_frame sc ear frame tick st told frame_is epoch_is me b near far =

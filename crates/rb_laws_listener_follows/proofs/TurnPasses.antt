@@ -72,7 +72,7 @@ tail_span sc st w epoch next_epoch ticks at epoch_is known end some = record {
     last : (a e : ℕ) → e + a + ticks ≡ next_epoch → next_epoch - e - 1 ≡ a + ticks - 1
     last a e h = omega (arith, h)
 
--- at the end of it
+-- at the end of the tail the listener is in a state like those of the good BIUs
 record AfterTail (sc : Scenario) (hands : List HandIn) (ear : Ear) (n epoch next_epoch frame : ℕ) : Type 0 where
   pub a : ℕ
   pub end : epoch + a ≡ next_epoch

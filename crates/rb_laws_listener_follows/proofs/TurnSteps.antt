@@ -34,7 +34,7 @@ pub turned-unknown : (sizes : Sizes) (plan : Plan) (epoch : ℕ) (st : NodeState
 unfolding turn
 turned-unknown sizes plan epoch st = refl
 
--- at the end of the frame it stands before the first tick of the next one
+-- at the end of a frame the listener stands before the first tick of the next one
 pub turns_next : (sc : Scenario) (hands : List HandIn) (ear : Ear) (n epoch low : ℕ) (s : Shared) (st : NodeState) (a next_epoch later : ℕ)
     → (x : StandsLate sc hands ear n epoch low s st a next_epoch later) → epoch + a ≡ next_epoch → (moment sc hands n).window ≡ windows_in sc.sizes
     → next_frame sc hands (moment sc hands n) ≡ moment sc hands (suc n) → IsRunning (moment sc hands (suc n))

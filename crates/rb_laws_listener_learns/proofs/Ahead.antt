@@ -142,7 +142,7 @@ finds-first sc hands law ear is run learned tick s decides = record {
     l : (o : ℕ) × HasLesson sc hands ear learned tick o s
     l = has-lesson sc hands law ear is run learned tick s decides
 
-    -- a good RMU's call
+    -- the number of the RMU that called
     caller : ℕ
     caller = l.1.fixed.call.call.j
 

@@ -26,7 +26,7 @@ use Rattle.rb_laws_listener_learns.proofs.Meeting.{meet}
 use Rattle.rb_laws_listener_learns.proofs.Seeks.{good-inside, good-rmus, good-set}
 use Rattle.rb_laws_listener_learns.proofs.TrustedSets.{GoodThere, SomeGood, good-there}
 
--- where most RMUs are good in the whole run, one is
+-- if most RMUs are good in the whole run, some RMU is
 some-good : (sc : Scenario) (hands : List HandIn) → IsLawful sc → are_most sc.sizes (set_of (is_always_good sc hands)) ≡ true → SomeGood sc hands
 unfolding good-set
 some-good sc hands law most = by (meet sc.sizes (good-set sc hands) (good-set sc hands) law.sizes.most_rmus (good-inside sc hands) (good-inside sc hands) most most)
@@ -76,7 +76,7 @@ may-speak sc hands law most clock frame epoch b slot le running c onset late = r
     near : LieWithin sc.plan.p (time_of clock epoch) (time_in_frame sc Rmu g.j was.st 0)
     near = b.near Rmu g.j was.st (record { good = always-good-in sc hands law g.j frame 0 began g.good; state = was.was.there })
 
-    -- the good RMU's clock, and this one, up to the slot
+    -- up to the slot the good RMU's clock is at most this late
     to : time_of (clock_of sc Rmu g.j) (was.st.epoch + 0 + offset) ≤ time_in_frame sc Rmu g.j was.st 0 + offset * (shortest_of sc.plan + drift_of sc.plan)
     to = (clock_now sc law (before_slot sc hands frame slot) Rmu g.j there.st there.node).not_late (was.st.epoch + 0) offset
 

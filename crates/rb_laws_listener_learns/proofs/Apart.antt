@@ -66,7 +66,8 @@ next-at sc hands n k agreed before me i now h =
       later = λ less. omega (arith, w.later (omega (arith, less, f)), e);
     }
 
--- where the frame was the same the epoch was, and else it was the earlier by as much
+-- if the frame was the same, the epoch was the same, and if it was earlier, the epoch was earlier
+-- by at least the tail
 once-more : (first then_at : ℕ) (old mid now tail : ℕ) → first ≤ then_at → (first ≡ then_at → old ≡ mid) → (first < then_at → old + tail ≤ mid) → mid + tail ≤ now → old + tail ≤ now
 once-more first then_at old mid now tail le same later more =
     elim (cases_lt first then_at) [
@@ -131,7 +132,7 @@ later-moment size f w g v m n at_m at_n less small =
     let le : (f + 1) * size ≤ g * size = mul-le-mul_right size (omega (arith, less)) in
     omega (arith, at_m, at_n, le, small)
 
--- the first times of the two frames
+-- the first time of the later frame is later by at least the shortest time up to the tail, less p
 lows : (sc : Scenario) (hands : List HandIn) → IsLawful sc → (m n j : ℕ) (t : Sending) → (moment sc hands n).window ≡ 3 * sync_slot_of sc.sizes + 1
     → (moment sc hands m).window ≡ 3 * sync_slot_of sc.sizes + 1 → (moment sc hands m).frame < (moment sc hands n).frame → SendsIn sc hands n j t
     → (a : IsSynchronous sc hands m) (b : IsSynchronous sc hands n) → a.low + tail_start_of sc.sizes sc.plan * shortest_of sc.plan ≤ b.low + sc.plan.p

@@ -52,7 +52,7 @@ pub record BeginsFrom (sc : Scenario) (me : Side) (i : ℕ) (st : NodeState) (ti
   pub known : new_epoch_of sc.plan me st ≡ Some tick
   pub from : time ≤ time_of (clock_of sc me i) tick
 
--- after stage 3 all good nodes do
+-- after stage 3 all good nodes begin the next frame from this time on
 after-third : (sc : Scenario) (hands : List HandIn) (n : ℕ) (m : Moment) (s : Shared) (low : ℕ) → IsPassedStage sc hands n m s 2 → Synchronous sc m s low
     → (me : Side) (i : ℕ) (now : NodeState) → IsGoodNode sc (next sc m) me i now → BeginsFrom sc me i now (begins_from sc low)
 after-third sc hands n m s low c sync = by_kind
@@ -92,8 +92,8 @@ after-third sc hands n m s low c sync = by_kind
           from = omega (arith, k.not_early, clock.not_early k.tick sc.plan.z);
         }
 
--- where moment n is before stage 2 of the sync slot, all that are good at the next frame's first
--- moment begin it so late
+-- if moment `n` is before stage 2 of the sync slot, all nodes that are good at the first moment of
+-- the next frame begin it from this time on
 pub begins-later : (sc : Scenario) (hands : List HandIn) → IsLawful sc → (n : ℕ) (first : IsSynchronous sc hands n) → (moment sc hands n).window ≡ 3 * sync_slot_of sc.sizes + 1
     → IsRunning (moment sc hands (suc (suc (suc (suc n))))) → (me : Side) (i : ℕ) (now : NodeState) → IsGoodNode sc (moment sc hands (suc (suc (suc (suc n))))) me i now
     → begins_from sc first.low ≤ time_of (clock_of sc me i) now.epoch

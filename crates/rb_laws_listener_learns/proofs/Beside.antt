@@ -110,7 +110,7 @@ sends-in n s h = go (m.book.ended || not (nat_lt m.window (windows_in two_frames
         by (slice_get m.nodes.rmus 0) refl (or_neither_first m.book.ended (not (nat_lt m.window (windows_in two_frames.sizes))) e)
         (ltb-true m.window (windows_in two_frames.sizes) (not-false (nat_lt m.window (windows_in two_frames.sizes)) (or_neither_second m.book.ended (not (nat_lt m.window (windows_in two_frames.sizes))) e))) h
 
--- the one RMU
+-- only RMU 0 sends
 first-rmu : (n j : ℕ) (s : Sending) → SendsIn two_frames [] n j s → j ≡ 0
 first-rmu n j s sent =
     let less : j < 1 = ltb-true j 1 (and_first (nat_lt j 1) (is_before (get_or two_frames.rmu_onsets j None) (moment two_frames [] n).frame _) sent.good.1) in omega arith
@@ -286,7 +286,7 @@ decides = record { in_time = lit< tt; searching = found-so 463 searches; decidin
 
 -- The premise.
 
--- in this moment the verdict with the listener tells no breach
+-- the verdict with the listener finds no breach in moment `m`
 abbrev is_calm : List Sense → Moment → Bool
 is_calm records m =
     not (nat_le 1 m.frame) || (not (nat_le 1 m.window) || is_none (verdict_with (seen_in two_frames ear 1 records m.frame) m.book.stages))
@@ -318,7 +318,7 @@ by-tests a b o h k e =
     go : (o : Option Cause) → (not true || (not (nat_le 1 b) || is_none o)) ≡ true → nat_le 1 b ≡ true → o ≡ None
     go o e second = last o (ap (λ (c : Bool). not c || is_none o) (sym second) ∙ e)
 
--- it holds to the start of frame 2
+-- the premise with the listener holds up to the start of frame 2
 pub holds-on : HoldsTo two_frames [] ear 1 decided.lesson.records 34
 holds-on n le frame window =
     by-tests (moment two_frames [] n).frame (moment two_frames [] n).window

@@ -14,7 +14,8 @@ hears-first : (sc : Scenario) (cs : List Coming) (rest : List CoreEvent) (l : Li
 hears-first sc [] rest l = refl
 hears-first sc (c ∷ cs) rest l = hears-first sc cs rest (hear sc.sizes sc.plan c.from c.bytes l)
 
--- from any tick on, where the listener is what it is before this tick's stamp
+-- a listener that is fed the events from tick `k` on tells what the run's listener tells from there
+-- on
 fed : (sc : Scenario) (ear : Ear) (word : ℕ → ℕ) (n k : ℕ) (l : Listening) → hears sc (ear.heard k) l ≡ listening_at sc ear k
     → told_of sc.sizes sc.plan l (events_from ear word k n) ≡ told_from sc ear k n
 fed sc ear word zero k l at = refl

@@ -64,7 +64,7 @@ judged sc m below on =
 
 -- A frame after the first.
 
--- its first moment
+-- the number of a frame's first moment
 abbrev pub first_of_frame : Scenario → ℕ → ℕ
 first_of_frame sc frame = frame * (windows_in sc.sizes + 1) + 3 * 0 + 1 - 1
 
@@ -76,7 +76,7 @@ begun-none : (sc : Scenario) (hands : List HandIn) (m : Moment) → m.book.ended
 unfolding begin_frame
 begun-none sc hands m open_book = frame-stages sc (m.frame + 1) _ m.book open_book
 
--- the moment before window w of the frame
+-- the moment before window `w` of the frame has `w` judged stages
 pub record IsAtWindow (sc : Scenario) (hands : List HandIn) (frame w : ℕ) : Type 0 where
   pub window_is : (moment sc hands (w + first_of_frame sc frame)).window ≡ w
   pub frame_is : (moment sc hands (w + first_of_frame sc frame)).frame ≡ frame
@@ -98,7 +98,7 @@ first-window sc hands law f complete =
     tail-window : (sc : Scenario) (hands : List HandIn) → IsLawful sc → (f : ℕ) → IsComplete sc hands f (sync_slot_of sc.sizes) → (after_slot sc hands f (sync_slot_of sc.sizes)).window ≡ 3 * sync_slot_of sc.sizes + 3
     tail-window sc hands law f complete = (placed sc hands law f (sync_slot_of sc.sizes) 4 (omega arith) (omega arith) (omega arith) complete).window_is
 
--- a step through a window below the tail
+-- the step of moment `k` goes through a window below the tail
 pub record IsStepped (sc : Scenario) (hands : List HandIn) (k : ℕ) : Type 0 where
   pub is : moment sc hands (suc k) ≡ next sc (moment sc hands k)
   pub judged : IsJudged sc (moment sc hands k)
@@ -174,7 +174,7 @@ told-now sc m slot stage ws p trusted all none kind = go (present (in_order (row
         absurd (nobody_trusted (λ j. is_good sc Biu j p.frame p.slot) (omega (arith, nobody.most Biu)))
     go (r ∷ rs) is = ap (trusted_by kind) is ∙ first_row_trusts sc m slot stage ws trusted all r rs is kind
 
--- after it a trusted node that is not good is suspect
+-- after the last stage of a frame a trusted node that is not good is suspect
 pub last-suspects : (sc : Scenario) (hands : List HandIn) → IsLawful sc → (k : ℕ) → (moment sc hands k).window ≡ 3 * sync_slot_of sc.sizes + 2 → IsRunning (moment sc hands (suc k)) → (kind : Side) (j : ℕ) → j < 16
     → (trusted : Side → ℕ) → ((me : Side) (i : ℕ) (st : NodeState) → IsGoodNode sc (moment sc hands k) me i st → (side : Side) → trusted_of side me st ≡ trusted side)
     → has (trusted kind) j ≡ true → is_good sc kind j (moment sc hands k).frame (sync_slot_of sc.sizes) ≡ false → is_suspect kind (moment sc hands (suc k)).book.stages j ≡ true

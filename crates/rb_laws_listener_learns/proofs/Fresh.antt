@@ -140,7 +140,7 @@ always-good-in sc hands law j frame slot running good =
         (not-later (windows_in sc.sizes + 1) (sync_slot_of sc.sizes) onset.0 onset.1 frame slot (omega arith) (onset-in sc law j onset.0 onset.1 (always-counts sc hands j good) is) (not-true (is_before (Some onset) frame slot) later)) running in
         let both : true ≡ false = sym (ap not began) ∙ never in cc))
 
--- in the slot of each moment of the run, and in those before it in its frame
+-- an RMU that is good in the whole run is good up to the slot of each moment of the run
 pub always-good-at : (sc : Scenario) (hands : List HandIn) → IsLawful sc → (j n slot : ℕ) → IsRunning (moment sc hands n) → 3 * slot ≤ (moment sc hands n).window
     → is_always_good sc hands j ≡ true → is_good sc Rmu j (moment sc hands n).frame slot ≡ true
 always-good-at sc hands law j n slot running le good =
@@ -207,7 +207,7 @@ good-in-pass sc hands shape most newest frame inside b =
           there = in-set (reach_of sc.plan) b.call.frame b.call.at newest c.at below (and_second (has (good-set sc hands) c.at) (has (calling (reach_of sc.plan) b.call.frame b.call.at newest) c.at) c.passes);
         }
 
--- where a call makes a pass that was not there
+-- if a call makes a pass that was not there, `IsSoon` holds for it
 pub pass-is-soon : (sc : Scenario) (hands : List HandIn) (ear : Ear) → IsShape sc.sizes → are_most sc.sizes (set_of (is_always_good sc hands)) ≡ true → (k from q : ℕ) (call : Call)
     → (newest : List (Option Call)) → from < length newest → call.at ≡ k → AreOfRmus sc.sizes newest → AreKnown sc hands ear k (slice_set newest from (Some call))
     → (pass_of sc.sizes sc.plan newest ≡ Some q → ⊥) → pass_of sc.sizes sc.plan (slice_set newest from (Some call)) ≡ Some q → IsSoon sc hands ear q k
@@ -254,7 +254,7 @@ called-of : (newest : List (Option Call)) (q j : ℕ) (o : Option Call) → get_
 called-of newest q j None e h = cc
 called-of newest q j (Some c) e h = record { call = c; there = e; frame_is = eqb-true c.frame q h }
 
--- where none is missing there is a pass
+-- if the call of no good RMU is missing, there is a pass
 none-missing : (sc : Scenario) (hands : List HandIn) → IsLawful sc → (ear : Ear) → IsEar sc ear → are_most sc.sizes (set_of (is_always_good sc hands)) ≡ true → (k q : ℕ) (newest : List (Option Call))
     → AreKnown sc hands ear k newest → (i : ℕ) → is_always_good sc hands i ≡ true → ((j : ℕ) → is_always_good sc hands j ≡ true → HasCalled newest q j)
     → pass_of sc.sizes sc.plan newest ≡ Some q

@@ -121,7 +121,7 @@ all-last sc hands law n (suc d) running same =
           absurd (omega (arith, same, now, ap (λ m. m.frame) turn.1, turned-frame sc hands (moment sc hands (d + n)), frames-rise sc hands n d open_before))
     ])
 
--- from any moment of the frame to a later one
+-- `AllLast` holds from a moment of a frame to each later one of the frame
 pub lasts-to : (sc : Scenario) (hands : List HandIn) → IsLawful sc → (n k : ℕ) → n ≤ k → IsRunning (moment sc hands k) → (moment sc hands k).frame ≡ (moment sc hands n).frame → AllLast sc hands n k
 lasts-to sc hands law n k le running same =
     let e : (k - n) + n ≡ k = omega (arith, le) in

@@ -34,7 +34,7 @@ below-end (y ∷ ys) zero (suc n) x is none = omega arith
 below-end (y ∷ ys) (suc i) zero x is none = cc
 below-end (y ∷ ys) (suc i) (suc n) x is none = omega (arith, below-end ys i n x is none)
 
--- where all of a stamp has come, what came with it or before is earlier
+-- once all messages of a stamp have come, a message with that stamp or before is earlier
 pub whole-earlier : (ear : Ear) (at nth k n : ℕ) (c : Coming) → slice_get (ear.heard at) nth ≡ Some c → slice_get (ear.heard k) n ≡ None → at ≤ k → IsEarlier at nth k n
 whole-earlier ear at nth k n c there whole le =
     elim (cases_lt at k) [
@@ -108,7 +108,7 @@ no-call sc ear k n s none h = record {
       ];
 }
 
--- it is one
+-- a call keeps `IsLatest`
 call-latest : (sc : Scenario) (ear : Ear) (k n from : ℕ) (m : Message) (s : Search) → IsShape sc.sizes → from < sc.sizes.rmus → ((j : ℕ) → IsCallAt sc ear k n j → j ≡ from) → IsLatest sc ear k n s
     → IsLatest sc ear k (suc n) (with_call sc.sizes from m s)
 call-latest sc ear k n from m s shape within only h = record {

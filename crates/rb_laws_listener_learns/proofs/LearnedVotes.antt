@@ -117,8 +117,7 @@ if-none : (b : Bool) (o : Option Heard) → is_some (if b then o else None) ≡ 
 if-none true o h = refl
 if-none false o h = cc
 
--- where the RMUs that are good in the whole run are recorded with one value, the listener votes for
--- it
+-- if the RMUs that are good in the whole run are recorded with one value, the listener votes for it
 pub votes-for : (sc : Scenario) (hands : List HandIn) → IsLawful sc → are_most sc.sizes (set_of (is_always_good sc hands)) ≡ true → (records : List Sense) (slot : ℕ) (value : Heard)
     → ((j : ℕ) → is_always_good sc hands j ≡ true → has (trusted_rmus sc.sizes records) j ≡ true) → ((j : ℕ) → is_always_good sc hands j ≡ true → value_in (record_of records slot j) ≡ Some value)
     → vote_on records (trusted_rmus sc.sizes records) slot ≡ value

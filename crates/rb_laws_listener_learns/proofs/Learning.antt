@@ -56,7 +56,7 @@ pub record LearnsFrom (sc : Scenario) (hands : List HandIn) (ear : Ear) (k n : �
   pub noted : AreNotedBy sc ear since k n lesson
   pub fixed : (tick : ℕ) → lesson.decides ≡ Some tick → IsFixed sc hands ear lesson.frame tick
 
--- where there is a pass the search learns its frame and has fixed when it decides, or it learns the
+-- if there is a pass, the search learns its frame and has fixed when it decides, or it learns the
 -- frame after
 abbrev pub IsPassKnown : Scenario → Search → Type 0
 IsPassKnown sc s =
@@ -105,7 +105,7 @@ begun sc hands ear k n number since at call soon before = record {
 
 -- It goes on.
 
--- with other records
+-- `LearnsFrom` holds with the records of later messages too
 with-noted : (sc : Scenario) (hands : List HandIn) (ear : Ear) (k n l o : ℕ) (a b : Lesson) → (h : LearnsFrom sc hands ear k n a) → b.frame ≡ a.frame → b.decides ≡ a.decides
     → length b.records ≡ length a.records → AreNotedBy sc ear h.since l o b → LearnsFrom sc hands ear l o b
 with-noted sc hands ear k n l o a b h frame decides long noted = record {
@@ -321,7 +321,7 @@ pub ticked : (o : Option ℕ) (k : ℕ) → is_tick o k ≡ true → o ≡ Some 
 ticked None k h = cc
 ticked (Some t) k h = ap (λ x. Some x) (eqb-true t k h)
 
--- where it decides there is no pass of the frame before
+-- if the search decides, there is no pass of the frame before
 decides-late : (sc : Scenario) (hands : List HandIn) → IsLawful sc → (ear : Ear) → IsEar sc ear → HearsTheRun sc hands ear → (k n : ℕ) (s : Search) → k < ear.ticks
     → slice_get (ear.heard k) n ≡ None → IsWell sc hands ear k n s → IsLatest sc ear k n s → s.lesson.decides ≡ Some k → (q : ℕ) → pass_of sc.sizes sc.plan s.newest ≡ Some q
     → s.lesson.frame ≡ frame_after q → ⊥

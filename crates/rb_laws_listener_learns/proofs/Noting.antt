@@ -29,7 +29,7 @@ pub record IsPlacedAt (sc : Scenario) (ear : Ear) (frame slot j at i : ℕ) (m :
 abbrev pub IsSince : ℕ → ℕ → ℕ → ℕ → ℕ → Type 0
 IsSince since at i k n = (since < at) × IsEarlier at i k n
 
--- it is the only one since then
+-- `m` is the only message of its place since tick `since`
 pub record IsOnly (sc : Scenario) (ear : Ear) (since k n frame slot j at : ℕ) (m : Message) : Type 0 where
   pub i : ℕ
   pub placed : IsPlacedAt sc ear frame slot j at i m
@@ -37,7 +37,7 @@ pub record IsOnly (sc : Scenario) (ear : Ear) (since k n frame slot j at : ℕ) 
   pub suits : tag_suits (m.slot == sync_slot_of sc.sizes) m.tag ≡ true
   pub only : (b o : ℕ) (x : Message) → IsSince since b o k n → IsPlacedAt sc ear frame slot j b o x → (b ≡ at) × (o ≡ i)
 
--- one message has a tag that does not suit, or there came another before it
+-- message `m` has a tag that does not suit, or another message of its place came before it
 abbrev pub IsSpoiltBy : Scenario → Ear → ℕ → ℕ → ℕ → ℕ → ℕ → Message → Type 0
 IsSpoiltBy sc ear frame slot j at i m =
     (tag_suits (m.slot == sync_slot_of sc.sizes) m.tag ≡ false)

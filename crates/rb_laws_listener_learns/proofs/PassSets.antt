@@ -17,7 +17,7 @@ use Rattle.rb_listen.specs.declared.passes.Call.{Call}
 use Rattle.rb_laws_listener_learns.proofs.Meeting.{AreRmus, meet}
 use Rattle.rb_laws_listener_learns.proofs.Seeks.{set-other}
 
--- with the call of RMU i there begins a pass
+-- a pass of `frame` begins with the call of RMU `i`
 pub record BeginsAt (sizes : Sizes) (plan : Plan) (newest : List (Option Call)) (frame : ℕ) : Type 0 where
   pub i : ℕ
   pub call : Call
@@ -25,7 +25,7 @@ pub record BeginsAt (sizes : Sizes) (plan : Plan) (newest : List (Option Call)) 
   pub most : are_most sizes (calling (reach_of plan) call.frame call.at newest) ≡ true
   pub frame_is : call.frame ≡ frame
 
--- nothing is known of RMUs that there are not
+-- nothing is known of an RMU that the bus does not have
 abbrev pub AreOfRmus : Sizes → List (Option Call) → Type 0
 AreOfRmus sizes newest = (j : ℕ) → sizes.rmus ≤ j → get_or newest j None ≡ None
 
@@ -154,7 +154,7 @@ begins-pass sizes plan newest frame few inside b =
 pub more-than : (rmus a b : ℕ) → a ≤ b → nat_lt rmus (2 * a) ≡ true → nat_lt rmus (2 * b) ≡ true
 more-than rmus a b le h = lt-ltb rmus (2 * b) (omega (arith, le, ltb-true rmus (2 * a) h))
 
--- it is one of the pass, or the pass was there before
+-- a new call is one of the pass, or the pass was there before
 pub new-or-old : (sizes : Sizes) (plan : Plan) (newest : List (Option Call)) (j frame : ℕ) (call : Call) → j < length newest → (b : BeginsAt sizes plan (slice_set newest j (Some call)) frame)
     → FallsIn (reach_of plan) b.call.frame b.call.at call ⊎ BeginsAt sizes plan newest frame
 new-or-old sizes plan newest j frame call within b = by (falls_in (reach_of plan) b.call.frame b.call.at (Some call)) refl

@@ -130,7 +130,7 @@ placed sc frame m h =
     let parts = three (m.frame == frame) (nat_le m.slot (sync_slot_of sc.sizes)) (m.stage == stage_recorded (role_of sc.sizes m.slot)) h in
     record { frame_is = eqb-true m.frame frame parts.0; slot_is = refl; stage_is = eqb-true m.stage (stage_recorded (role_of sc.sizes m.slot)) parts.1 }
 
--- it does not come a second time
+-- a message of a place does not come a second time
 no-second : (sc : Scenario) (hands : List HandIn) → IsLawful sc → (ear : Ear) → IsEar sc ear → HearsTheRun sc hands ear → (k n frame slot j at : ℕ) (old m : Message)
     → CameBefore sc hands ear k n j at old → IsOfPlace sc frame slot old → IsNext sc hands ear k n j m → IsOfPlace sc frame slot m → ⊥
 no-second sc hands law ear is run k n frame slot j at old m before place next here = by before.earlier

@@ -60,8 +60,8 @@ same-map x y from (suc n) same =
 
 -- The verdict of the frame's last stage.
 
--- of a trusted node that is not good when the RMUs have called the verdict tells of each stage that
--- it was seen alike
+-- the verdict finds that a trusted node was seen alike in each stage, if it is not good when the
+-- RMUs have called
 alike-in-stage : (sc : Scenario) (hands : List HandIn) (ear : Ear) (f : ℕ) (records : List Sense) (c : Learner sc hands ear f records)
     → (a : SideAlike (seen_learned sc ear (suc f) records) (moment sc hands (3 * sync_slot_of sc.sizes + 3 + first_of_frame sc (suc f))).book.stages) → (j : ℕ) → j < 16
     → has (c.end.shared.trusted a.side) j ≡ true → is_good sc a.side j (suc f) (sync_slot_of sc.sizes) ≡ false → (slot : ℕ) (s : AtStage sc hands f slot 1)
@@ -188,7 +188,7 @@ biu-vote sc hands ear f records c i count t = by a.side refl ∙ sym (value-at-e
         vote-held sc hands n m s2.shared slot 1 s2.setting
         Biu b.index from.st b.st from.was from.is (ap (λ r. votes_in Biu r 2) role)
 
-    -- the slot's sender
+    -- the sender of the slot is trusted
     trusted : has (s2.shared.trusted Biu) i ≡ true
     trusted = ap (λ x. has x i) (same-shared sc hands ear f records c slot 1 s2 Biu) ∙ t
 
@@ -211,7 +211,7 @@ biu-vote sc hands ear f records c i count t = by a.side refl ∙ sym (value-at-e
     g : GoodThere sc hands n c.g
     g = good-there sc hands c.law n c.g s2.inside.running c.good
 
-    -- where no BIU was seen unlike, all have got the same
+    -- if no BIU was seen unlike, all good RMUs have got the same
     got-alike : a.side ≡ Biu → (j : ℕ) (st : NodeState) → IsGoodNode sc m Rmu j st → st.got ≡ g.st.got
     got-alike side j st node = go (true_or_false (is_good_now sc m Biu i))
       where
@@ -265,7 +265,7 @@ biu-vote sc hands ear f records c i count t = by a.side refl ∙ sym (value-at-e
         (carried_2 sc hands n m s2.shared slot s2.setting)
         Biu (unwrap_or g.st.got Fault) (λ j st node. said j st node ∙ ap (λ o. Some (unwrap_or o Fault)) (got-alike side j st node)) b.index from.st from.was)
 
-    -- where no RMU was seen unlike, what is recorded of each trusted RMU is what the BIU took
+    -- if no RMU was seen unlike, what is recorded of each trusted RMU is what the BIU took
     by-rmus : a.side ≡ Rmu → vote_on records (trusted_rmus sc.sizes records) slot
         ≡ vote_of sc hands n m s2.shared slot 1 s2.setting Biu b.index from.st
     by-rmus side =

@@ -36,7 +36,7 @@ use Rattle.rb_laws_synchrony.proofs.TimelyWindows.{IsSent, sent_parts}
 use Rattle.rb_laws_listener_learns.specs.Ears.{SendsIn}
 use Rattle.rb_laws_listener_learns.proofs.CallsSent.{call-is, sends-at}
 
--- it is a message of the window's place
+-- `x` is a message for the place of the moment's window
 pub record IsInPlace (sc : Scenario) (m : Moment) (x : Message) : Type 0 where
   pub fits : IsMessage x
   pub frame : x.frame ≡ m.frame % 65536

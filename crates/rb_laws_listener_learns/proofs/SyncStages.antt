@@ -64,8 +64,8 @@ pub record TurnsAt (sc : Scenario) (hands : List HandIn) (k : ℕ) (me : Side) (
   pub was : IsGoodNode sc (moment sc hands k) me i st
   pub epoch : (tick : ℕ) → new_epoch_of sc.plan me st ≡ Some tick → tick ≡ now.epoch
 
--- where moment k is the end of stage 3, so it is with all nodes that are good at the first moment
--- of the next frame
+-- if moment `k` is the end of stage 3, `TurnsAt` holds for all nodes that are good at the first
+-- moment of the next frame
 pub turns_at : (sc : Scenario) (hands : List HandIn) → IsLawful sc → (k : ℕ) (s : Shared) → Agree sc hands k (moment sc hands k) s → (moment sc hands k).window ≡ 3 * sync_slot_of sc.sizes + 3
     → IsRunning (moment sc hands (suc (suc k))) → (me : Side) (i : ℕ) (now : NodeState) → IsGoodNode sc (moment sc hands (suc (suc k))) me i now → TurnsAt sc hands k me i now
 turns_at sc hands law k s agree at last me i now node =

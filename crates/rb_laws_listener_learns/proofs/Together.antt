@@ -27,11 +27,11 @@ use Rattle.rb_laws_listener_learns.specs.Ears.{Ear, IsEar, SendsIn, coming_to}
 use Rattle.rb_laws_listener_learns.specs.Together.{CallsComeTogether}
 use Rattle.rb_laws_listener_learns.proofs.CallsSent.{sends-at}
 
--- the listener's clock
+-- the listener's clock is steady
 pub steady-ear : (sc : Scenario) → IsLawful sc → (ear : Ear) → IsEar sc ear → Steady (shortest_of sc.plan) (drift_of sc.plan) ear.clock
 steady-ear sc law ear is = steady_clock sc law ear.clock is.clock
 
--- when a good RMU calls
+-- a good RMU's call is sent between the bounds of stage 2
 pub call-time : (sc : Scenario) (hands : List HandIn) → IsLawful sc → (n j : ℕ) (s : Sending) → (moment sc hands n).window ≡ 3 * sync_slot_of sc.sizes + 1 → SendsIn sc hands n j s
     → (synced : IsSynchronous sc hands n) → IsBetween (from_2 sc synced.low) (to_2 sc synced.low) (time_of (clock_of sc Rmu j) s.tick)
 call-time sc hands law n j s at sent synced = (second_calls sc law (moment sc hands n) synced.shared synced.low synced.near at).between j sent.state s.tick node called

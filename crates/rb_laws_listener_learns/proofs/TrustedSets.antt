@@ -68,7 +68,7 @@ pub record GoodThere (sc : Scenario) (hands : List HandIn) (n j : ℕ) : Type 0 
 slot-begun : (sizes : Sizes) (window : ℕ) → 3 * slot_numbered sizes window ≤ window
 slot-begun sizes window = omega arith
 
--- it is good in the slot of each moment
+-- an RMU that is good in the whole run is good in the slot of each moment of the run
 pub good-at-moment : (sc : Scenario) (hands : List HandIn) → IsLawful sc → (j n : ℕ) → IsRunning (moment sc hands n) → is_always_good sc hands j ≡ true → is_good_now sc (moment sc hands n) Rmu j ≡ true
 good-at-moment sc hands law j n running good = always-good-at sc hands law j n (slot_numbered sc.sizes (moment sc hands n).window) running (slot-begun sc.sizes (moment sc hands n).window) good
 
@@ -88,7 +88,7 @@ later-same sc hands law frame n k j a b le in_n in_k node_a node_b kind =
     let l : LastsFrom sc hands n Rmu j b = (lasts-to sc hands law n k le in_k.running (in_k.frame_is ∙ sym in_n.frame_is)).last Rmu j b node_b in
     l.trusted kind ∙ ap (trusted_of kind Rmu) (one-state sc hands n j l.st a l.was node_a)
 
--- it trusts the same in the whole frame
+-- an RMU trusts the same nodes in the whole frame
 pub same-trust : (sc : Scenario) (hands : List HandIn) → IsLawful sc → (frame n k j : ℕ) (a b : NodeState) → IsIn sc hands frame n → IsIn sc hands frame k
     → IsGoodNode sc (moment sc hands n) Rmu j a → IsGoodNode sc (moment sc hands k) Rmu j b → (kind : Side) → trusted_of kind Rmu a ≡ trusted_of kind Rmu b
 same-trust sc hands law frame n k j a b in_n in_k node_a node_b kind =
@@ -210,7 +210,7 @@ trusts-all sc hands law ear most learned records whole called n j st here good n
         (recorded-value sc hands ear learned records whole m o (told_in kind sc.sizes i) (told_stage kind) their.st said.value there.1 there.0.running there.0.frame_is their.node
         (always-good-in sc hands law o learned (sync_slot_of sc.sizes) sync_begun good_o) (told-recorded kind sc.sizes i count) said.is).one
 
--- no others
+-- an RMU that is good in the whole run trusts each node that is trusted in the slot
 trusted-there : (sc : Scenario) (hands : List HandIn) → IsLawful sc → (learned slot q : ℕ) → slot < sync_slot_of sc.sizes → q < 3 → learned ≤ sc.frames → (number : ℕ) → number ≡ learned % 65536
     → (n j : ℕ) (st : NodeState) → IsIn sc hands learned n → is_always_good sc hands j ≡ true → IsGoodNode sc (moment sc hands n) Rmu j st → (kind : Side) (i : ℕ)
     → IsTrustedIn sc hands number slot (q + 1) kind i → has (trusted_of kind Rmu st) i ≡ true
@@ -331,7 +331,7 @@ knows-at sc hands law ear is run learned tick s decides = record {
             (in-run sc hands law learned decides.called) s.lesson.frame decides.lesson
             n l.1.fixed.call.call.j mine.st here good mine.node Rmu o ((told s decides.searching learns o).1 t)
 
--- in the sync slot
+-- the records' trusted sets are those of the sync slot
 pub trusted-in-sync : (sc : Scenario) (hands : List HandIn) → IsLawful sc → (ear : Ear) (learned : ℕ) (records : List Sense) → KnowsAt sc hands ear learned records
     → AreTrusted sc hands learned (sync_slot_of sc.sizes) (trusted_bius sc.sizes records) (trusted_rmus sc.sizes records)
 trusted-in-sync sc hands law ear learned records k = record { biu = λ me i st h. by me i st h Biu; rmu = λ me i st h. by me i st h Rmu }

@@ -9,8 +9,8 @@ use Rattle.rb_listen.specs.declared.lesson.First.{First}
 use Rattle.rb_listen.specs.declared.search.Search.{Search}
 use Rattle.rb_laws_listener_learns.specs.Ears.{Ear, hears, listening_at}
 
--- it holds before message n of stamp k is heard, or after the last one before tick k. At the tick
--- no message of its stamp is left
+-- `P` holds before the first message and is kept by each step, where `P k n` is about the search
+-- before message `n` of stamp `k`. At the tick no message of its stamp is left
 pub record IsKept (sc : Scenario) (ear : Ear) (P : ℕ → ℕ → Search → Type 0) : Type 0 where
   pub first : P 0 0 first_search
   pub heard : (k n : ℕ) (c : Coming) → k < ear.ticks → slice_get (ear.heard k) n ≡ Some c → (s : Search) → P k n s
@@ -32,7 +32,7 @@ hear-keeps sc ear P kept k n c in_time there (now.Searching s) h = kept.heard k 
 hear-keeps sc ear P kept k n c in_time there (now.Waiting had first) h = tt
 hear-keeps sc ear P kept k n c in_time there (now.Following core) h = tt
 
--- it holds at tick k, when all messages of its stamp were heard
+-- `P` holds at tick `k`, when all messages of its stamp were heard
 pub record HoldsAt (ear : Ear) (P : ℕ → ℕ → Search → Type 0) (k : ℕ) (l : Listening) : Type 0 where
   pub n : ℕ
   pub holds : HoldsIn (P k n) l

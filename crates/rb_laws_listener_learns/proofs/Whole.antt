@@ -343,14 +343,14 @@ recorded-one sc hands law ear is run since k n frame slot j in_time good at i m 
 pub has-place : (sc : Scenario) (frame : ℕ) (m : Message) → m.frame ≡ frame → m.slot ≤ sync_slot_of sc.sizes → m.stage ≡ stage_recorded (role_of sc.sizes m.slot) → has_place sc.sizes frame m ≡ true
 has-place sc frame m f s t = rw (eq-eqb m.frame frame f, le-leb m.slot (sync_slot_of sc.sizes) s, eq-eqb m.stage (stage_recorded (role_of sc.sizes m.slot)) t) refl
 
--- when it comes
+-- the message comes after tick `since` and at most with tick `k`
 pub record ComesInTime (sc : Scenario) (hands : List HandIn) (ear : Ear) (since k n j : ℕ) (t : Sending) : Type 0 where
   pub stamp : ℕ
   pub stamped : IsStamp ear.clock (coming_to sc ear j (moment sc hands n).frame t).time stamp
   pub late : since < stamp
   pub early : stamp ≤ k
 
--- at most in stage 3, and never in stage 1
+-- the stage that is recorded of a slot is 2 or 3, or 0 for none
 stage-late : (r : Role) → (1 ≤ stage_recorded r → 2 ≤ stage_recorded r) × (stage_recorded r ≤ 3)
 stage-late (Schedule i) = (λ h. omega arith, omega arith)
 stage-late (Data i) = (λ h. omega (arith, h), omega arith)

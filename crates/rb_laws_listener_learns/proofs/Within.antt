@@ -38,7 +38,7 @@ use Rattle.rb_laws_listener_learns.proofs.Together.{call-time, steady-ear}
 
 -- The sender, and when it sends.
 
--- a window below the sync slot
+-- moment `m` is before stage q + 1 of a slot below the sync slot
 pub record IsExactAt (sc : Scenario) (hands : List HandIn) (m slot q : ℕ) : Type 0 where
   pub below : slot < sync_slot_of sc.sizes
   pub small : q < 3
@@ -176,7 +176,7 @@ after-calls sc hands law ear is i number a c m j slot q s e some sent less b sta
 long-enough : (p f h l u d least most eps n : ℕ) → most ≡ least + eps → p + d * (f + h) + most + (1 + h) * u ≤ l * u → l ≤ n → eps ≤ n * u
 long-enough p f h l u d least most eps n e c2 le = let more : l * u ≤ n * u = mul-le-mul_right u le in omega (arith, e, c2, more)
 
--- the ticks from a sending tick below the sync slot to the call
+-- a sending tick below the sync slot comes at least l ticks before the call
 ticks-between : (k sync l h epoch tick first call : ℕ) → k + 1 ≤ 3 * sync → h < l → tick ≡ epoch + (k * l + h) → epoch + 3 * sync * l ≤ first → call ≡ first + l → tick + l ≤ call
 ticks-between k sync l h epoch tick first call less in_l at from is = let le : (k + 1) * l ≤ 3 * sync * l = mul-le-mul_right l less in omega (arith, le, in_l, at, from, is)
 

@@ -49,7 +49,7 @@ use Rattle.rb_laws_listener_near.proofs.ListenerMiddles.{MostGood, TakesCalls}
 use Rattle.rb_laws_listener_near.proofs.ListenerNear.{IsCalled, SawTimes, calls_near_bius}
 use Rattle.rb_laws_listener_near.proofs.NextEpochs.{BeginTogether, MiddleIsNear, begin_together}
 
--- a receiver's clock
+-- a receiver's clock is steady
 pub steady_clock : (sc : Scenario) → IsLawful sc → (clock : Timeline) → IsClock (shortest_of sc.plan) (longest_of sc.plan) clock → Steady (shortest_of sc.plan) (drift_of sc.plan) clock
 steady_clock sc law clock is = record {
   moves = λ tick. omega (arith, (lengths tick).0, fit.some);

@@ -63,7 +63,7 @@ pub record TakesCalls (sc : Scenario) (m : Moment) (s : Shared) (clock : Timelin
 abbrev pub MostGood : Scenario → Moment → Type 0
 MostGood sc m = sc.sizes.rmus < 2 * how_many (is_good_now sc m Rmu)
 
--- of numbers below n more than half are more than the others
+-- if more than half of the numbers below `n` are good, fewer of them are not
 pub others_fewer : (n : ℕ) (good some : ℕ → Bool) → n ≤ 16 → ((j : ℕ) → j < 16 → good j ≡ true → j < n) → ((j : ℕ) → j < 16 → some j ≡ true → j < n) → n < 2 * how_many good
     → count_if (λ j. not (good j) && some j) (numbers 16) < count_if good (numbers 16)
 others_fewer n good some few below_good below_some most =
@@ -158,7 +158,7 @@ TakesAlike sc m s ws taken time =
     (j : ℕ) → j < 16 → has (s.trusted Rmu) j ≡ true → is_good sc Rmu j m.frame (sync_slot_of sc.sizes) ≡ false → (i : ℕ) (b : NodeState) → IsGoodNode sc m Biu i b
     → TookAlike (eps_of sc.plan) (time j) (sole_time (heard_in sc m (sync_slot_of sc.sizes) 2 ws Biu i b j)) (taken j) (took sc m 1 ws Biu i b j)
 
--- where no BIU is asymmetric, the RMUs call together
+-- if no BIU is asymmetric, the RMUs call together
 pub near_by_bius : (sc : Scenario) (hands : List HandIn) (n : ℕ) (m : Moment) (s : Shared) (low : ℕ) (c : IsHeardStage sc hands n m s 1 Biu) → Synchronous sc m s low → MostGood sc m
     → NoneUnlike sc m s Biu (stages_with sc m 1)
     → (clock : Timeline) → Steady (shortest_of sc.plan) (drift_of sc.plan) clock → (taken : ℕ → Option ℕ) (time : ℕ → ℕ) → TakesCalls sc m s clock taken time
@@ -182,7 +182,7 @@ near_by_bius sc hands n m s low c sync most none clock steady_clock taken time t
     (subst (λ x. IsBetween (calls.0 + sc.plan.dmin) (calls.0 + spread + sc.plan.dmax + tick_of sc.plan) (time_of (clock_of sc Biu i) x)) f
     (record { least = theirs.not_early; most = theirs.not_late (omega (arith, f, past_k)) }))
 
--- where no RMU is, listener and BIU take alike
+-- if no RMU is asymmetric, the listener and the BIU take alike
 pub near_by_rmus : (sc : Scenario) (hands : List HandIn) (n : ℕ) (m : Moment) (s : Shared) (c : IsHeardStage sc hands n m s 1 Biu)
     → (clock : Timeline) → Steady (shortest_of sc.plan) (drift_of sc.plan) clock → (taken : ℕ → Option ℕ) (time : ℕ → ℕ) → TakesCalls sc m s clock taken time
     → TakesAlike sc m s (ws_of sc hands n m s 1 Biu c) taken time

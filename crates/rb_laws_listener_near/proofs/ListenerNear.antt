@@ -115,7 +115,7 @@ pub record IsCalled (sc : Scenario) (m : Moment) (s : Shared) (clock : Timeline)
   pub none : verdict_with seen (stages_with sc m 1) ≡ None
   pub saw : SawTimes sc m taken time seen
 
--- it finds a middle
+-- the listener finds a middle
 pub calls_found : (sc : Scenario) (hands : List HandIn) (n : ℕ) (m : Moment) (s : Shared) (low : ℕ) → IsPassedStage sc hands n m s 1 → Synchronous sc m s low
     → (clock : Timeline) (taken : ℕ → Option ℕ) (time : ℕ → ℕ) (seen : ℕ → JudgedStage → Option (ℕ → See)) → IsCalled sc m s clock taken time seen
     → FindsMiddle sc clock taken (from_2 sc low) (to_2 sc low)
@@ -123,7 +123,7 @@ calls_found sc hands n m s low c sync clock taken time seen h =
     finds_middle sc hands n m s (heard-second sc hands n m s c) h.most clock h.steady taken time h.takes (from_2 sc low) (to_2 sc low)
     (second_calls sc c.stage.law m s low sync c.stage.at).between
 
--- that is near those which the good BIUs keep
+-- the listener's middle is near those that the good BIUs keep
 pub calls_near_bius : (sc : Scenario) (hands : List HandIn) (n : ℕ) (m : Moment) (s : Shared) (low : ℕ) → IsPassedStage sc hands n m s 1 → Synchronous sc m s low
     → (clock : Timeline) (taken : ℕ → Option ℕ) (time : ℕ → ℕ) (seen : ℕ → JudgedStage → Option (ℕ → See)) → IsCalled sc m s clock taken time seen
     → (l : ℕ) → middle_of (present (each_node taken)) ≡ Some l → MiddleIsNear sc (next sc m) clock l

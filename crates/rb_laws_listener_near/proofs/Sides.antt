@@ -26,7 +26,7 @@ one_side biu rmu h = go (are_few_good biu) (are_few_good rmu) (some_asymmetric b
     go false false true false h = inr refl
     go false false false d h = inl refl
 
--- of this kind no node that is trusted and not good was seen unlike
+-- no trusted node of one kind that is not good was seen unlike
 pub record SideAlike (seen : ℕ → JudgedStage → Option (ℕ → See)) (stages : List JudgedStage) : Type 0 where
   pub side : Side
   pub alike : (j : ℕ) → j < 16 → is_suspect side stages j ≡ true → is_asymmetric_with side (heard_stages seen stages) j ≡ false

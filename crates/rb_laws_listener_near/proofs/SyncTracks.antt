@@ -40,7 +40,7 @@ alike_still a b c e1 e2 e3 e4 e5 h = record { frame = e1 ∙ h.frame; near = e2 
 alike_turned : (a b c : NodeState) → b.frame ≡ c.frame → b.near ≡ c.near → b.far.trusted ≡ c.far.trusted → b.votes ≡ c.votes → b.owners ≡ c.owners → HoldAlike a b → HoldAlike a c
 alike_turned a b c e1 e2 e3 e4 e5 h = record { frame = h.frame ∙ e1; near = h.near ∙ e2; far = h.far ∙ e3; votes = h.votes ∙ e4; owners = h.owners ∙ e5 }
 
--- it holds what each good BIU holds
+-- the state holds what each good BIU holds
 abbrev pub IsLike : Scenario → Moment → NodeState → Type 0
 IsLike sc m st = (i : ℕ) (b : NodeState) → IsGoodNode sc m Biu i b → HoldAlike st b
 

@@ -42,13 +42,13 @@ pub record Tracks (sc : Scenario) (m : Moment) (st : NodeState) : Type 0 where
 abbrev pub stays_good : Scenario → Moment → ℕ → Bool
 stays_good sc m j = is_good_now sc (next sc m) Rmu j
 
--- of these it senses what they say
+-- the listener senses what the RMUs that stay good say
 abbrev pub Senses : Scenario → Moment → ℕ → ℕ → (ℕ → Sense) → Type 0
 Senses sc m slot q sense =
     (j : ℕ) (source : NodeState) → IsGoodNode sc m Rmu j source → stays_good sc m j ≡ true
     → IsSenseOf (sense j) source slot (q + 1) (says sc.sizes Rmu j source slot (q + 1) (word_at sc m slot j))
 
--- they are more than half of all RMUs
+-- the RMUs that stay good are more than half of all RMUs
 abbrev pub MostStay : Scenario → Moment → Type 0
 MostStay sc m = sc.sizes.rmus < 2 * how_many (stays_good sc m)
 
@@ -74,7 +74,7 @@ held sc hands n m s slot q c st t =
     let g : GoodOne sc m Biu = some_good sc hands n m s slot q c Biu in
     held-by sc m s st g.st (c.agree.nodes Biu g.index g.st g.here) (t.like g.index g.st g.here)
 
--- the sender of a slot
+-- a state with what the good nodes share knows the sender of a slot
 pub sender-here : (sc : Scenario) (m : Moment) (s : Shared) (st : NodeState) (slot : ℕ) → Held sc m s st → sender_at sc.sizes Biu st slot ≡ sender_of sc.sizes s slot
 sender-here sc m s st slot h =
     ap (λ b. sender_in b st.far.trusted st.owners (role_of sc.sizes slot)) h.near
@@ -107,7 +107,7 @@ is_taken sc hands n m s slot q c st t sense senses j source there stays =
       right = does_right (expected_at sc.sizes Biu st slot (q + 1) j) (sense j) source slot (q + 1) said expected is;
     }
 
--- in stages 1 and 2 who is good stays good
+-- an RMU that is good in stage 1 or 2 stays good
 pub good_stays : (sc : Scenario) (hands : List HandIn) (n : ℕ) (m : Moment) (s : Shared) (slot q : ℕ) → Setting sc hands n m s slot q → q < 2 → (j : ℕ)
     → is_good_now sc m Rmu j ≡ true → stays_good sc m j ≡ true
 unfolding after_window
@@ -125,7 +125,7 @@ listener_vote sc slot q st sense = (closing_at sc.sizes Biu st slot (q + 1) sens
 pub outnumbered : (a b total : ℕ) → a + b ≤ total → total < 2 * b → a < b
 outnumbered a b total h k = omega arith
 
--- where the good RMUs say one value, it votes for it
+-- if the good RMUs say one value, the listener votes for it
 pub listener_votes : (sc : Scenario) (hands : List HandIn) (n : ℕ) (m : Moment) (s : Shared) (slot q : ℕ) → Setting sc hands n m s slot q → MostStay sc m
     → (st : NodeState) → Tracks sc m st → (sense : ℕ → Sense) → Senses sc m slot q sense → (value : Heard)
     → ((j : ℕ) (source : NodeState) → IsGoodNode sc m Rmu j source → says sc.sizes Rmu j source slot (q + 1) (word_at sc m slot j) ≡ Some value)

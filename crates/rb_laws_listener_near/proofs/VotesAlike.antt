@@ -67,7 +67,7 @@ suspect sc hands n m s slot q c kind j small t faulty =
 
 -- One value.
 
--- where the good RMUs say one value, both vote for it
+-- if the good RMUs say one value, the listener and the BIU vote for it
 said_alike : (sc : Scenario) (hands : List HandIn) (n : ℕ) (m : Moment) (s : Shared) (slot q : ℕ) (c : Setting sc hands n m s slot q) → AllCarried sc m slot (q + 1) → MostStay sc m
     → (st : NodeState) → Tracks sc m st → (sense : ℕ → Sense) → Senses sc m slot q sense → (value : Heard)
     → ((j : ℕ) (source : NodeState) → IsGoodNode sc m Rmu j source → says sc.sizes Rmu j source slot (q + 1) (word_at sc m slot j) ≡ Some value)
@@ -75,7 +75,7 @@ said_alike : (sc : Scenario) (hands : List HandIn) (n : ℕ) (m : Moment) (s : S
 said_alike sc hands n m s slot q c fits most st t sense senses value said i b here =
     listener_votes sc hands n m s slot q c most st t sense senses value said ∙ sym (all_vote sc hands n m s slot q c fits Biu value said i b here)
 
--- in an idle slot both vote Fault
+-- in an idle slot the listener and the BIU vote Fault
 idle_alike : (sc : Scenario) (hands : List HandIn) (n : ℕ) (m : Moment) (s : Shared) (slot q : ℕ) (c : Setting sc hands n m s slot q)
     → (st : NodeState) → Tracks sc m st → (sense : ℕ → Sense) → sender_of sc.sizes s slot ≡ Nobody
     → (i : ℕ) (b : NodeState) → IsGoodNode sc m Biu i b → listener_vote sc slot q st sense ≡ vote_of sc hands n m s slot q c Biu i b
@@ -99,7 +99,7 @@ pub record SawTaken (sc : Scenario) (m : Moment) (slot stage : ℕ) (st : NodeSt
   pub here : seen (length m.book.stages) (judged_of sc (record { frame = m.frame; slot = slot; stage = stage }) (rows_of sc m)) ≡ Some sight
   pub is : (j : ℕ) → j < 16 → sight j ≡ see_value (take_at sc.sizes Biu st slot stage sense j)
 
--- where no RMU was seen unlike, it takes what a good BIU takes
+-- if no RMU was seen unlike, the listener takes what a good BIU takes
 taken_alike : (sc : Scenario) (hands : List HandIn) (n : ℕ) (m : Moment) (s : Shared) (slot : ℕ) (c : Setting sc hands n m s slot 1)
     → (st : NodeState) → Tracks sc m st → (sense : ℕ → Sense) → Senses sc m slot 1 sense → (seen : ℕ → JudgedStage → Option (ℕ → See)) → SawTaken sc m slot 2 st sense seen
     → ((j : ℕ) → j < 16 → is_suspect Rmu (stages_with sc m slot 2) j ≡ true → is_asymmetric_with Rmu (heard_stages seen (stages_with sc m slot 2)) j ≡ false)
@@ -141,7 +141,7 @@ taken_alike sc hands n m s slot c st t sense senses seen saw alike i b here j sm
         (ap (λ x. are_alike judged.eps x (see_value (take_at sc.sizes Biu st slot 2 sense j))) (sym shown)
         ∙ ap (are_alike judged.eps (judged.sight Biu i j)) (sym (saw.is j small)) ∙ same)
 
--- where no BIU was, all good RMUs have got the same of the sender
+-- if no BIU was seen unlike, all good RMUs have got the same from the sender
 got_alike : (sc : Scenario) (hands : List HandIn) (n : ℕ) (m : Moment) (s : Shared) (slot : ℕ) (c : Setting sc hands n m s slot 1) → Biu ≡ kind_in sc.sizes slot
     → (p : ℕ) → sender_of sc.sizes s slot ≡ Node p
     → ((j : ℕ) → j < 16 → is_suspect Biu (stages_with sc m slot 2) j ≡ true → list_any (was_unlike Biu j) (stages_with sc m slot 2) ≡ false)

@@ -78,7 +78,7 @@ pub votes_as : (sc : Scenario) (hands : List HandIn) (n : ℕ) (m : Moment) (s :
 votes_as sc hands n m s slot q c st sense seen w votes i b here =
     vote_alike sc hands n m s slot q c w.most st w.tracks sense w.senses seen w.none w.saw votes i b here
 
--- it goes on to hold what each good BIU holds
+-- after a window the listener still holds what each good BIU holds
 like_after : (sc : Scenario) (hands : List HandIn) (n : ℕ) (m : Moment) (s : Shared) (slot q first : ℕ) (c : Setting sc hands n m s slot q)
     → (st : NodeState) (sense : ℕ → Sense) (seen : ℕ → JudgedStage → Option (ℕ → See)) → IsWatched sc m slot q st sense seen
     → (i : ℕ) (now : NodeState) → IsGoodNode sc (next sc m) Biu i now → HoldAlike (closed_by sc slot (q + 1) first st sense).state now

@@ -42,7 +42,7 @@ pub record Makes (sizes : Sizes) (plan : Plan) (name : NodeName) (me : Side) (i 
   pub lines_are : flat_map (act_lines name) (acts_of sizes plan me i c events) ≡ lines
   pub frames_are : frames_in (acts_of sizes plan me i c events) ≡ frames
 
--- events after others
+-- events after others make the lines and the frames of both
 pub makes-both : (sizes : Sizes) (plan : Plan) (name : NodeName) (me : Side) (i : ℕ) (c between after : Core) (xs ys : List CoreEvent) (lines more : List ℕ) (frames others : ℕ)
     → Makes sizes plan name me i c xs between lines frames → Makes sizes plan name me i between ys after more others
     → Makes sizes plan name me i c (xs ++ ys) after (lines ++ more) (frames + others)
@@ -84,7 +84,7 @@ makes-quiet sizes plan name me i (suc n) k c next le =
     zero-more : (n : ℕ) → 0 + n ≡ n
     zero-more n = omega arith
 
--- the quiet ticks before an event
+-- the quiet ticks before an event make no lines and no frames
 pub makes-passed : (sizes : Sizes) (plan : Plan) (name : NodeName) (me : Side) (i k next : ℕ) (c : Core) → IsNext sizes plan me i c.state c.had next → (pass_to k c).had ≤ next
     → Makes sizes plan name me i c (replicate (k - c.had) (core.Tick 0)) (pass_to k c) [] 0
 makes-passed sizes plan name me i k next c is le =
@@ -93,7 +93,7 @@ makes-passed sizes plan name me i k next c is le =
     makes-quiet sizes plan name me i (k - c.had) next c is (omega (arith, le, e)) in
     subst (λ m. Makes sizes plan name me i c (replicate (k - c.had) (core.Tick 0)) (record c { had = m }) [] 0) e makes
 
--- one tick with its word, and one arrival
+-- a tick with its word makes the lines and the frames of its act
 pub makes-tick : (sizes : Sizes) (plan : Plan) (name : NodeName) (me : Side) (i word : ℕ) (c : Core) (x : Act) → tick sizes plan me i c word ≡ x
     → Makes sizes plan name me i c (core.Tick word ∷ []) x.core (act_lines name x) (frames_with x.epoch)
 makes-tick sizes plan name me i word c x is =

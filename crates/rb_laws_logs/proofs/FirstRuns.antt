@@ -68,7 +68,7 @@ prefix-length xs ys p = let e : length ys ≡ length xs + length p.0 = ap length
 abbrev steps_by : Scenario → ℕ → ℕ
 steps_by sc n = takes_from sc (first_world sc) (choices_in sc n) + length (first_run sc n).book.given
 
--- where this is due
+-- if an event is due, the first choice takes one
 taken-more : (sc : Scenario) (w : World) (d : Due) (ds : List Due) → due_of sc w ≡ d ∷ ds → taken_by sc w (Take 0) ≡ 1
 taken-more sc w d ds e = ap (λ (ds : List Due). elim (slice_get ds 0) as (λ _. ℕ) [ None ↦ 0 | Some d ↦ 1 ]) e
 

@@ -32,7 +32,7 @@ use Rattle.rb_laws_logs.specs.Laws.{EndsWithoutBreach, is_breach}
 abbrev pub last_moment : Scenario → ℕ
 last_moment sc = sc.frames * (windows_in sc.sizes + 1)
 
--- the frame of a moment, by its number
+-- a moment before the last one is in a frame of the scenario
 pub frame-below : (sc : Scenario) (p : ℕ) → p < last_moment sc → (moment sc [] p).frame < sc.frames
 frame-below sc p h =
     let m : Moment = moment sc [] p in

@@ -63,7 +63,7 @@ told_up_to sc name (suc p) = told_up_to sc name p ++ step_text sc name (moment s
 
 -- Records.
 
--- the frame of the newest block
+-- the frame of the newest block of the records
 abbrev pub newest_after : ℕ → List Record → ℕ
 newest_after newest [] = newest
 newest_after newest (Frame frame nodes ports ∷ records) = newest_after frame records
@@ -138,7 +138,7 @@ slot-lines sc m name st there =
         (λ k y le. line-by (λ o. if_there (delivered_by (Rmu i) m.frame slot) o ≡ []) sc m (sent_in sc m) biu k y (window_in sc m biu y) refl (λ d is second exact. refl))
         ∙ sym (line-by (λ o. line_text m.frame slot o ≡ []) sc m (sent_in sc m) rmu i st (window_in sc m rmu st) refl (λ d is second exact. absurd (cc)))
 
--- in a window that is no second stage below the sync slot it tells nothing
+-- in a window that is no second stage below the sync slot a node tells nothing
 pub silent-window : (sc : Scenario) (m : Moment) (name : NodeName) (st : NodeState) → state_of name m ≡ Some st
     → ((window_in sc m (kind_of name) st).stage == 2) && not ((window_in sc m (kind_of name) st).slot == sync_slot_of sc.sizes) ≡ false → window_text sc name m ≡ []
 silent-window sc m name st there silent =
@@ -189,7 +189,7 @@ of-one sc frame ports nodes name st take there good others =
         ap (λ l. l ++ gather 0 (gives rmu) nodes.rmus) (gather-none 0 (gives biu) nodes.bius (λ k z le. silent biu k z (others biu k z refl)))
         ∙ gather-one 0 i i (gives rmu) nodes.rmus st there (omega arith) (λ k z other. silent rmu k z (others rmu k z other)) ∙ tells rmu i st good
 
--- a node by its kind and number
+-- a name is that of a node if and only if the node has its kind and number
 pub named : (name : NodeName) (side : Side) (k : ℕ) → same_node (name_of side k) name ≡ is_node (kind_of name) (index_of name) side k
 named (Biu i) biu k = refl
 named (Biu i) rmu k = refl

@@ -49,7 +49,7 @@ unfolding given_next event_at
 given-none sc name w none =
     ap (λ o. if_given sc name w (option_and_then (λ (d : Due). option_map (λ (s : Site). event_of sc w.ports d.side d.node s.core d.pending) (slice_get (of_kind d.side w.sites) d.node)) o)) none
 
--- by whose event it is, and whether the node goes on
+-- an event is given to the node if it is the node's own and the node goes on
 pub given-by : (sc : Scenario) (name : NodeName) (w : World) (d : Due) (s : Site) (own before : Bool) → slice_get (due_of sc w) 0 ≡ Some d → slice_get (of_kind d.side w.sites) d.node ≡ Some s
     → is_node (kind_of name) (index_of name) d.side d.node ≡ own → is_before_end sc (site_of name w) ≡ before
     → given_next sc name w ≡ (if own && before then event_of sc w.ports d.side d.node s.core d.pending ∷ [] else [])
@@ -127,7 +127,7 @@ before-end sc name w s there h = ap (is_before_end sc) there ∙ lt-ltb s.core.s
 pub after-end : (sc : Scenario) (name : NodeName) (w : World) (s : Site) → site_of name w ≡ Some s → sc.frames ≤ s.core.state.frame → is_before_end sc (site_of name w) ≡ false
 after-end sc name w s there h = ap (is_before_end sc) there ∙ le-ltb s.core.state.frame sc.frames h
 
--- where nothing is given
+-- if nothing is given, the log stays the same
 same-given : (sc : Scenario) (name : NodeName) (n : ℕ) → given_next sc name (first_run sc n) ≡ [] → given_in sc name (suc n) ≡ given_in sc name n
 same-given sc name n none = ap (λ l. given_in sc name n ++ l) none ∙ append-nil (given_in sc name n)
 
@@ -159,7 +159,7 @@ done-same sc name n s z none le d =
       after = omega (arith, after, le);
     }
 
--- where one event is given
+-- if one event is given, the log has that event more
 one-given : (sc : Scenario) (name : NodeName) (n : ℕ) (e : Event) → given_next sc name (first_run sc n) ≡ e ∷ [] → given_so_far sc name (suc n) ≡ given_so_far sc name n ++ given e
 one-given sc name n e is =
     ap (λ l. flat_map given (given_in sc name n ++ l)) is ∙ flat_map-append given (given_in sc name n) (e ∷ []) ∙ ap (λ l. given_so_far sc name n ++ l) (append-nil (given e))

@@ -287,7 +287,7 @@ arrival-stands sc name n place c s lawful none there u first =
     (record { at = ready.0; least = all-after c.time s.ahead s.coming own; before_tick = tick-after c.time s.ahead u.a s.coming u.ahead own }) at.stands in
     stands-at sc at.sent c.time me i u.p z u.st u.a room.ticks stands
 
--- after the quiet ticks before it
+-- an arrival passes the quiet ticks before it
 pub arrival-had : (sc : Scenario) (me : Side) (i place : ℕ) (c : Coming) (s : Site) → (after_arrival sc me i place c s).core.had ≡ (pass_to (stamp_of (clock_of sc me i) c.time) s.core).had
 arrival-had sc me i place c s =
     ap (λ (c : Core). c.had) (arrival-core sc me i place c s).0 ∙ (arrive-same sc.sizes me (pass_to (stamp_of (clock_of sc me i) c.time) s.core) c.from c.bytes).1
@@ -370,7 +370,7 @@ node-step sc name n lawful none good node = by (step-sites sc n)
     s : Site
     s = node.s
 
-    -- where nothing happens
+    -- if nothing is due, the node stays as it is
     still : slice_get (due_of sc w) 0 ≡ None → (first_run sc (suc n)).sites ≡ w.sites → NodeAt sc name (suc n)
     still nothing same =
         let silent : given_next sc name w ≡ [] = given-none sc name w nothing in

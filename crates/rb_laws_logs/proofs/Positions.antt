@@ -46,7 +46,7 @@ last-alike : (sizes : Sizes) (plan : Plan) (me : Side) (a b : NodeState) (n : �
 last-alike sizes plan me a b n h =
     ap (λ (w : Window). w.last) (same_Some (window_numbered sizes plan me a n) (window_numbered sizes plan me b n) (sym (get-window sizes plan me a n h) ∙ get-window sizes plan me b n h))
 
--- a tick of two windows
+-- a tick is in one window alone
 one-window : (sizes : Sizes) (plan : Plan) (me : Side) (a b : NodeState) (m n k : ℕ) → HasTicks plan → a.epoch ≡ b.epoch → n ≤ stages_in sizes → IsTickIn sizes plan me a m k → IsTickIn sizes plan me b n k
     → n ≤ m
 one-window sizes plan me a b m n k ticks epoch le in_a in_b = elim (cases_lt m n) [

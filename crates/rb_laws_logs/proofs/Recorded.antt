@@ -204,7 +204,7 @@ can-happen sc ports me i t s (Arrival place c) lawful ready known sized =
     let bytes = every-stands (λ (c : Coming). IsSized c.bytes) place c s.coming ready.0 sized in
     (from, bytes.0, bytes.1)
 
--- with its ticks the core has had at most 2^31
+-- with its next tick the core has had at most 2^31 ticks
 fits : (sc : Scenario) (name : NodeName) (n t : ℕ) (s : Site) (p : Pending) → IsLawful sc → EndsWithoutBreach sc → site_of name (first_run sc n) ≡ Some s → IsReady t s p → Underway sc name n s
     → slice_get (due_of sc (first_run sc n)) 0 ≡ Some (record { side = kind_of name; node = index_of name; pending = p })
     → s.core.had + ticks_given (event_of sc (first_run sc n).ports (kind_of name) (index_of name) s.core p) ≤ 2 ^ 31

@@ -126,7 +126,7 @@ node-first sc name lawful none good =
       });
     }
 
--- in each world
+-- `NodeAt` holds in each world of the run
 pub nodes-at : (sc : Scenario) (name : NodeName) → IsLawful sc → EndsWithoutBreach sc → IsGoodThroughout sc name → (n : ℕ) → NodeAt sc name n
 nodes-at sc name lawful none good zero = node-first sc name lawful none good
 nodes-at sc name lawful none good (suc n) = node-step sc name n lawful none good (nodes-at sc name lawful none good n)
@@ -283,7 +283,7 @@ told-in sc name n lawful none good node complete = by node.how
 some-none : {X : Type 0} (x : X) → Some x ≡ None → ⊥
 some-none x e = cc
 
--- where the end comes next, the node is in the frame after the last
+-- the node is in the frame after the last, as it must be when the end comes next
 abbrev IsIn : Scenario → NodeName → World → Type 0
 IsIn sc name w = (s : Site) → site_of name w ≡ Some s → sc.frames ≤ s.core.state.frame
 

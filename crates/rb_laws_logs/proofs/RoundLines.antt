@@ -410,7 +410,7 @@ frame-book sc frame begun b = by b.ended refl
     by true e h = true-false (sym e ∙ h)
     by false e h = refl
 
--- at a window's number 0 nothing waits
+-- at the first window of a frame nothing waits
 pub none-waits : (sc : Scenario) (name : NodeName) (m : Moment) → m.window ≡ 0 → waiting sc name m ≡ []
 none-waits sc name m first =
     cond-false (waits_now sc.sizes m.window) _ [] (and_right (nat_lt m.window (3 * sync_slot_of sc.sizes)) (m.window % 3 == 2) (ap (λ k. k % 3 == 2) first))
@@ -466,7 +466,7 @@ first-told sc name ticks good going =
       newest = ap (newest_after 0) given ∙ lines.newest_is;
     }
 
--- in each moment of a run that goes on
+-- `AreTold` holds in each moment of a run that goes on
 pub are-told : (sc : Scenario) (name : NodeName) → HasTicks sc.plan → IsGoodThroughout sc name → (p : ℕ) → (moment sc [] p).book.ended ≡ false → AreTold sc name p
 are-told sc name ticks good zero going = first-told sc name ticks good going
 are-told sc name ticks good (suc p) going =

@@ -175,7 +175,7 @@ pub record AfterTick (sc : Scenario) (name : NodeName) (p : ℕ) (st : NodeState
       ≡ told_up_to sc name q
   pub count : (moment sc [] p).frame + frames_with (epoch_at sc.sizes (kind_of name) then_st b.tick) ≡ (moment sc [] q).frame
 
--- one that leaves the window open
+-- `AfterTick` holds after a tick that leaves the window open
 pub after-open : (sc : Scenario) (name : NodeName) (p : ℕ) (sent : Side → ℕ → ℕ → Bool) (ports : List PortState) (s : Site) (st : NodeState) (a : Timed) (x : Act)
     → HasTicks sc.plan → StandsAt sc (kind_of name) (index_of name) p s.core st a → StaysOpen sc [] sent a.time ports (kind_of name) (index_of name) p s st a.tick x
     → (after : AfterTick sc name p st a x (after_act sc ports (kind_of name) (index_of name) x s)) × ((after.q ≡ p) × (epoch_at sc.sizes (kind_of name) after.then_st after.b.tick ≡ None))
@@ -234,14 +234,14 @@ pub data Place (sc : Scenario) (name : NodeName) (p q : ℕ) : Type 0 where
 good-inside : (sc : Scenario) (name : NodeName) (p : ℕ) → IsGoodThroughout sc name → (moment sc [] p).frame < sc.frames → is_good_at sc (moment sc [] p) (kind_of name) (index_of name) ≡ true
 good-inside sc name p good h = good_before sc (kind_of name) (index_of name) (moment sc [] p).frame sc.frames (slot_numbered sc.sizes (moment sc [] p).window) 0 h good
 
--- the next window
+-- before the tail the next place is the next window
 to-window : (sc : Scenario) (name : NodeName) (p : ℕ) → (moment sc [] p).window < stages_in sc.sizes → Place sc name p (suc p)
 to-window sc name p h =
     let later : IsWindowLater sc (moment sc [] p) (moment sc [] (suc p)) = window-later sc [] (moment sc [] p) (omega (arith, h)) in
     let w : (moment sc [] (suc p)).window ≡ (moment sc [] p).window + 1 = later.window in
     Inside later.frame (omega (arith, w)) (omega (arith, w, h)) (window-step sc name p (omega (arith, h)))
 
--- from the tail to the next frame
+-- the place after the tail is the start of the next frame
 from-tail : (sc : Scenario) (name : NodeName) (p : ℕ) → (moment sc [] p).window ≡ stages_in sc.sizes → Place sc name p (suc (suc p))
 from-tail sc name p h =
     let end : IsWindowLater sc (moment sc [] p) (moment sc [] (suc p)) = window-later sc [] (moment sc [] p) (omega (arith, h)) in
@@ -353,7 +353,7 @@ told-there sc name p q sent t z text ticks is (Next frame first told) goes stand
     none-times : (l : ℕ) → 0 * l ≡ 0
     none-times l = omega arith
 
--- one that closes the window
+-- `AfterTick` holds after a tick that closes the window
 pub after-close : (sc : Scenario) (name : NodeName) (p : ℕ) (sent : Side → ℕ → ℕ → Bool) (ports : List PortState) (s : Site) (st : NodeState) (a : Timed) (x : Act)
     → HasTicks sc.plan → IsGoodThroughout sc name → (moment sc [] p).frame < sc.frames → StandsAt sc (kind_of name) (index_of name) p s.core st a
     → ClosesWindow sc [] sent ports (kind_of name) (index_of name) p s st a x → AfterTick sc name p st a x (after_act sc ports (kind_of name) (index_of name) x s)

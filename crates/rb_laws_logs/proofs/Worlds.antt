@@ -71,7 +71,7 @@ pub first-due : (sc : Scenario) (n : ℕ) (d : Due) → slice_get (due_of sc (fi
 first-due sc n d e =
     subst (λ w. IsDue w d) (sym (run-is sc n)) (events-due sc (choices_in sc n) 0 d (ap (λ w. slice_get (due_of sc w) 0) (sym (run-is sc n)) ∙ e))
 
--- it may happen, and closes no window in which other nodes are not in time
+-- event `d` may happen, and closes no window in which other nodes are not in time
 pub record MayTake (sc : Scenario) (w : World) (h : StandsInRounds sc w) (d : Due) : Type 0 where
   pub n : ℕ
   pub may : MayHappen sc h.at w n
@@ -104,7 +104,7 @@ may-take sc w h d lawful none empty first due = from-where waits.1.from
       | inr b ↦ absurd (breaks-not sc lawful none from.0 b.0 (subst (λ hs. BreaksAt sc hs from.0 b.0) empty b.1))
     ]
 
--- where it is a tick, the node stands in the rounds afterwards
+-- after a tick the node stands in the rounds
 pub tick-done : (sc : Scenario) (w : World) (h : StandsInRounds sc w) (n : ℕ) (me : Side) (i k t : ℕ) (s : Site) (a : Timed) → IsLawful sc → MayHappen sc h.at w n
     → ClosesEarlier sc w.hands h.at n me i (Tick k) → slice_get (of_kind me w.sites) i ≡ Some s → s.ahead ≡ Some a → a.tick ≡ k → a.time ≡ t
     → Every (λ c. t < c.time) s.coming → AllPend t w.sites → AfterTick sc w.hands h.at w.sites w.ports me i s a (pass_and_tick sc w.ports me i a.tick s.core)

@@ -98,7 +98,7 @@ ticks-now sc lawful choices n w is = let were = takes-are sc choices n in ticks-
 
 -- The node after its tick.
 
--- it has had the tick
+-- the core has had the tick
 pub act-had : (sc : Scenario) (ports : List PortState) (me : Side) (i : ℕ) (a : Timed) (s : Site) → TicksNow sc me i a s → (pass_and_tick sc ports me i a.tick s.core).core.had ≡ a.tick + 1
 unfolding pass_and_tick
 act-had sc ports me i a s h =

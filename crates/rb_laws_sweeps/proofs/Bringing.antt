@@ -37,7 +37,7 @@ is-empty : (cs : List Coming) → length cs ≡ 0 → cs ≡ []
 is-empty [] e = refl
 is-empty (c ∷ cs) e = absurd (omega (arith, e))
 
--- one that passes is taken out
+-- to take out an item that passes leaves one fewer
 without-it : (q : Coming → Bool) (n : ℕ) (c : Coming) (cs : List Coming) → StandsAt n c cs → q c ≡ true → length (filter q cs) ≡ suc (length (filter q (remove cs n)))
 without-it q n c [] s h = absurd s
 without-it q zero c (x ∷ xs) s h = ap (λ b. length (cond b (x ∷ filter q xs) (filter q xs))) (ap q s ∙ h)
@@ -48,7 +48,7 @@ without-it q (suc n) c (x ∷ xs) s h = by (q x) (without-it q n c xs s h)
     by true e = ap suc e
     by false e = e
 
--- if it was the only one, nothing is left
+-- if only one item passes, nothing that passes is left without it
 without-sole : (q : Coming → Bool) (n : ℕ) (c : Coming) (cs : List Coming) → StandsAt n c cs → q c ≡ true → (d : Coming) → filter q cs ≡ d ∷ []
     → (c ≡ d) × (filter q (remove cs n) ≡ [])
 without-sole q n c [] s h d e = absurd s
@@ -79,7 +79,7 @@ arrival_in a = record { stamp = a.0; bytes = a.1.bytes }
 abbrev kept_in : ℕ × Coming → ℕ × Arrival
 kept_in a = (a.1.from, arrival_in a)
 
--- as many came as were due, and the only one if there was one
+-- as many came as were due, and if exactly one was due, that one came
 record Came (due came : List Coming) : Type 0 where
   one : (c : Coming) → due ≡ c ∷ [] → came ≡ c ∷ []
   count : length came ≡ length due
@@ -142,7 +142,7 @@ arrive-inbox sizes me core from bytes known room =
 
 -- Takes.
 
--- where nothing comes before the time
+-- if nothing comes before the time, nothing is taken
 takes-none : (sc : Scenario) (me : Side) (i until : ℕ) (s : Site) → Every (λ c. until ≤ c.time) s.coming → Takes sc me i until s s
 takes-none sc me i until s late = record {
   took = [];
@@ -155,7 +155,7 @@ takes-none sc me i until s late = record {
       (every-weaker (λ c. until ≤ c.time) (λ c. ((c.from == j) && nat_lt c.time until) ≡ false) (not-due j until) s.coming late));
 }
 
--- one arrival, and then the rest
+-- if the first arrival is taken and then the rest, all are taken
 takes-one : (sc : Scenario) (me : Side) (i until : ℕ) (s z : Site) (p : Placed) → first_of s.coming ≡ Some p → p.coming.time < until
     → s.core.had < 2 ^ 31 → Every (IsHeardIfDue sc me i until) s.coming → Takes sc me i until (after_arrival sc me i p.place p.coming s) z → Takes sc me i until s z
 unfolding after_arrival

@@ -133,7 +133,7 @@ what-is-due sc w h me i s a there pends = by (due_of sc w) refl
 
 -- The first due event.
 
--- it is the first arrival at a node, and comes before the time up to which the node is swept
+-- `d` is the first arrival at a node, and comes before the time up to which the node is swept
 pub record ArrivalDue (w : World) (me : Side) (i : ℕ) (a : Timed) (d : Due) : Type 0 where
   pub side : Side
   pub j : ℕ
@@ -144,7 +144,7 @@ pub record ArrivalDue (w : World) (me : Side) (i : ℕ) (a : Timed) (d : Due) : 
   pub early : p.coming.time < until_tick me i a.time side j
   pub is : d ≡ record { side = side; node = j; pending = Arrival p.place p.coming }
 
--- it is the first tick, and all that is pending comes later than that
+-- `d` is the first tick, and all that is pending comes later
 pub record TickDue (w : World) (me : Side) (i : ℕ) (a : Timed) (d : Due) : Type 0 where
   pub is : d ≡ record { side = me; node = i; pending = Tick a.tick }
   pub late : (you : Side) (n : ℕ) (z : Site) → slice_get (of_kind you w.sites) n ≡ Some z → Every (λ c. until_tick me i a.time you n ≤ c.time) z.coming
@@ -186,7 +186,7 @@ which-due sc w h me i a first it = by (ready it.due.side it.due.j it.due.s it.du
     ready : (you : Side) (n : ℕ) (z : Site) → slice_get (of_kind you w.sites) n ≡ Some z → ReadyFirst sc.sizes t you n z
     ready you n z there = ready-first sc.sizes t you n z (h.known.known you n z there) (coming you n z there)
 
-    -- where nothing is ready all comes later, and the tick too
+    -- if nothing is ready at a node, its arrivals and its tick come later
     none-ready : (you : Side) (n : ℕ) (z : Site) → slice_get (of_kind you w.sites) n ≡ Some z → ready_at sc.sizes t you n z ≡ []
         → Every (λ c. t + 1 ≤ c.time) z.coming × (tick_at you n t z.ahead ≡ [])
     none-ready you n z there none = elim (ready you n z there) [
@@ -197,7 +197,7 @@ which-due sc w h me i a first it = by (ready it.due.side it.due.j it.due.s it.du
     low : t ≤ a.time
     low = tick-after t first.node.ahead a first.node.coming first.pends (pend-of t w.sites it.pend me i first.node first.there)
 
-    -- behind the node of the first due event the tick's node would have it ready
+    -- if the tick's node is behind that of the first due event, the tick is later
     tick-later : is_behind me i it.due.side it.due.j ≡ true → t < a.time
     tick-later behind = elim (cases_lt t a.time) [
       | inl lt ↦ lt

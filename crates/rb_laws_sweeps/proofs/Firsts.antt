@@ -48,7 +48,7 @@ first-stands (c ∷ cs) p e = subst (λ p. StandsAt p.place p.coming (c ∷ cs))
         inner true s = refl
         inner false s = s
 
--- it comes before all others
+-- the first arrival comes before all others
 pub first-least : (cs : List Coming) (p : Placed) → first_of cs ≡ Some p → Every (λ d. comes_first p.coming d ≡ true) cs
 unfolding first_of
 first-least [] p e = tt

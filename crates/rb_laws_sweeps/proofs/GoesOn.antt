@@ -121,7 +121,7 @@ message-unheard sc lawful me side i j frame k until (Some m) sites s there le =
     let sent : Side → ℕ → Site → Site = sent_to sc me i frame x in
     (sent side j s, (get-each sent sites side j ∙ ap (option_map (sent side j)) there, sent-unheard sc lawful me side i j frame until x s le))
 
--- the nodes before the message
+-- each node after the two changes is one of the nodes before them
 node-back : (me : Side) (i : ℕ) (first next : Site → Site) (sites : Each Site) (side : Side) (n : ℕ) (y : Site)
     → slice_get (of_kind side (at_node me i next (at_node me i first sites))) n ≡ Some y
     → (s : Site) × ((slice_get (of_kind side sites) n ≡ Some s) × (((is_node me i side n ≡ true) × (y ≡ next (first s))) ⊎ ((is_node me i side n ≡ false) × (y ≡ s))))
@@ -138,7 +138,7 @@ node-back me i first next sites side n y there =
 
 -- The step.
 
--- two first ticks, the later in time or at the same time behind
+-- the later of two ticks, in time or at the same time by its node, sweeps each node at least as far
 untils-rise : (me you : Side) (i n t u : ℕ) → (t < u) ⊎ ((t ≡ u) × (is_behind me i you n ≡ true)) → (side : Side) (j : ℕ) → until_tick me i t side j ≤ until_tick you n u side j
 untils-rise me you i n t u (inl lt) side j = let most = until-most me side i j t in let least = until-least you side n j u in omega (arith, lt, most, least)
 untils-rise me you i n t u (inr same) side j = by (is_behind you n side j) refl

@@ -73,7 +73,7 @@ message-got sc me j frame k (Some m) sites h =
     each-got sc (sent_to sc me j frame (record { tick = k; message = m })) sites
     (λ side i s there known. subst (Known sc.sizes side) (sym (sent-got sc me j frame (record { tick = k; message = m }) side i s)) known) h
 
--- one node changes
+-- a change of one node that keeps `Known` for what it got keeps `GotKnown`
 node-got : (sc : Scenario) (me : Side) (i : ℕ) (change : Site → Site) (sites : Each Site)
     → ((s : Site) → slice_get (of_kind me sites) i ≡ Some s → Known sc.sizes me s.got → Known sc.sizes me (change s).got) → GotKnown sc sites → GotKnown sc (at_node me i change sites)
 node-got sc me i change sites go h =

@@ -139,7 +139,7 @@ had-node sizes me i change s sites there =
         ap (λ z. with_had sizes me i (change z)) (same_Some s z (sym there ∙ its))
         ∙ ap (λ k. with_had sizes k n (change z)) (sym is.0)
 
--- one node changes, and a message is on its way
+-- `HadOff` is kept if one node changes and a message is on its way
 changes-had : (sc : Scenario) (q : ℕ) (hands : List HandIn) (b : ℕ) (sites : Each Site) (me : Side) (i frame k : ℕ) (m : Option Message) (change : Site → Site) (s : Site) (r e : ℕ)
     → (h : HadOff sc q hands b sites) → slice_get (of_kind me sites) i ≡ Some s
     → length (with_had sc.sizes me i (change s)).coming + e * length sc.says ≤ length (with_had sc.sizes me i s).coming + h.enters me i * length sc.says

@@ -42,7 +42,7 @@ by-silent sc me i until (suc n) s late =
     ap (λ z. heard_first sc me i until (first_of s.coming) s ++ heard_by sc me i until n z) (step-stays sc me i until s late)
     ∙ ap (λ l. l ++ heard_by sc me i until n s) (first-silent sc me i until s late) ∙ by-silent sc me i until n s late
 
--- where nothing comes before the time nothing is heard
+-- if nothing comes before the time, nothing is heard
 pub hears-none : (sc : Scenario) (me : Side) (i until : ℕ) (s : Site) → Every (λ c. until ≤ c.time) s.coming → heard sc me i until s ≡ []
 unfolding heard
 hears-none sc me i until s late = by-silent sc me i until (length s.coming) s late
@@ -79,7 +79,7 @@ hearing-composes sc me i s until later le =
 
 -- What is pushed later.
 
--- it is not heard
+-- what is added for later is not heard
 pub push-unheard : (sc : Scenario) (me : Side) (i until : ℕ) (ahead : Option Timed) (more : List Coming) (s : Site) → Every (λ c. until ≤ c.time) more
     → heard sc me i until (with_more ahead more s) ≡ heard sc me i until s
 push-unheard sc me i until ahead more s later =

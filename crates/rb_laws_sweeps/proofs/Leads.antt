@@ -26,7 +26,7 @@ use Rattle.rb_laws_sweeps.proofs.Settles.{complete-same, each-fuse}
 use Rattle.rb_laws_sweeps.proofs.Sweeps.{sweep-stays, sweep-takes}
 use Rattle.rb_laws_sweeps.proofs.Telling.{named-itself, same-named, takes-shift, told-one, told-shift}
 
--- one node takes an arrival
+-- the site of node `n` after node `i` has taken the arrival
 abbrev pub arrives_at : Scenario → Side → ℕ → ℕ → Coming → Side → ℕ → Site → Site
 arrives_at sc me i place c side n s = elim (is_node me i side n) as (λ _. Site) [ true ↦ after_arrival sc me i place c s | false ↦ s ]
 

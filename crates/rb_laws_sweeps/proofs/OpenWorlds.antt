@@ -30,7 +30,7 @@ use Rattle.rb_laws_events.proofs.WorldStands.{is_node}
 use Rattle.rb_laws_sweeps.specs.Laws.{ArrivalsSettleNothing, NeedsEvent}
 use Rattle.rb_laws_sweeps.proofs.Settles.{KeepsTold, changed, settle-changed}
 
--- where the run breaks off the book waits for the stage
+-- if the run breaks off, the book waits for the stage of the break
 waits-for : (sc : Scenario) (hands : List HandIn) (b q : ℕ) (book : Book) → BreaksAt sc hands b q → book ≡ (moment sc hands b).book → needs_no_event sc book.upcoming ≡ false
     → book.upcoming ≡ Stage (place_at sc.sizes (moment sc hands b))
 waits-for sc hands b q book off is needs = by (m.frame == sc.frames) refl
@@ -88,7 +88,7 @@ arrival-told sc me i place c = record {
     by-begun s true = refl
     by-begun s false = refl
 
--- the world after it
+-- the world after one arrival is taken
 abbrev pub after_one : Scenario → Side → ℕ → ℕ → Coming → World → World
 after_one sc me i place c w = record w { sites = at_node me i (after_arrival sc me i place c) w.sites; turn = None }
 

@@ -25,7 +25,7 @@ use Rattle.rb_laws_sweeps.proofs.Sweeps.{all-every, every-all, push-passes, swee
 
 -- A message.
 
--- it is on its way for some time
+-- a message arrives later than it was sent
 pub message-later : (sc : Scenario) → IsLawful sc → (me side : Side) (j i frame : ℕ) (x : Sending) → same_side side (other me) ≡ true
     → time_of (clock_of sc me j) x.tick + 1 ≤ (coming_of sc side i j frame x).time
 message-later sc lawful me side j i frame x kind =

@@ -46,7 +46,7 @@ unfolding swept_by
 by-stays sc me i until zero s late = refl
 by-stays sc me i until (suc n) s late = ap (swept_by sc me i until n) (step-stays sc me i until s late) ∙ by-stays sc me i until n s late
 
--- where nothing comes before the time the node stays
+-- if nothing comes before the time, the node stays as it is
 pub sweep-stays : (sc : Scenario) (me : Side) (i until : ℕ) (s : Site) → Every (λ c. until ≤ c.time) s.coming → swept sc me i until s ≡ s
 unfolding swept
 sweep-stays sc me i until s late = by-stays sc me i until (length s.coming) s late

@@ -65,7 +65,7 @@ sync-sees sc m q ws me i st =
 abbrev pub place_of : (sc : Scenario) (m : Moment) (q : ℕ) → Place
 place_of sc m q = record { frame = m.frame; slot = sync_slot_of sc.sizes; stage = q + 1 }
 
--- the frame's stages with this one
+-- the judged stages of the frame with stage q + 1 of the sync slot
 abbrev pub stages_with : (sc : Scenario) (m : Moment) (q : ℕ) → List JudgedStage
 stages_with sc m q = judged_of sc (place_of sc m q) (rows_of sc m) ∷ m.book.stages
 
@@ -88,7 +88,7 @@ shown : (time : ℕ) (o : Option ℕ) → is_some o ≡ true → is_something (j
 shown time None h = cc
 shown time (Some k) h = refl
 
--- of whom something is taken is trusted, and seen
+-- a node from which something is taken is trusted and was seen
 pub took_is_seen : (sc : Scenario) (hands : List HandIn) (n : ℕ) (m : Moment) (s : Shared) (q : ℕ) (c : IsStage sc hands n m s q) (me : Side) (i j : ℕ) (st : NodeState)
     → IsGoodNode sc m me i st → j < 16 → is_some (took sc m q (windows sc hands n m s q c) me i st j) ≡ true
     → IsSeen s.trusted (other me) (stages_with sc m q) j
@@ -113,7 +113,7 @@ took_is_seen sc hands n m s q c me i j st here below some =
 
 -- What two good nodes take of one source.
 
--- neither takes anything, or both at near times
+-- neither node took anything, or both took something at near times
 abbrev pub TookAlike : ℕ → ℕ → ℕ → Option ℕ → Option ℕ → Type 0
 TookAlike eps a b None None = ⊤
 TookAlike eps a b None (Some k) = ⊥

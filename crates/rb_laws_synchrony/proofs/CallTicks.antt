@@ -32,7 +32,7 @@ use Rattle.rb_laws_synchrony.proofs.Synchronous.{KnowNext, KnowsMiddle}
 use Rattle.rb_laws_synchrony.proofs.Synchrony.{IsSynchronous, synchrony}
 use Rattle.rb_laws_synchrony.proofs.TakenCalls.{IsStage}
 
--- where a good node knows a middle, the next call is a tick of its own window
+-- if a good node knows a middle, its next call is at a tick of its own window
 pub record KeepsTicks (sc : Scenario) (st : NodeState) : Type 0 where
   pub second : (k : ℕ) → st.k1 ≡ Some k
       → (st.epoch + (f0_of sc.sizes sc.plan + sc.plan.l) ≤ k + sc.plan.l) × (k + sc.plan.l < st.epoch + (f0_of sc.sizes sc.plan + sc.plan.l + sc.plan.v))
@@ -55,7 +55,7 @@ not-yet sizes me stage n early = go (listens me Sync stage) (nat_lt (3 * sync_sl
     go true b e = e
     go false b e = refl
 
--- before the end of stage 1 no middle is known
+-- up to stage 1 of the sync slot all good nodes keep their ticks
 early-ticks : (sc : Scenario) (hands : List HandIn) (n : ℕ) (m : Moment) (s : Shared) → Agree sc hands n m s → m.window ≤ 3 * sync_slot_of sc.sizes → AllKeepTicks sc m
 early-ticks sc hands n m s agree early me i st h =
     let known : Knows sc.sizes me m.window st = (agree.nodes me i st h).knows in
@@ -75,7 +75,7 @@ first-tick sc me i st o k first last own low high n knows is =
 swap : (e f a b k : ℕ) → k < e + (f + a + b) → k < e + (f + b + a)
 swap e f a b k h = omega arith
 
--- after stage 1 the RMUs know theirs, and no other is known
+-- after stage 1 of the sync slot all good nodes keep their ticks
 second-ticks : (sc : Scenario) (hands : List HandIn) (n : ℕ) → IsSynchronous sc hands n → (moment sc hands n).window ≡ 3 * sync_slot_of sc.sizes + 1 → AllKeepTicks sc (moment sc hands n)
 second-ticks sc hands n x at Rmu i st h =
     let f : ℕ = f0_of sc.sizes sc.plan in

@@ -48,7 +48,7 @@ keeps sc m stage ws me i st good tick =
     ∙ ap (λ k. (close_sync sc.sizes me k stage first sense).state) (keeping-is sc.sizes me i st slot stage (word_at sc m slot i)) in
     subst (Keeps me stage (sync_closing_of st.far (expects_call me st stage) sense first).middle st) (sym is) (close-keeps sc.sizes me st sent stage first sense)
 
--- where a middle is found it is the one kept
+-- a middle that is found is kept
 pub keeps_found : (sc : Scenario) (m : Moment) (stage : ℕ) (ws : Windows sc m (sync_slot_of sc.sizes) stage) (me : Side) (i : ℕ) (st : NodeState) (tick : ℕ)
     → is_good sc me i m.frame (sync_slot_of sc.sizes) ≡ true → ws.first me st ≤ ws.last me st
     → middle_of (present (each_node (taken_of stamp_in st.far (expects_call me st stage) (sense_in sc m (sync_slot_of sc.sizes) stage ws me i st)))) ≡ Some tick

@@ -43,7 +43,7 @@ pub biu_begins : (plan : Plan) (u d f least x : ℕ) → Fits plan u d f
     → IsBetween (least + plan.z * u + min (plan.c * u) plan.dmin) (least + plan.z * u + min (plan.c * u) plan.dmin + plan.p) x
 biu_begins plan u d f least x fit at = record { least = omega (arith, at.least); most = omega (arith, at.most, fit.next_cc, fit.next_ca) }
 
--- an RMU z ticks after the middle of the calls
+-- an RMU begins its next frame z ticks after the middle of the calls
 pub rmu_begins : (plan : Plan) (u d f least x : ℕ) → Fits plan u d f
     → IsBetween (least + plan.dmin + plan.z * u)
     (least + (eps_of plan + (u + d) + d * plan.l + (eps_of plan + (u + d)) + d * plan.v) + plan.dmax + (u + d) + plan.z * (u + d)) x
@@ -86,7 +86,7 @@ third-near sc hands n m s low c sync =
     calls_near sc c.stage.law m Biu 3 (near_2 sc.plan) sc.plan.v second_kept (λ i st h. let k = sync.second at i st h in (k.tick, k.is)) (λ st. refl)
     (sync.second_near at c.premise.side none)
 
--- when good nodes begin the next frame
+-- after stage 3 good nodes know when they begin the next frame
 pub know_next : (sc : Scenario) (hands : List HandIn) (n : ℕ) (m : Moment) (s : Shared) (low : ℕ) → IsPassedStage sc hands n m s 2 → Synchronous sc m s low → KnowNext sc (next sc m)
 know_next sc hands n m s low c sync = (later, by_kind)
   where

@@ -38,7 +38,7 @@ parts_within good some has (j ∷ js) =
 
 -- ---- a middle between bounds
 
--- of a good source this stamp is there, between the bounds
+-- there is a stamp between `low` and `high`
 pub record HasStamp (low high : ℕ) (o : Option ℕ) : Type 0 where
   pub stamp : ℕ
   pub is : o ≡ Some stamp
@@ -92,7 +92,7 @@ middle_within f good low high m js has more is =
     either true c h = refl
     either false c h = h
 
--- where good ones are more than the others there is a middle
+-- if more sources are good than others have a stamp, there is a middle
 pub some_middle : (f : ℕ → Option ℕ) (good : ℕ → Bool) (js : List ℕ) → ((j : ℕ) → good j ≡ true → is_some (f j) ≡ true)
     → count_if (λ j. not (good j) && is_some (f j)) js < count_if good js
     → (m : ℕ) × (middle_of (present (map f js)) ≡ Some m) × IsMiddle m (present (map f js))
@@ -103,7 +103,7 @@ some_middle f good js there more =
 
 -- ---- near middles
 
--- of a source both have nothing, or stamps of which the times are near
+-- both have nothing, or both have stamps with near times
 abbrev pub BothNear : ℕ → (ℕ → ℕ) → (ℕ → ℕ) → Option ℕ → Option ℕ → Type 0
 BothNear e x y None None = ⊤
 BothNear e x y None (Some t) = ⊥
@@ -142,7 +142,6 @@ pub record HasLeast (good : ℕ → Bool) (time : ℕ → ℕ) (spread n : ℕ) 
   pub at : (i : ℕ) → i < n → good i ≡ true → IsBetween least (least + spread) (time i)
   pub held : ((i : ℕ) → i < n → good i ≡ false) ⊎ ((k : ℕ) × (good k ≡ true) × (time k ≡ least))
 
--- a number up to the last
 last_or_before : (i n : ℕ) → i < suc n → (i < n) ⊎ (i ≡ n)
 last_or_before i n lt = elim (cases_lt i n) [ inl before ↦ inl before | inr ge ↦ inr (omega arith) ]
 

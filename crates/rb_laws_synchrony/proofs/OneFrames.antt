@@ -434,7 +434,7 @@ timely-below x low is n below me i j here good =
     inside : (e a h l : ℕ) → h < l → e + (a + h) ≤ e + (a + l - 1)
     inside e a h l less = omega arith
 
--- a call in a stage of the sync slot
+-- a call in a stage of the sync slot is timely
 timely-stage : (x : Frame) (low q : ℕ) (me : Side) (first ticks from to : ℕ) → IsStageOf x low q me first ticks from to → (i j : ℕ) → x.good me i ≡ true
     → x.good (other me) j ≡ true → IsTimelyMessage x (sync_window x q) me i j
 timely-stage x low q me first ticks from to s i j here good =
@@ -466,7 +466,7 @@ listens-in : (x : Frame) (q : ℕ) (me : Side) (i first ticks : ℕ) → window_
 listens-in x q me i first ticks e listening =
     sym (ap (λ (w : Window). listens me (role_of x.sizes w.slot) w.stage) e ∙ ap (λ role. listens me role (q + 1)) (sync_role x.sizes)) ∙ listening
 
--- in a window of the sync slot
+-- a message in a window of the sync slot is timely
 timely-in-sync : (x : Frame) (low : ℕ) → FirstStage x low → (q : ℕ) → q < 3 → (me : Side) (i j : ℕ) → x.good me i ≡ true → x.good (other me) j ≡ true
     → listens me (role_of x.sizes (window_in x (sync_window x q) me i).slot) (window_in x (sync_window x q) me i).stage ≡ true
     → IsTimelyMessage x (sync_window x q) me i j

@@ -112,7 +112,6 @@ fits sizes plan is feasible =
 pub le_trans : (a b c : ℕ) → a ≤ b → b ≤ c → a ≤ c
 le_trans a b c h k = omega arith
 
--- the offset after a window's last one
 pub last_plus : (first ticks : ℕ) → 1 ≤ ticks → first + ticks - 1 + 1 ≡ first + ticks
 last_plus first ticks some = omega arith
 
@@ -130,7 +129,7 @@ exact_late low p a f h l o u d most le e c2 =
 
 -- The sync slot. The calls of stage 1 go out at the times from `low + (f + h) * u` on.
 
--- the calls of stage 2, and the window of the first stage 2
+-- a window of stage 2 begins no later than the first calls of that stage come
 pub second_early : (low p f h l u d least : ℕ) → p + d * (f + h) + d * l ≤ h * (u + d) + 2 * least
     → low + p + (f + l) * (u + d) ≤ low + (f + h) * u + least + l * u + least
 second_early low p f h l u d least c3 = omega (arith, c3)

@@ -66,7 +66,8 @@ third_at sc m ws at =
 abbrev pub Begun : Scenario → Moment → ℕ → Type 0
 Begun sc m low = (me : Side) (i : ℕ) (st : NodeState) → IsGoodNode sc m me i st → IsBetween low (low + sc.plan.p) (time_of (clock_of sc me i) st.epoch)
 
--- such windows lie about calls between two times, if these are neither too early nor too late
+-- the windows of a stage lie about calls between two times, if these are neither too early nor too
+-- late
 pub lie_about : (sc : Scenario) (m : Moment) (slot stage : ℕ) (c : IsSet sc m slot stage) (first ticks : ℕ) → IsAt sc m slot stage c.ws first ticks → (start from to : ℕ) → Begun sc m start
     → start + sc.plan.p + first * tick_of sc.plan ≤ from + sc.plan.dmin → to + sc.plan.dmax ≤ start + (first + ticks - 1) * shortest_of sc.plan
     → LieAbout sc m slot stage c.ws from to
@@ -115,7 +116,7 @@ first_calls sc law m low begun = record {
     within : (e f h l tick : ℕ) → e + f + h ≡ tick → h < l → (e + f ≤ tick) × (tick < e + (f + l))
     within e f h l tick is less = (omega arith, omega arith)
 
--- calls some ticks after a middle
+-- a call `n` ticks after a known middle comes between these times
 after-middle : (sc : Scenario) → IsLawful sc → (m : Moment) (me : Side) (i : ℕ) (st : NodeState) → IsGoodNode sc m me i st → (k : Option ℕ) (first last own low high n tick : ℕ)
     → KnowsMiddle sc me i st k first last own low high → option_map (λ k. k + n) k ≡ Some tick
     → IsBetween (low + n * shortest_of sc.plan) (high + n * tick_of sc.plan) (time_of (clock_of sc me i) tick)

@@ -51,7 +51,7 @@ unfolding state_through close_sync sync_outcome_of
 epoch-is x zero me i = refl
 epoch-is x (suc q) me i = epoch-is x q me i
 
--- an offset of the frame at a good node
+-- at a good node an offset of the frame comes between these times
 pub offset-at : (x : Frame) (low : ℕ) → IsFrame x low → (me : Side) (i : ℕ) → x.good me i ≡ true → (offset tick : ℕ)
     → tick ≡ (x.before me i).epoch + offset
     → IsBetween (low + offset * shortest_of x.plan) (low + x.plan.p + offset * tick_of x.plan) (time_of (x.clock me i) tick)
@@ -62,7 +62,7 @@ offset-at x low is me i good offset tick e =
 
 -- A stage.
 
--- node j of a kind calls in the stage after q stages, between two times and at a tick of its window
+-- node `j` of `kind` calls in stage q + 1, between two times and at a tick of its window
 pub record Calls (x : Frame) (q : ℕ) (kind : Side) (j from to first ticks : ℕ) : Type 0 where
   pub tick : ℕ
   pub at : call_tick_of x.sizes x.plan (state_through x q kind j) (q + 1) ≡ Some tick
@@ -86,7 +86,7 @@ pub record IsStageOf (x : Frame) (low q : ℕ) (me : Side) (first ticks from to 
       → is_eligible (state_through x q kind i).far j ≡ true
   pub calls : (j : ℕ) → x.good (other me) j ≡ true → Calls x q (other me) j from to first ticks
 
--- its first tick comes before the calls do
+-- the first tick of a window comes no later than the first call
 starts : (x : Frame) (low q : ℕ) (me : Side) (first ticks from to : ℕ) → IsStageOf x low q me first ticks from to → (i : ℕ) → x.good me i ≡ true
     → time_of (x.clock me i) ((x.before me i).epoch + first) ≤ from + x.plan.dmin
 starts x low q me first ticks from to s i good =
@@ -145,7 +145,7 @@ called x low q me first ticks from to s least most lie i j here good =
       not_late = omega (arith, between.most, b.arrives.not_late);
     }
 
--- so a good node hears good calls
+-- a good node hears good calls
 hears : (x : Frame) (low q : ℕ) (me : Side) (first ticks from to : ℕ) (s : IsStageOf x low q me first ticks from to) (least most : ℕ)
     → CallsLie x low q me first ticks from to s least most → (i : ℕ) → x.good me i ≡ true
     → HearsGoodCalls x.plan (x.good (other me)) (least + x.plan.dmin) (most + x.plan.dmax) (listener x q me i)
@@ -211,7 +211,7 @@ keeps x low q me first ticks from to s i here =
       in_time = by;
     }
 
--- between closer bounds of the calls it lies, too
+-- if the calls lie between closer bounds, so does the middle
 pub closer-still : (x : Frame) (low q : ℕ) (me : Side) (first ticks from to : ℕ) (s : IsStageOf x low q me first ticks from to) (least most : ℕ)
     → CallsLie x low q me first ticks from to s least most → (i : ℕ) (here : x.good me i ≡ true)
     → IsBetween (least + x.plan.dmin) (most + x.plan.dmax + tick_of x.plan) (time_of (x.clock me i) (keeps x low q me first ticks from to s i here).tick)
@@ -265,7 +265,7 @@ near-calls x low q me first ticks from to s a b j good_a good_b good =
       under = omega (arith, delays, yours.arrives.not_late, mine.arrives.not_early);
     }
 
--- where no source is asymmetric, the middles are near
+-- if no source is asymmetric, the middles are near
 pub middles-near : (x : Frame) (low q : ℕ) (me : Side) (first ticks from to : ℕ) (s : IsStageOf x low q me first ticks from to)
     → ((a b j : ℕ) → x.good me a ≡ true → x.good me b ≡ true → j < 16 → x.good (other me) j ≡ false
     → TakeNear (x.plan.dmax - x.plan.dmin) (listener x q me a) (listener x q me b) j)

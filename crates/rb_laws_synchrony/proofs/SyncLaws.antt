@@ -28,7 +28,7 @@ all_timely sc hands law n running inside =
     let s : IsSynchronous sc hands n = synchrony sc hands law n running in
     timely_moment sc hands n (moment sc hands n) s.shared s.low law s.agree s.near inside
 
--- where the run goes on before a slot, good nodes begin an offset of the frame in one band
+-- before the slot good nodes begin an offset of the frame in one band
 pub record IsInOneBand (sc : Scenario) (hands : List HandIn) (frame slot : ℕ) : Type 0 where
   pub low : ℕ
   pub at : (me : Side) (i : ℕ) (st : NodeState) → IsGoodBefore sc hands frame slot me i st → (offset : ℕ)

@@ -47,7 +47,7 @@ begun_next sc hands n m s low agree begun me i now h =
     let e : from.st.epoch ≡ now.epoch = sym (epoch_after sc m me i from.st) ∙ ap (λ x. x.epoch) from.is in
     subst (λ k. IsBetween low (low + sc.plan.p) (time_of (clock_of sc me i) k)) e (begun me i from.st from.was)
 
--- below the sync slot there is nothing else
+-- after a window below the sync slot good nodes that have begun the frame together are synchronous
 pub near_exact : (sc : Scenario) (hands : List HandIn) (n : ℕ) (m : Moment) (s t : Shared) (low : ℕ) → Agree sc hands n m s → Begun sc m low
     → m.window < 3 * sync_slot_of sc.sizes → Synchronous sc (next sc m) t low
 unfolding after_window

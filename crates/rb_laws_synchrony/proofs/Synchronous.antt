@@ -26,7 +26,7 @@ from_1 sc low = low + (f0_of sc.sizes sc.plan + sc.plan.h) * shortest_of sc.plan
 abbrev pub to_1 : Scenario → ℕ → ℕ
 to_1 sc low = low + sc.plan.p + (f0_of sc.sizes sc.plan + sc.plan.h) * tick_of sc.plan
 
--- of calls that go out between two times the middle lies between these
+-- calls that go out from time `low` on are heard from this time on
 abbrev pub heard_from : Scenario → ℕ → ℕ
 heard_from sc low = low + sc.plan.dmin
 
@@ -121,7 +121,7 @@ at_offset u d clock steady low p epoch offset tick e between =
       most = omega (arith, same, between.most, steady.not_late epoch offset);
     }
 
--- some ticks after a tick between two times
+-- the tick `n` ticks after one between two times comes `n` shortest to `n` longest ticks later
 pub ticks_on : (u d : ℕ) (clock : Timeline) → Steady u d clock → (low high tick n later : ℕ) → later ≡ tick + n
     → IsBetween low high (time_of clock tick) → IsBetween (low + n * u) (high + n * (u + d)) (time_of clock later)
 ticks_on u d clock steady low high tick n later e between =
@@ -131,7 +131,7 @@ ticks_on u d clock steady low high tick n later e between =
       most = omega (arith, same, between.most, steady.not_late tick n);
     }
 
--- as many ticks after ticks of near times
+-- ticks that come `n` ticks after ticks of near times have near times
 pub near_on : (u d : ℕ) (a b : Timeline) → Steady u d a → Steady u d b → (near k l n kn ln : ℕ) → kn ≡ k + n → ln ≡ l + n
     → AreNear near (time_of a k) (time_of b l) → AreNear (near + d * n) (time_of a kn) (time_of b ln)
 near_on u d a b steady_a steady_b near k l n kn ln e f close =

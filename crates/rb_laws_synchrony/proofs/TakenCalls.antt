@@ -119,7 +119,7 @@ taken_from sc m q ws me i st j k h = go (listens me Sync (q + 1)) (has st.far.tr
     go true false t c p = cc
     go false b t c p = cc
 
--- of a good source that calls its call is taken
+-- the call of a good source that calls is taken
 pub record IsCallTaken (sc : Scenario) (m : Moment) (q : ℕ) (ws : Windows sc m (sync_slot_of sc.sizes) (q + 1)) (me : Side) (i : ℕ) (st : NodeState) (j tick : ℕ) : Type 0 where
   pub message : Message
   pub heard : heard_in sc m (sync_slot_of sc.sizes) (q + 1) ws me i st j ≡ coming_of sc me i j st.frame (record { tick = tick; message = message }) ∷ []

@@ -43,14 +43,14 @@ steady-clock plan f clock fit lengths =
           subst (λ g. time_of clock (suc tick) < time + g) fit.longest (stamp_near clock (longest_of plan) (λ k. (lengths k).1) time tick is);
     }
 
--- a scenario's plan in numbers
+-- `Fits` holds for the numbers of the scenario's plan
 abbrev pub plan_fits : Scenario → Type 0
 plan_fits sc = Fits sc.plan (shortest_of sc.plan) (drift_of sc.plan) (f0_of sc.sizes sc.plan)
 
 pub lawful_fits : (sc : Scenario) → IsLawful sc → plan_fits sc
 lawful_fits sc law = fits sc.sizes sc.plan law.plan law.feasible
 
--- a good node's clock
+-- the clock of a good node is steady
 pub steady : (sc : Scenario) → IsLawful sc → (me : Side) (i frame slot : ℕ) → is_good sc me i frame slot ≡ true
     → Steady (shortest_of sc.plan) (drift_of sc.plan) (clock_of sc me i)
 steady sc law me i frame slot good =
@@ -72,7 +72,7 @@ stamp_from clock moves time first le =
     let is : IsStamp clock time (stamp_of clock time) = stamp_of-is clock moves time in
     tick_le clock moves first (stamp_of clock time) (omega (arith, le, is.reached))
 
--- a time up to that of a tick with this tick or an earlier one
+-- the stamp of a time up to that of tick `last` is at most `last`
 pub stamp_to : (clock : Timeline) → Moves clock → (time last : ℕ) → time ≤ time_of clock last → stamp_of clock time ≤ last
 stamp_to clock moves time last le = stamp_le clock time (stamp_of clock time) last (stamp_of-is clock moves time) le
 

@@ -46,13 +46,13 @@ delay_by-applies : (base : ℕ) (rules : List Rule) (from to : NodeName) (place 
 delay_by-applies base [] from to place = refl
 delay_by-applies base (r ∷ rs) from to place = delay_by-applies (if applies r from to place then r.delay else base) rs from to place
 
--- looked for among all rules
+-- the delay is that of the last of all rules that apply
 pub last_of_all : (base : ℕ) (rules : List Rule) (from to : NodeName) (place : Place)
     → delay_or base (find (λ rule. applies rule from to place) (reverse rules)) ≡ delay_after base rules from to place
 last_of_all base rules from to place =
     found_last (λ rule. applies rule from to place) base rules ∙ delay_by-applies base rules from to place
 
--- looked for among those of the pair
+-- the delay is that of the last of the pair's rules that cover the place
 pub last_of_pair : (base : ℕ) (rules : List Rule) (from to : NodeName) (place : Place)
     → delay_or base (find (λ rule. covers rule.frames rule.slots rule.stages place) (reverse (filter (is_between from to) rules))) ≡ delay_after base rules from to place
 last_of_pair base rules from to place =

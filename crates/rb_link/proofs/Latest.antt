@@ -30,7 +30,7 @@ find_both first second (x ∷ xs) r is both = go (first x) refl (λ e. find_both
         let later : find first xs ≡ Some r = sym (ap (λ b. cond b (Some x) (find first xs)) e) ∙ is in
         ap (λ b. cond (b && second x) (Some x) (find (λ y. first y && second y) xs)) e ∙ rest later
 
--- where none passes the one test, none passes both
+-- if nothing passes the first test, nothing passes both tests
 find_neither : (first second : Rule → Bool) (rules : List Rule) → find first rules ≡ None → find (λ x. first x && second x) rules ≡ None
 find_neither first second [] is = refl
 find_neither first second (x ∷ xs) is = go (first x) refl (find_neither first second xs)
@@ -42,7 +42,7 @@ find_neither first second (x ∷ xs) is = go (first x) refl (find_neither first 
         let later : find first xs ≡ None = sym (ap (λ b. cond b (Some x) (find first xs)) e) ∙ is in
         ap (λ b. cond (b && second x) (Some x) (find (λ y. first y && second y) xs)) e ∙ rest later
 
--- the last of the rules for the pair
+-- if the last rule for the pair covers the place, its delay is that of the messages
 last_delay : (base : ℕ) (rules : List Rule) (from to : NodeName) (rule : Rule) (place : Place) → find (is_between from to) (reverse rules) ≡ Some rule
     → covers rule.frames rule.slots rule.stages place ≡ true → rule.delay ≡ delay_after base rules from to place
 last_delay base rules from to rule place is has =
@@ -50,7 +50,7 @@ last_delay base rules from to rule place is has =
     find_both (is_between from to) (λ r. covers r.frames r.slots r.stages place) (reverse rules) rule is has in
     sym (ap (delay_or base) both) ∙ last_of_all base rules from to place
 
--- where there is none, the base is the delay at each place
+-- if no rule is for the pair, the base is the delay at each place
 base_delay : (base : ℕ) (rules : List Rule) (from to : NodeName) (place : Place) → find (is_between from to) (reverse rules) ≡ None
     → base ≡ delay_after base rules from to place
 base_delay base rules from to place is =
@@ -74,7 +74,7 @@ latest_delay_is base rules from to rule place is has = go (find (is_between from
 in_all : (most n : ℕ) → n ≤ most → is_in_range (0, most) n ≡ true
 in_all most n le = ap (λ b. b && nat_le n most) (le-leb 0 n (omega arith)) ∙ le-leb n most le
 
--- the ranges of every message
+-- these ranges cover the place of every message
 pub every_place : (frames slots stages : ℕ) (place : Place) → place.frame ≤ frames → place.slot ≤ slots → place.stage ≤ stages
     → covers (0, frames) (0, slots) (0, stages) place ≡ true
 every_place frames slots stages place frame slot stage =
@@ -99,7 +99,7 @@ latest_places_are base rules from to rule place is fits =
 pub latest_at_none : (base : ℕ) (rules : List Rule) → AreLatest base rules []
 latest_at_none base rules = record { each = λ pair rule at. let never : None ≡ Some rule = at in absurd cc }
 
--- the latest rule of one pair more
+-- the list of the latest rules goes on with that of one more pair
 pub latest_more : (base pair : ℕ) (rules latest : List Rule) (from to : NodeName) (rule : Rule) → AreLatest base rules latest → length latest ≡ pair
     → from ≡ sender_of pair → to ≡ receiver_of pair → IsLatest base rules from to rule → AreLatest base rules (latest ++ rule ∷ [])
 latest_more base pair rules latest from to rule are many sender receiver is = record { each = λ n r at. here n r at }
@@ -122,7 +122,7 @@ latest_more base pair rules latest from to rule are many sender receiver is = re
               subst (λ k. IsLatest base rules (sender_of k) (receiver_of k) r) p (subst (λ x. IsLatest base rules (sender_of pair) (receiver_of pair) x) same last)
         ]
 
--- where there are no rules, the base is the delay
+-- if there are no rules, the base is the delay
 pub base_alone : (base : ℕ) (rules : List Rule) (from to : NodeName) (place : Place) → rules ≡ [] → base ≡ delay_after base rules from to place
 base_alone base rules from to place none = subst (λ rs. base ≡ delay_after base rs from to place) (sym none) refl
 
@@ -132,7 +132,6 @@ pub by_latest : (latest : List Rule) (pair : ℕ) (rule : Rule) (place : Place) 
 by_latest latest pair rule place at has base rules are =
     latest_delay_is base rules (sender_of pair) (receiver_of pair) rule place (are.each pair rule (sym at)) has
 
--- there are none where their number is 0
 pub none_there : (rules : List Rule) (empty : Bool) → empty ≡ (length rules == 0) → empty ≡ true → rules ≡ []
 none_there [] empty is e = refl
 none_there (r ∷ rs) empty is e = let long : length (r ∷ rs) ≡ 0 = eqb-true (length (r ∷ rs)) 0 (sym is ∙ e) in absurd (omega arith)

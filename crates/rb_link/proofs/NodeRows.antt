@@ -194,7 +194,7 @@ empty_row base rules sender place i delay at = let never : None ≡ Some delay =
 
 pub ruleset row_found = (empty_row)
 
--- it has sixteen delays
+-- the row of the sender has sixteen delays
 pub sixteen_there : (base : ℕ) (rules : List Rule) (shared : List Ranges) (flat row : List ℕ) (sender : ℕ) (place : Place) (ranges : Ranges)
     → AreRows base rules shared flat → PlaceFits place → sender < 32 → Some ranges ≡ slice_get shared sender
     → covers ranges.frames ranges.slots ranges.stages place ≡ true → row ≡ slice_range flat (16 * sender) (16 * sender + 16)
@@ -241,7 +241,7 @@ one_rule_more latest sender k before after found is are narrow place fits =
     ∙ ap (λ o. all_below k has && rule_has o place) is
     ∙ sym (below-more k has)
 
--- at first they have each place
+-- before the first rule the shared ranges have each place
 pub no_rule_yet : (latest : List Rule) (sender : ℕ) → IsShared latest sender 0 (record { frames = (0, 4294967295); slots = (0, 4294967295); stages = (0, 4294967295) })
 no_rule_yet latest sender place fits =
     every_place 4294967295 4294967295 4294967295 place (omega (arith, fits.frame)) (omega (arith, fits.slot)) (omega (arith, fits.stage))

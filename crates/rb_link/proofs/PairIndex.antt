@@ -31,7 +31,7 @@ places_from-append n p (x ∷ xs) ys =
 length_take : (xs : List Rule) (i : ℕ) → i < length xs → length (take i xs) ≡ i
 length_take xs i lt = length-take-le i xs (omega arith)
 
--- the place of one more rule
+-- one more rule adds its place if it passes
 pub places_from-more : (p : Rule → Bool) (xs : List Rule) (i : ℕ) (d : Rule) → i < length xs
     → places_from 0 p (take (i + 1) xs) ≡ places_from 0 p (take i xs) ++ cond (p (get_or xs i d)) (i ∷ []) []
 places_from-more p xs i d lt =
@@ -82,12 +82,12 @@ unfoldable pub places_below : ℕ → List Rule → List ℕ
 places_below zero rules = []
 places_below (suc n) rules = places_below n rules ++ places_for n rules
 
--- where those of the first n pairs begin
+-- the number of places before those of each of the first `n` pairs
 unfoldable pub starts_below : ℕ → List Rule → List ℕ
 starts_below zero rules = []
 starts_below (suc n) rules = starts_below n rules ++ length (places_below n rules) ∷ []
 
--- one more rule is looked at
+-- one more rule was looked at, and its place added if it passes
 pub one_more : (before all : List ℕ) (p : Rule → Bool) (xs : List Rule) (i : ℕ) (d : Rule) (passes : Bool) → i < length xs
     → all ≡ before ++ places_from 0 p (take i xs) → passes ≡ p (get_or xs i d)
     → all ++ cond passes (i ∷ []) [] ≡ before ++ places_from 0 p (take (i + 1) xs)
@@ -192,7 +192,7 @@ its_places_more n rules places from to there sender receiver =
     ∙ sym (below-suc n rules)
     ∙ ap (λ m. places_below m rules) (sym (add-one n))
 
--- after the last pair comes one start more, at which its places end
+-- with the number of all places after the last start the index is whole
 pub index_whole : (n : ℕ) (rules : List Rule) (starts places : List ℕ) → starts ≡ starts_below n rules → places ≡ places_below n rules
     → IsIndex rules (starts ++ length places ∷ []) places
 index_whole n rules starts places is there =
@@ -201,7 +201,7 @@ index_whole n rules starts places is there =
     subst (λ l. IsIndex rules (starts ++ length places ∷ []) l) (sym there)
     (subst (λ l. IsIndex rules l (places_below n rules)) (sym all) (index_below n rules))
 
--- there is no pair where there is no start
+-- an index with no starts is of no pairs
 pub index_of_none : (rules : List Rule) → IsIndex rules [] []
 index_of_none rules = record { each = λ pair lt. absurd (omega arith) }
 

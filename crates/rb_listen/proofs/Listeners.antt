@@ -106,7 +106,7 @@ begins-following sizes plan had first s n m l h below at is e f core cores tells
       tells c core ∙ ap told acts ∙ sym (ap (λ (x : Heeding). x.heed) all),
     )
 
--- a later one
+-- a listener that follows goes on as `follow` says
 follows-now : (sizes : Sizes) (plan : Plan) (c : Core) (l : Listening) → l ≡ now.Following c → heed sizes plan l ≡ followed (follow sizes plan c)
 unfolding heed
 follows-now sizes plan c l at = ap (heed sizes plan) at

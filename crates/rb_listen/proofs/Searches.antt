@@ -177,7 +177,6 @@ pub not-after : (s t : Search) (first : First) → first.epoch ≤ s.had → t �
 not-after s t first before is =
     learns-next s t (if_after s first (nat_lt s.had first.epoch)) is (ap (if_after s first) (le-ltb s.had first.epoch before))
 
--- a decision
 pub comes-by : (s t : Search) (stage : Stage) (found expected : Option First) (l : Listening) → found ≡ expected → ComesTo s l stage t → l ≡ decided s found
     → ComesTo s (decided s expected) stage t
 comes-by s t stage found expected l is comes at = subst (λ x. ComesTo s x stage t) (at ∙ ap (decided s) is) comes

@@ -57,7 +57,7 @@ noted-soon sizes j at m lesson h soon = by (has_place sizes lesson.frame m)
         (message-soon (m.slot == sync_slot_of sizes) at m (record_of lesson.records m.slot j) h) soon
     by false = soon
 
--- where nothing is recorded there is none
+-- `IsSoonSense` holds if nothing is recorded
 silent-soon : (n k : ℕ) → IsSoonSense (get_or (replicate n Silent) k Silent)
 silent-soon zero k = tt
 silent-soon (suc n) zero = tt

@@ -195,8 +195,8 @@ first-below v w k shape plan e is =
     let zero_is : (0 == sync_slot_of v.sizes) ≡ false = grind (arith, nat_tests) in
     ap (λ s. s == sync_slot_of v.sizes) slot ∙ zero_is
 
--- after a turn: the frame is one more, it begins with the tick, and no middle is known; else all is
--- as it was
+-- after a turn the frame is one more, it begins with tick `k`, and no middle is known. Without a
+-- turn all is as it was
 pub data Turned (v v1 : Seated) (k : ℕ) : Type 0 where
   Turns : v1.state.frame ≡ v.state.frame + 1 → v1.state.epoch ≡ k → v1.state.k2 ≡ None → v.state.epoch + 2 ≤ k → Turned v v1 k
   Stays : v1.state.frame ≡ v.state.frame → v1.state.epoch ≡ v.state.epoch → v1.state.k2 ≡ v.state.k2 → Turned v v1 k

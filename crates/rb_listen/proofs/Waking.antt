@@ -51,7 +51,7 @@ last-by v w k b here h = ap (λ (x : Window). k == v.state.epoch + x.last) here 
 
 -- The soonest of the ticks that may be so in a window.
 
--- one of them is tick k
+-- tick `k` is the epoch, the last tick of the window or the next epoch
 data OneIs (v : Seated) (w : Window) (k : ℕ) : Type 0 where
   Begun : is_tick (Some v.state.epoch) k ≡ true → OneIs v w k
   Closed : is_tick (Some (v.state.epoch + w.last)) k ≡ true → OneIs v w k
@@ -118,7 +118,7 @@ finds-none v (suc others) had quiet =
     ap (λ b. elim b as (λ _. Option ℕ) [ true ↦ Some had | false ↦ wake_among v.sizes v.plan v.state others (suc had) ]) (quiet had (omega arith) (omega arith))
     ∙ finds-none v others (suc had) (λ m a b. quiet m (omega arith) (omega arith))
 
--- of a core in the follower's state
+-- the next waking tick of a core in the follower's state is found by that state
 next-at : (v : Seated) (c : Core) (had : ℕ) → c.state ≡ v.state → c.had ≡ had
     → next_wake v.sizes v.plan c ≡ wake_among v.sizes v.plan v.state (2 ^ 31 - had) had
 next-at v c had s h =
@@ -206,7 +206,7 @@ follow-now sizes plan c h =
     ap (λ b. elim b as (λ _. Act) [ true ↦ spent-act c | false ↦ act_on sizes plan Biu 16 c (state_at sizes plan Biu c.state c.had) None (state_at sizes plan Biu c.state c.had) ])
     (not-spent c h)
 
--- where no frame begins with a tick, it did not turn at it
+-- if no frame begins with a tick, the node did not turn at it
 turning-same : (v : Seated) (k : ℕ) → ((state_at v.sizes v.plan Biu v.state k).epoch == k) ≡ false → state_at v.sizes v.plan Biu v.state k ≡ v.state
 turning-same v k h = by (is_tick (new_epoch_of v.plan Biu v.state) k) refl
   where

@@ -87,7 +87,7 @@ pub leaves_zeros : (c : Cursor) → 0 < c.zeros → events_left (record c { zero
 unfolding events_left events_behind
 leaves_zeros c some = behind_front c.zeros (events_behind c) some
 
--- where no tick is left of the record before
+-- if no tick of the record before is left, the events left are those behind the cursor
 pub left_is : (c : Cursor) → c.zeros ≡ 0 → events_left c ≡ events_behind c
 unfolding events_left events_behind
 left_is c none = rw none refl

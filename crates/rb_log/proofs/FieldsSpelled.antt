@@ -20,7 +20,7 @@ pub went_on : {A B : Type 0} (r : Result A LogRefusal) (next : A → Result B Lo
 went_on (Ok value) next last is = record { value = value; first = refl; rest = is }
 went_on (Err fault) next last is = absurd (cc)
 
--- what follows of such a step, whatever it gave
+-- what holds after each value that a step can give holds after the step
 pub stepped : {A B : Type 0} (r : Result A LogRefusal) (next : A → Result B LogRefusal) (last : B) (P : Type 0) → (r >>= next) ≡ Ok last
     → ((value : A) → r ≡ Ok value → next value ≡ Ok last → P) → P
 stepped (Ok value) next last P is from = from value refl is

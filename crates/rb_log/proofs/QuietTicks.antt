@@ -46,7 +46,7 @@ of_zeros bytes place (Ticks count) some = (refl, refl, refl)
 of_zeros bytes place (Arrival from size) some = absurd (omega arith)
 of_zeros bytes place End some = absurd (omega arith)
 
--- such a record is begun
+-- to begin a record of quiet ticks leaves the cursor sound
 pub begins : (c : Cursor) (entry : Entry) (size zeros : ℕ) → c.zeros ≡ 0 → Ok entry ≡ entry_at c.senders c.bytes.now c.place
     → size ≡ size_of entry → zeros ≡ zeros_of entry → 0 < zeros → c.place + size ≤ length c.bytes.now → IsSound c
     → IsSound (record c { place = c.place + size; ticks = c.ticks + zeros; zeros = zeros })

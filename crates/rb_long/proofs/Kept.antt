@@ -17,7 +17,7 @@ set-one readers i d new value read (inr past) =
     ap (map open_of) (set_past readers i new past)
     ∙ sym (set_past (map open_of readers) i (with_value value (get_or (map open_of readers) i None)).after (let few = length-map readers open_of in omega (arith, few, past)))
 
--- one reader has read a value
+-- after one reader has read a value the open letters are as that value leaves them
 pub heard-one : (readers : List Reader) (now : List (Option OpenLetter)) (i sender : ℕ) (d new : Reader) (value : Heard) → map open_of readers ≡ now → i ≡ sender
     → open_of new ≡ (with_value value (open_of (get_or readers i d))).after
     → map open_of (slice_set readers i new) ≡ slice_set now sender (with_value value (get_or now sender None)).after

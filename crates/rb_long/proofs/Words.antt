@@ -31,7 +31,7 @@ next-is sent (l ∷ ls) letter d some is =
     ∙ ap (λ n. get_or (spelling_in l) n 0) (omega arith)
     ∙ ap (λ (x : ArrayVec ℕ). get_or (spelling_in x) sent 0) (sym is)
 
--- after it the letter has more
+-- if the letter has more words, it waits without the word that was sent
 pub goes-on : (sent : ℕ) (letters : List (ArrayVec ℕ)) (letter d : ArrayVec ℕ) → 0 < length letters → letter ≡ get_or letters 0 d
     → sent < parts_in (length letter.items) → waiting_in (sent + 1) letters ≡ without_word (waiting_in sent letters)
 goes-on sent [] letter d some is more = absurd (omega (arith, some))
@@ -67,7 +67,7 @@ more-in : (sent : ℕ) (letters : List (ArrayVec ℕ)) (letter d : ArrayVec ℕ)
 more-in sent [] letter d some is more = absurd (omega (arith, some))
 more-in sent (l ∷ ls) letter d some is more = subst (λ (x : ArrayVec ℕ). sent ≤ parts_in (length x.items)) (sym is) more
 
--- where a letter waits, its word is not 0
+-- the word is 0 if and only if no letter waits
 pub never-none : (sent : ℕ) (letters : List (ArrayVec ℕ)) (letter : ArrayVec ℕ) (word : ℕ) (waiting : List (List ℕ)) → 0 < length letters → letter ≡ get_or letters 0 letter
     → HasMore sent letters → word ≡ get_or (spelling_of letter.items) sent 0 → waiting_in sent letters ≡ waiting → (word ≡ 0) ↔ (waiting ≡ [])
 never-none sent letters letter word waiting some is more word_is shown = (

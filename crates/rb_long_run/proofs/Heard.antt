@@ -8,7 +8,7 @@ use Rattle.rb_outside.proofs.Known.{appends_join, part_join, part_widens}
 use Rattle.rb_long_run.specs.Hearing.{Open, letter_of, lines_text, with_line, with_lines}
 use Rattle.rb_long_run.specs.Reports.{given_text}
 
--- of some and those after them
+-- the text of two parts of the lines is that of the one, and then that of the other
 pub text-split : (frame slot : ℕ) (all : Open) (xs ys : List SlotLine) → lines_text frame slot all (xs ++ ys) ≡ lines_text frame slot all xs ++ lines_text frame slot (with_lines all xs) ys
 text-split frame slot all [] ys = refl
 text-split frame slot all (x ∷ xs) ys =

@@ -15,7 +15,7 @@ pub record Hears (all : Open) (past : List SlotLine) : Type 0 where
   pub each : (r : ℕ) → r < 16 → length (get_or all r []) ≡ 16
   pub known : (r s : ℕ) → r < 16 → s < 16 → get_or (get_or all r []) s None ≡ open_at r s past
 
--- at first
+-- at first nothing is heard
 pub none-heard : Hears (replicate 16 (replicate 16 None)) []
 none-heard = record {
   many = refl;

@@ -53,7 +53,7 @@ or-later a b h = ap (λ x. option_or x b) h
 not-due : (me : Side) (v : Seated) (slot stage word k : ℕ) → is_tick (tick_said me v slot stage) k ≡ false → stage_at me v slot stage word k ≡ None
 not-due me v slot stage word k h = none-from _ (stage-some me v slot stage word 0 k ∙ ap is_some (unsaid me v slot stage k h))
 
--- at its own tick it is
+-- a message that is due at tick `k` has that tick as its own
 pub due-parts : (k : ℕ) (m : Option Message) (t : Option ℕ) → is_tick (elim (is_some m) as (λ _. Option ℕ) [ true ↦ t | false ↦ None ]) k ≡ true
     → is_tick t k ≡ true
 due-parts k None t h = cc

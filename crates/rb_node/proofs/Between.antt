@@ -17,7 +17,7 @@ use Rattle.rb_node.specs.declared.act.Want.TheVariants as want
 use Rattle.rb_node.specs.declared.ahead.Ahead.{Ahead}
 use Rattle.rb_node.proofs.Cores.{next-is, next-none, received-append, spent-is, want-is, want-quiet, want-spent}
 
--- up to the tick that is kept it stays what it is
+-- What is kept stays as it is up to the busy tick.
 
 pub next-on : (me : Side) (v : Seated) (had m k : ℕ) → IsNextBusy me v had k → had ≤ m → m ≤ k → IsNextBusy me v m k
 next-on me v had m k n lo hi = record {
@@ -65,7 +65,7 @@ ahead-now me v k h = ap (λ b. if b then want_at me v k else want.Nothing) (lt-l
 ahead-end : (me : Side) (v : Seated) (k : ℕ) → 2 ^ 31 ≤ k → want_ahead me v k ≡ want.Nothing
 ahead-end me v k h = ap (λ b. if b then want_at me v k else want.Nothing) (le-ltb k (2 ^ 31) h)
 
--- at the busy tick itself
+-- at the busy tick `a.want` is what the core wants
 pub wants-now : (me : Side) (v : Seated) (had : ℕ) (a : Ahead) (c : Core) → LooksAhead me v had a → had ≡ a.busy.tick → c.state ≡ v.state → c.had ≡ had
     → a.want ≡ want_for v.sizes (wants v.sizes v.plan me v.index c)
 wants-now me v had a c l at state had_is =
@@ -75,7 +75,7 @@ wants-now me v had a c l at state had_is =
       | inr end ↦ l.wants ∙ ahead-end me v a.busy.tick (omega arith) ∙ sym (want-spent me v c (omega arith))
     ]
 
--- before it
+-- before the busy tick the core wants nothing
 pub wants-quiet : (me : Side) (v : Seated) (had : ℕ) (a : Ahead) (c : Core) → LooksAhead me v had a → had < a.busy.tick → c.state ≡ v.state → c.had ≡ had
     → want.Nothing ≡ want_for v.sizes (wants v.sizes v.plan me v.index c)
 wants-quiet me v had a c l before state had_is =
@@ -85,7 +85,7 @@ wants-quiet me v had a c l before state had_is =
 max-is : (a b : ℕ) → a ≤ b → max a b ≡ b
 max-is a b h = omega arith
 
--- once it has come
+-- once the busy tick has come `a.want` is what the core wants with it
 pub wants-then : (me : Side) (n : Running) (a : Ahead) (c : Core) → LooksAhead me n.seat n.had a → c.state ≡ n.seat.state → c.had ≡ n.had
     → a.want ≡ want_then me n c (next_of me n c)
 wants-then me n a c l state had_is =

@@ -62,7 +62,7 @@ busy-turn me v k h =
 abbrev as-it-is : Side → Seated → ℕ → Bool
 as-it-is me v k = (v.state.epoch == k) || is_last v.sizes v.plan me v.state k || is_some (said_at v.sizes v.plan me v.index v.state 0 k)
 
--- where the node does not turn, it is so by its state
+-- if the node does not turn, its present state says whether it is busy
 pub by-state : (me : Side) (v : Seated) (k : ℕ) → is_tick (new_epoch_of v.plan me v.state) k ≡ false → busy_at me v k ≡ as-it-is me v k
 unfolding is_busy
 by-state me v k h =
@@ -133,7 +133,7 @@ said me v slot stage k h =
 
 -- The ticks that may be busy in a window.
 
--- none of them is tick k
+-- tick `k` is neither the epoch nor the last tick of the window nor the next epoch
 pub record NoneIs (me : Side) (v : Seated) (w : Window) (k : ℕ) : Type 0 where
   pub begun : is_tick (Some v.state.epoch) k ≡ false
   pub closed : is_tick (Some (v.state.epoch + w.last)) k ≡ false
@@ -142,7 +142,7 @@ pub record NoneIs (me : Side) (v : Seated) (w : Window) (k : ℕ) : Type 0 where
   pub second : is_tick (tick_said me v w.slot 2) k ≡ false
   pub third : is_tick (tick_said me v w.slot 3) k ≡ false
 
--- one of them is
+-- tick `k` is the epoch, the last tick of the window or the next epoch
 pub data OneIs (me : Side) (v : Seated) (w : Window) (k : ℕ) : Type 0 where
   Begun : is_tick (Some v.state.epoch) k ≡ true → OneIs me v w k
   Closed : is_tick (Some (v.state.epoch + w.last)) k ≡ true → OneIs me v w k

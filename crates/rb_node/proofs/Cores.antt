@@ -46,7 +46,7 @@ finds-none me v (suc others) had quiet =
     ap (λ b. elim b as (λ _. Option ℕ) [ true ↦ Some had | false ↦ busy_among v.sizes v.plan me v.index v.state others (suc had) ]) (quiet had (omega arith) (omega arith))
     ∙ finds-none me v others (suc had) (λ m a b. quiet m (omega arith) (omega arith))
 
--- of a core in the node's state
+-- the next busy tick of a core in the node's state is found by that state
 next-at : (me : Side) (v : Seated) (c : Core) (had : ℕ) → c.state ≡ v.state → c.had ≡ had
     → next_tick v.sizes v.plan me v.index c ≡ busy_among v.sizes v.plan me v.index v.state (2 ^ 31 - had) had
 next-at me v c had s h =
@@ -178,7 +178,7 @@ pub at-message : (sizes : Sizes) (plan : Plan) (me : Side) (index : ℕ) (c : Co
 unfolding act_at
 at-message sizes plan me index c word = on-message sizes plan me index c _ _ _
 
--- of a core in the node's state at its tick k
+-- what a core in the node's state wants at tick `k` is found by that state
 pub want-is : (me : Side) (v : Seated) (c : Core) (k : ℕ) → c.state ≡ v.state → c.had ≡ k → k < 2 ^ 31
     → want_for v.sizes (wants v.sizes v.plan me v.index c) ≡ want_at me v k
 unfolding wants

@@ -47,7 +47,7 @@ stays-kept me v had a c k l state had_is next stays =
     ap (λ (st : NodeState). is_tick (new_epoch_of v.plan me st) k) state
     ∙ ap (is_tick (new_epoch_of v.plan me v.state)) (sym (kept-next me v had a c k l state had_is next)) ∙ stays
 
--- its window is the one that is kept
+-- the window that is kept is that of the busy tick
 pub window-kept : (me : Side) (v : Seated) (had : ℕ) (a : Ahead) → LooksAhead me v had a → a.window ≡ window_of_tick me v a.busy.tick
 window-kept me v had a l = l.window.is ∙ sym (l.next.here a.busy.tick l.next.later (let same : a.busy.tick ≤ a.busy.tick = omega arith in same))
 

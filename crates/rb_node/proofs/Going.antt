@@ -86,7 +86,7 @@ kept-window me v k word w (Some m) h =
 differs : (a b : ℕ) → false ≡ (a == b) → a ≡ b → ⊥
 differs a b h e = let same : (a == b) ≡ true = grind (arith, nat_tests) in cc
 
--- where it does not end with the tick, it is that of the next
+-- if a window does not end with tick `now`, it is that of the next tick
 lasts : (me : Side) (v : Seated) (now : ℕ) (w : Window) → IsPlan v.plan → v.state.epoch ≤ now → IsWindowOf me v now w
     → (now ≡ v.state.epoch + w.last → ⊥) → IsWindowOf me v (now + 1) w
 lasts me v now w plan epoch h other = record {

@@ -38,7 +38,7 @@ not-some a e = cc
 slot-is : (a b : Window) → Some a ≡ Some b → a.slot ≡ b.slot
 slot-is a b e = ap (λ (x : Window). x.slot) (some-is a b e)
 
--- from the sync slot on an offset has no other slot
+-- the window of an offset from the sync slot on is in the sync slot
 in-sync-slot : (sizes : Sizes) (plan : Plan) (offset : ℕ) (w : Window) → HasTicks plan → f0_of sizes plan ≤ offset → window_at sizes plan offset ≡ Some w
     → w.slot ≡ sync_slot_of sizes
 in-sync-slot sizes plan offset w ticks from found =
@@ -109,7 +109,7 @@ window-is slot slot2 stage stage2 first first2 last last2 a b c d = rw (a, b, c,
 same-window : (a b : Window) → a.slot ≡ b.slot → a.stage ≡ b.stage → a.first ≡ b.first → a.last ≡ b.last → a ≡ b
 same-window a b slot stage first last = window-is a.slot b.slot a.stage b.stage a.first b.first a.last b.last slot stage first last
 
--- it has the next number
+-- the window that follows window `n` has the next number
 follows-exact : (plan : Plan) (n : ℕ) → 1 ≤ plan.l → following plan (exact_window plan n) ≡ exact_window plan (n + 1)
 follows-exact plan n some = by (nat_lt (n % 3 + 1) 3) refl
   where
@@ -172,7 +172,7 @@ sent-here v offset w h below =
         let e : 3 * (n / 3) + (n % 3 + 1) - 1 ≡ n = omega arith in
         ap (λ m. v.state.epoch + (m * v.plan.l + v.plan.h)) e ∙ regroup v.state.epoch (n * v.plan.l) v.plan.h
 
--- that of another one is sent in another
+-- the sending tick of window `m` is not in another window `n`
 elsewhere : (epoch k n m l h : ℕ) → h < l → epoch + n * l ≤ k → k ≤ epoch + (n * l + l - 1) → (m ≡ n → ⊥) → (epoch + (m * l + h) == k) ≡ false
 elsewhere epoch k n m l h short from to other =
     elim (cases_lt m n) [
@@ -206,7 +206,7 @@ not-due me v had k stage w short epoch h below lo hi some other =
         elsewhere v.state.epoch k n (3 * (n / 3) + stage - 1) v.plan.l v.plan.h short (omega (arith, from, epoch, lo)) to
         (λ same. differs (omega (arith, some, same)))
 
--- where nothing is due up to a tick, the choice is that tick
+-- if nothing is due up to a tick, the choice is that tick
 pub idle : (had stage : ℕ) (candidate : Option ℕ) (b : Busy) → had ≤ b.tick → ((k : ℕ) → had ≤ k → k ≤ b.tick → is_tick candidate k ≡ false)
     → IsChosen had candidate stage b b
 idle had stage candidate b later none = record {

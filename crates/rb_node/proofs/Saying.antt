@@ -71,7 +71,7 @@ pub sending-is : (sizes : Sizes) (plan : Plan) (me : Side) (i : ℕ) (st : NodeS
 unfolding sending
 sending-is sizes plan me i st slot stage word = refl
 
--- it goes out at its tick, if there is one
+-- a message goes out at its tick, if there is one
 pub goes-out : (k : ℕ) (m : Option Message) (t : Option ℕ) → is_tick t k ≡ true → if_at k (sent_at m t) ≡ m
 goes-out k None t h = refl
 goes-out k (Some m) None h = cc
@@ -87,7 +87,7 @@ nothing-out k t = refl
 
 -- A sender keeps what it says in its own slot.
 
--- in the sync slot nothing is kept
+-- in the sync slot a node says no value
 sync-says : (sizes : Sizes) (me : Side) (i : ℕ) (st : NodeState) (slot stage word : ℕ) → slot ≡ sync_slot_of sizes
     → says sizes me i st slot stage word ≡ None
 sync-says sizes me i st slot stage word e =

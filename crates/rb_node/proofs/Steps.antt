@@ -148,7 +148,7 @@ gives me v v1 v2 v3 now word w epoch message closed before after inbox rest p be
 
 -- What does not run ahead.
 
--- after a turn the frame is at most one more, and the epoch not past the tick
+-- the frame is at most one more than before, and the epoch at most tick `k`
 pub record Turned (v v1 : Seated) (k : ℕ) : Type 0 where
   pub frame : v1.state.frame ≤ v.state.frame + 1
   pub epoch : v1.state.epoch ≤ k

@@ -83,7 +83,7 @@ want-turned me v k shape plan h =
     ap (λ m. want_for v.sizes (slot_wanted v.sizes m))
     (silent me (record v { state = state_at v.sizes v.plan me v.state k }) k shape plan (turned-epoch v me k h))
 
--- where the node does not turn
+-- if the node does not turn, it wants a word for the first of its three stages that has a message
 staying : (me : Side) (v : Seated) (w : Window) (k : ℕ) → is_tick (new_epoch_of v.plan me v.state) k ≡ false → w ≡ window_of_tick me v k
     → want_at me v k
     ≡ want_for v.sizes (slot_wanted v.sizes (option_or (stage_at me v w.slot 1 0 k) (option_or (stage_at me v w.slot 2 0 k) (stage_at me v w.slot 3 0 k))))
@@ -126,7 +126,7 @@ want-later me v w k h is none =
     ∙ ap (λ m. want_for v.sizes (slot_wanted v.sizes (option_or m (option_or (stage_at me v w.slot 2 0 k) (stage_at me v w.slot 3 0 k))))) (unsaid me v w.slot 1 k none)
     ∙ ap (want_for v.sizes) (wanted-later me v w.slot k (stage_at me v w.slot 2 0 k) (stage_at me v w.slot 3 0 k) refl refl)
 
--- nothing is wanted where no message of the first stage is due, whether the node turns or not
+-- nothing is wanted if no message of the first stage is due, whether the node turns or not
 pub want-silent : (me : Side) (v : Seated) (w : Window) (k : ℕ) → IsShape v.sizes → IsPlan v.plan → w ≡ window_of_tick me v k
     → is_tick (tick_said me v w.slot 1) k ≡ false → want_at me v k ≡ want.Nothing
 want-silent me v w k shape plan is none = by (is_tick (new_epoch_of v.plan me v.state) k) refl

@@ -19,13 +19,13 @@ appends_join (Some a) None c xs ys p q = absurd p
 appends_join (Some a) (Some b) None xs ys p q = absurd q
 appends_join (Some a) (Some b) (Some c) xs ys p q = rw (q, p) (append_assoc a xs ys)
 
--- after n bytes that come next
+-- after the first `i` bytes and the next `n` bytes the first i + n bytes are appended
 pub appends_next : (a b c : Option (List ℕ)) (xs : List ℕ) (i n : ℕ)
     → Appends a b (take i xs) → Appends b c (take n (drop i xs)) → Appends a c (take (i + n) xs)
 appends_next a b c xs i n p q =
     rw (take-add i n xs) (appends_join a b c (take i xs) (take n (drop i xs)) p q)
 
--- after a call that failed
+-- a call that failed appends nothing
 pub appends_keeps : (a b c : Option (List ℕ)) (xs : List ℕ)
     → Appends a b xs → Keeps b c → Appends a c xs
 appends_keeps None b c xs p q = tt
@@ -70,7 +70,7 @@ part_widens a b xs ys p = record {
   appended = p.appended;
 }
 
--- for a function that writes one thing after another
+-- rules for a function that writes one thing after another
 pub ruleset writes_in_turn = (appends_join, part_join, part_widens)
 
 -- ---- bytes given

@@ -1,4 +1,4 @@
--- one cell for each delivery
+-- The cells of a line: one for each delivery.
 use Rattle.std.proofs.Common.{◌≡◌, ◌∙◌, ℕ, ◌==◌, Bool, true, false, if◌then◌else◌, List, [], ◌∷◌, ◌++◌, refl, ap}
 use Rattle.rb_picture.specs.declared.line.Line.{Line}
 use Rattle.rb_picture.specs.declared.line.Line.TheVariants as line
@@ -34,7 +34,7 @@ of_line facts (line.Delivery l) ls = refl
 of_line facts (line.End frames) ls = refl
 of_line facts (line.Breach place cause) ls = refl
 
--- of what a line shows only its delivery is a cell
+-- only the delivery that a line shows is a cell
 at_line : (before after : Stand) (l : Line) → cells_of (pieces_at before after l) ≡ cells_of (pieces_of_line after.panel.facts l)
 at_line before after l =
     no_ground (after.panel.mark == before.panel.mark) after.panel.frame before.panel.facts after.panel.facts (head_of before.column after.column ++ pieces_of_line after.panel.facts l)

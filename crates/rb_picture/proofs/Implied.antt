@@ -28,7 +28,7 @@ faulty_parts count good faulty convicted lost =
     (λ i low is. has-either faulty convicted i low ∙ or_right (has faulty i) (has convicted i) is)
     lost.faulty_trusted
 
--- the good apart from both
+-- the good nodes are apart from the faulty and the convicted ones
 all_parts : (count good faulty convicted : ℕ) → HasLostMajority count good faulty convicted → size good + size (either faulty convicted) ≤ size (first count)
 all_parts count good faulty convicted lost =
     size_apart (first count) good (either faulty convicted)

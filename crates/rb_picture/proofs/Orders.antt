@@ -21,11 +21,11 @@ end_more from (x ∷ xs) l = end_more (line_place x) xs l
 pub text_more : (ls : List Line) (l : Line) → text_of_lines (ls ++ l ∷ []) ≡ text_of_lines ls ++ line_text l
 text_more ls l = flat_map-append line_text ls (l ∷ []) ∙ ap (λ t. text_of_lines ls ++ t) (append-nil (line_text l))
 
--- before any line
+-- before the first line nothing was read
 pub none_so_far : (bytes : List ℕ) → SoFar bytes 0 [] 0
 none_so_far bytes = record { within = omega arith; spelled = refl; in_order = refl; last = refl }
 
--- one more line
+-- one more line was read
 pub one_more : (bytes : List ℕ) (at n newest : ℕ) (ls : List Line) (l : Line)
     → SoFar bytes at ls newest → StandsFirst (drop at bytes) newest l n → SoFar bytes (at + n) (ls ++ l ∷ []) (line_place l)
 one_more bytes at n newest ls l before next = record {
@@ -59,13 +59,13 @@ fails_here bytes at newest number ls cause before numbered fails none = record {
   no_report = none;
 }
 
--- there is no next line, and the last one does not end a run
+-- if there is no next line and the last one does not end a run, the report fails with `NoEnd`
 pub ends_early : (bytes : List ℕ) (at newest number : ℕ) (ls : List Line)
     → SoFar bytes at ls newest → number ≡ length ls + 1 → length bytes ≤ at → newest ≢ last_place → IsNoReport bytes → FailsAt bytes number fault.NoEnd
 ends_early bytes at newest number ls before numbered end other none =
     fails_here bytes at newest number ls fault.NoEnd before numbered (drop_all at bytes end, other) none
 
--- there is no next line, and the last one ends a run
+-- if there is no next line and the last one ends a run, the report is whole
 pub is_whole : (bytes : List ℕ) (at newest : ℕ) (ls : List Line)
     → SoFar bytes at ls newest → length bytes ≤ at → newest ≡ last_place → IsReport bytes ls
 is_whole bytes at newest ls before end last = record {

@@ -83,7 +83,7 @@ front_is bytes front b x y one two =
 pub front_of_line : (bytes front : List ℕ) (x : ℕ) (l : Line) → bytes ≡ front ++ x ∷ [] → bytes ≡ line_text l → front ≡ line_body l
 front_of_line bytes front x l one two = front_is bytes front (line_body l) x 10 one (two ∙ body_is l)
 
--- the field in a place
+-- the field in place `n` of a line is part `n` of the line
 pub part_is : (n : ℕ) (t : List ℕ) (l : Line) → Fits l → n ≤ length (line_parts l) → t ≡ line_body l → field_at n t ≡ get_or (line_word l ∷ line_parts l) n []
 part_is n t l fits within is = ap (λ u. field_at n u) is ∙ field_is n (line_word l) (line_parts l) (parts_above l fits) within
 

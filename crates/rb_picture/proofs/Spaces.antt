@@ -126,7 +126,7 @@ above_get [] i h less = absurd (omega (arith, less))
 above_get (x ∷ xs) zero h less = ltb-true 31 x (and_parts (nat_lt 31 x) (above 31 xs) h).0
 above_get (x ∷ xs) (suc i) h less = above_get xs i (and_parts (nat_lt 31 x) (above 31 xs) h).1 (omega (arith, less))
 
--- where the first line feed stands
+-- the first line feed is behind the bytes above 31
 pub is_first : (bytes xs tail : List ℕ) (i : ℕ) → above 31 xs ≡ true → bytes ≡ xs ++ 10 ∷ tail → i ≤ length xs → get_or bytes i 0 ≡ 10 → i ≡ length xs
 is_first bytes xs tail i h is within found = within_or (nat_lt i (length xs)) refl where
   within_or : (b : Bool) → nat_lt i (length xs) ≡ b → i ≡ length xs
@@ -178,7 +178,7 @@ fields_more : (a w : List ℕ) (fs : List (List ℕ)) → with_fields (a ++ w) f
 fields_more a w [] = refl
 fields_more a w (f ∷ fs) = ap (λ t. with_fields t fs) (append_assoc a w (codes " " ++ f)) ∙ fields_more a (w ++ (codes " " ++ f)) fs
 
--- a field, a space, and the fields behind it
+-- a field is followed by a space and the fields behind it
 pub fields_next : (w f : List ℕ) (fs : List (List ℕ)) → with_fields w (f ∷ fs) ≡ w ++ (32 ∷ with_fields f fs)
 fields_next w f fs = fields_more w (codes " " ++ f) fs ∙ ap (λ t. w ++ t) (fields_more (codes " ") f fs)
 
@@ -206,7 +206,7 @@ field_is (suc n) w (f ∷ fs) h less =
     let two = and_parts (above 32 w) (all_above 32 (f ∷ fs)) h in
     ap (λ t. field_at n (later_fields t)) (fields_next w f fs) ∙ ap (λ t. field_at n t) (later_is w (with_fields f fs) two.0) ∙ field_is n f fs two.1 (omega (arith, less))
 
--- none of their bytes is a line feed
+-- no byte of the fields is a line feed
 pub fields_above : (w : List ℕ) (fs : List (List ℕ)) → all_above 32 (w ∷ fs) ≡ true → above 31 (with_fields w fs) ≡ true
 fields_above w [] h = also_above 31 w (and_parts (above 32 w) true h).0
 fields_above w (f ∷ fs) h =

@@ -71,7 +71,6 @@ line_turn sheet text next stand after ls rest i d below rest_is is written =
 pub pieces_end : (sheet : Sheet) (text : List ℕ) (stand : Stand) (ls : List Line) (i : ℕ) → length ls ≤ i → with_pieces sheet text (pieces_from stand (drop i ls)) ≡ text
 pieces_end sheet text stand ls i end = at_drop_all (λ lines. with_pieces sheet text (pieces_from stand lines)) ls i end
 
--- one number more
 pub each_next : (with_one : List ℕ → ℕ → List ℕ) (n : ℕ) (text : List ℕ) → each_below with_one (n + 1) text ≡ with_one (each_below with_one n text) n
 unfolding each_below
 each_next with_one n text = ap (λ m. each_below with_one m text) (add-one n)

@@ -9,7 +9,7 @@ use Rattle.rb_picture.specs.Content.Tag.{Rect, Label}
 use Rattle.rb_picture.specs.Content.Key.{Class, Height, Width, X, Y}
 use Rattle.rb_picture.specs.Markup.{each_below, escaped, with_attribute, with_box, with_label, with_number}
 
--- content behind content
+-- the second content behind the first
 abbrev pub follow : Content → Content → Content
 follow Nothing more = more
 follow (Text text after) more = Text text (follow after more)
@@ -26,7 +26,7 @@ follow_text (Element tag attributes inside after) more =
 pub adds_nothing : {t : List ℕ} → AddsContent t t
 adds_nothing {t} = record { content = Nothing; written = sym (append-nil t) }
 
--- the last first
+-- what is added in two steps is added in one, the last step first
 pub adds_more : {a b c : List ℕ} → AddsContent b c → AddsContent a b → AddsContent a c
 adds_more {a} {b} {c} second first = record {
   content = follow first.content second.content;
@@ -58,7 +58,7 @@ pub with_attribute_is : (t : List ℕ) (a : Attribute) → with_attribute t (key
 unfolding with_attribute
 with_attribute_is t a = attribute_parts t (codes " ") (key_text a.key) (codes "=\"") (escaped a.value) (codes "\"")
 
--- attributes one after the other
+-- the text with all attributes, one after the other
 abbrev pub with_all : List ℕ → List Attribute → List ℕ
 with_all t [] = t
 with_all t (a ∷ more) = with_all (with_attribute t (key_text a.key) a.value) more

@@ -67,7 +67,7 @@ goes_on bytes at newest place n x some finds before place_is lines fits is =
     let left = before lines fits is in
     subst (λ p. (more : List Line) × GoesOn bytes (at + n) p more) (sym place_is) (turn bytes at newest n x left.0 some finds left.1)
 
--- where no line was found, there is none
+-- if no line was found, there is none
 stops : (bytes : List ℕ) (at newest : ℕ) (cause : Fault) (left : List Line) → drop at bytes ≢ [] → FindsEach (drop at bytes) newest (Err cause) → GoesOn bytes at newest left → ⊥
 stops bytes at newest cause [] some finds goes = some goes.spelled
 stops bytes at newest cause (l ∷ ls) some finds goes =
@@ -79,7 +79,7 @@ no_report_here bytes at newest cause some finds before lines fits is =
     let left = before lines fits is in
     stops bytes at newest cause left.0 some finds left.1
 
--- where nothing is left, the last line has ended the run
+-- if nothing is left, the last line has ended the run
 ended_so : (bytes : List ℕ) (at newest : ℕ) (left : List Line) → drop at bytes ≡ [] → GoesOn bytes at newest left → newest ≡ last_place
 ended_so bytes at newest [] none goes = goes.ended
 ended_so bytes at newest (l ∷ ls) none goes =

@@ -24,7 +24,7 @@ first_at p xs i x is passes before =
     let inside : nat_lt i (length xs) ≡ true = lt-ltb i (length xs) here.0 in
     rw (at, inside) refl
 
--- an inequality fails
+-- the inequality fails
 abbrev pub fails : Sides → Bool
 fails sides = int_lt sides.left sides.right
 

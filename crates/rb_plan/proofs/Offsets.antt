@@ -57,7 +57,7 @@ found_exact plan offset number a (suc n) some from to low high =
           ∙ ap (λ k. Some (exact_window plan k)) same
     ]
 
--- none is found past all of them
+-- no window below the sync slot is found for an offset past all of them
 none_exact : (plan : Plan) (offset a n : ℕ) → 1 ≤ plan.l → (a + n) * plan.l ≤ offset
     → find (holds_offset offset) (map (exact_window plan) (range_with_len a n)) ≡ None
 none_exact plan offset a zero some to = refl
@@ -70,12 +70,12 @@ none_exact plan offset a (suc n) some to =
 
 -- ---- the windows of a frame
 
--- the number of a window below the sync slot
+-- the number of a window below the sync slot is less than three times that slot
 pub number_below : (sizes : Sizes) (plan : Plan) (offset ticks : ℕ) → ticks ≡ plan.l → 1 ≤ plan.l → offset < f0_of sizes plan
     → offset / ticks < 3 * sync_slot_of sizes
 number_below sizes plan offset ticks e some below = rw e (div_below offset plan.l (3 * sync_slot_of sizes) some below)
 
--- below the sync slot
+-- the window at an offset below the sync slot is the one with its number
 pub found_below : (sizes : Sizes) (plan : Plan) (offset number : ℕ) → 1 ≤ plan.l → number < 3 * sync_slot_of sizes
     → number * plan.l ≤ offset → offset < number * plan.l + plan.l
     → window_at sizes plan offset ≡ Some (exact_window plan number)
@@ -92,7 +92,7 @@ divided_below sizes plan offset ticks e some below =
     let rest : offset % plan.l < plan.l = mod_below offset plan.l some in
     rw e (sym (found_below sizes plan offset (offset / plan.l) some number (omega arith) (omega arith)))
 
--- from the sync slot on
+-- the window at an offset from the sync slot on is one of the sync slot
 from_sync : (sizes : Sizes) (plan : Plan) (offset : ℕ) → 1 ≤ plan.l → f0_of sizes plan ≤ offset
     → window_at sizes plan offset ≡ find (holds_offset offset) (sync_windows sizes plan)
 from_sync sizes plan offset some from =
@@ -101,7 +101,7 @@ from_sync sizes plan offset some from =
     ∙ ap (λ found. option_or found (find (holds_offset offset) (sync_windows sizes plan)))
     (none_exact plan offset 0 (3 * sync_slot_of sizes) some (rw all from))
 
--- the three stages of the sync slot
+-- the windows of the three stages of the sync slot
 abbrev stage_1 : Sizes → Plan → Window
 stage_1 sizes plan = window_of (sync_slot_of sizes) 1 (f0_of sizes plan) plan.l
 
@@ -118,7 +118,7 @@ found_stage_1 sizes plan offset some from to =
     ∙ find_here (holds_offset offset) (stage_1 sizes plan) (stage_2 sizes plan ∷ stage_3 sizes plan ∷ [])
     (inside offset (sync_slot_of sizes) 1 (f0_of sizes plan) plan.l from to)
 
--- past stage 1
+-- past stage 1 of the sync slot the window is that of stage 2 or 3
 past_stage_1 : (sizes : Sizes) (plan : Plan) (offset : ℕ) → 1 ≤ plan.l → f0_of sizes plan + plan.l ≤ offset
     → window_at sizes plan offset ≡ find (holds_offset offset) (stage_2 sizes plan ∷ stage_3 sizes plan ∷ [])
 past_stage_1 sizes plan offset some from =
@@ -133,7 +133,7 @@ found_stage_2 sizes plan offset some from to =
     ∙ find_here (holds_offset offset) (stage_2 sizes plan) (stage_3 sizes plan ∷ [])
     (inside offset (sync_slot_of sizes) 2 (f0_of sizes plan + plan.l) plan.v from to)
 
--- past stage 2
+-- past stage 2 of the sync slot the window is that of stage 3
 past_stage_2 : (sizes : Sizes) (plan : Plan) (offset : ℕ) → 1 ≤ plan.l → 1 ≤ plan.v
     → f0_of sizes plan + plan.l + plan.v ≤ offset
     → window_at sizes plan offset ≡ find (holds_offset offset) (stage_3 sizes plan ∷ [])
@@ -150,7 +150,7 @@ found_stage_3 sizes plan offset some some_v from to =
     ∙ find_here (holds_offset offset) (stage_3 sizes plan) []
     (inside offset (sync_slot_of sizes) 3 (f0_of sizes plan + plan.l + plan.v) plan.z from to)
 
--- from the tail on
+-- from the tail on there is no window
 pub found_none : (sizes : Sizes) (plan : Plan) (offset : ℕ) → 1 ≤ plan.l → 1 ≤ plan.v → 1 ≤ plan.z
     → f0_of sizes plan + plan.l + plan.v + plan.z ≤ offset → window_at sizes plan offset ≡ None
 found_none sizes plan offset some some_v some_z from =

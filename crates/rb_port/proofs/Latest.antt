@@ -17,7 +17,7 @@ reverse_drop {X} k xs =
     ∙ ap (λ n. take n (reverse (drop k xs) ++ reverse (take k xs))) (sym (length-reverse (drop k xs)))
     ∙ take-append_seam (reverse (drop k xs)) (reverse (take k xs)))
 
--- the last n, the newest first
+-- the last `n` items, the newest first, are the first `n` of the reversed list
 reverse_kept : {X : Type 0} (n : ℕ) (xs : List X) → reverse (keep_last n xs) ≡ take n (reverse xs)
 reverse_kept {X} n xs =
     let so_many : length (drop (length xs - n) xs) ≡ min n (length (reverse xs)) = omega (arith, length-drop (length xs - n) xs, length-reverse xs) in
@@ -34,7 +34,7 @@ one_more n latest d faults same =
     ap (map is_lost) (reverse_kept (suc n) (latest ++ d ∷ []) ∙ ap (take (suc n)) (reverse-append latest (d ∷ [])))
     ∙ ap (λ ys. is_fault d.value ∷ ys) (sym (take-map is_lost n (reverse latest)) ∙ ap (take n) same ∙ take_fewer n faults)
 
--- a delivery more
+-- whether one more delivery is Fault is the first of the 64 newest tests
 pub faults_more : (latest : List Delivery) (d : Delivery) (faults : List Bool) → map is_lost (reverse latest) ≡ take 64 faults
     → map is_lost (reverse (keep_last 64 (latest ++ d ∷ []))) ≡ take 64 (is_fault d.value ∷ faults)
 faults_more latest d faults same = one_more 63 latest d faults same

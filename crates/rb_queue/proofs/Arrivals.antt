@@ -8,7 +8,7 @@ use Rattle.rb_queue.specs.Scanning.{AreBy}
 use Rattle.rb_queue.specs.Keeping.{IsLane}
 use Rattle.rb_queue.proofs.First.{is_last}
 
--- one more is due by the later of two times
+-- with one more arrival all are due by the later of the two times
 pub by_more : (xs : List Coming) (x : Coming) (latest : ℕ) → AreBy latest xs → AreBy (max latest x.time) (xs ++ x ∷ [])
 by_more xs x latest by = λ k c e. elim (is_last xs x c k e) [
   | inl old ↦ let early : c.time ≤ latest = by k c old in omega (arith, early)
@@ -67,7 +67,7 @@ by_left (x ∷ xs) (suc p) latest by = go (by_left xs p latest (λ k c e. by (su
     go rest zero c e = by 0 c e
     go rest (suc k) c e = rest k c e
 
--- one of them is gone
+-- without one of them the arrivals are still due by `latest`
 pub by_without : (kept new : List Coming) (start place latest : ℕ) → place < length (drop start kept) → new ≡ remove kept (start + place)
     → AreBy latest (drop start kept) → AreBy latest (drop start new)
 by_without kept new start place latest h gone by =

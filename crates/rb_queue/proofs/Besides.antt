@@ -22,7 +22,7 @@ use Rattle.rb_queue.proofs.Sources.{from_on, from_on-suc, from_on-zero, length-c
 
 -- ---- the least time
 
--- one time more
+-- the least time with one more time is the sooner of the two
 least-push : (ts : List ℕ) (t : ℕ) → least (ts ++ t ∷ []) ≡ Some (sooner_of (least ts) t)
 least-push [] t = refl
 least-push (x ∷ ts) t =
@@ -30,7 +30,7 @@ least-push (x ∷ ts) t =
     λ o. elim o as (λ o. min x (sooner_of o t) ≡ sooner_of (Some (elim o [ None ↦ x | Some u ↦ min x u ])) t) [ None ↦ omega arith | Some u ↦ omega arith ] in
     rw (least-push ts t) (ap (λ n. Some n) (go (least ts)))
 
--- one event more is looked at
+-- the least time with one more event is the sooner of the two
 pub least_more : (ts : List ℕ) (more : List Pending) (i : ℕ) (p : Pending) (o : Option ℕ) → i < length more → p ≡ get_or more i p
     → o ≡ least (ts ++ map (λ p. p.time) (take i more)) → Some (sooner_of o p.time) ≡ least (ts ++ map (λ p. p.time) (take (i + 1) more))
 least_more ts more i p o h is so_far =
@@ -51,7 +51,7 @@ length-passing {X} q n (x ∷ xs) =
     λ b. elim b as (λ b. length (cond b ((n, x) ∷ rest) rest) ≡ cond b 1 0 + count_if q xs) [ true ↦ omega (arith, more) | false ↦ omega (arith, more) ] in
     go (q x)
 
--- one event more is counted
+-- one more event is counted if it passes
 pub count_more : (time first end : ℕ) (more : List Pending) (i : ℕ) (p : Pending) → i < length more → p ≡ get_or more i p
     → count_if (is_sent_between time first end) (take (i + 1) more) ≡ count_if (is_sent_between time first end) (take i more) + cond (is_sent_between time first end p) 1 0
 count_more time first end more i p h is =
@@ -136,7 +136,7 @@ pub count_senders : (time : ℕ) (lane : Held) (more : List Pending)
     → length (senders_at time lane more) ≡ count_if (is_between time 0 256) lane.arrivals + count_if (is_sent_between time 0 256) more
 count_senders time lane more = ap length (senders_are time lane more) ∙ length-sent_on time lane more 0 256 256 (omega arith)
 
--- how many ticks
+-- the ticks at a time are that of the lane and those of the other events
 pub count_ticks : (time : ℕ) (lane : Held) (more : List Pending)
     → length (ticks_at time lane more) ≡ length (tick_at time lane.tick) + count_if (is_sent_between time 256 257) more
 count_ticks time lane more =

@@ -26,7 +26,7 @@ before_so s t a b h = (grind (arith, nat_tests), λ e. grind (arith, nat_tests))
 pub not_before : (s t a b : ℕ) → (nat_lt s t || ((s == t) && nat_lt a b)) ≡ false → (t ≤ s) × (s ≡ t → b ≤ a)
 not_before s t a b h = (grind (arith, nat_tests), λ e. grind (arith, nat_tests))
 
--- it comes before the one that was first
+-- a new arrival that comes before the first one is the first
 first_new : (arrivals : List Coming) (place : ℕ) (p f : Coming) → (is : IsFirst arrivals place) → is.coming ≡ f → p.from ≤ 255
     → comes_before p f ≡ true → IsFirst (arrivals ++ p ∷ []) (length arrivals)
 first_new arrivals place p f is same known before =
@@ -50,7 +50,7 @@ first_new arrivals place p f is same known before =
       front = λ k q at e s. elim (is_last arrivals p q k at) [ inl old ↦ absurd (omega (arith, lower k q old e, s)) | inr new ↦ omega (arith, new.0) ];
     }
 
--- it does not
+-- if a new arrival does not come before the first one, the first one stays
 first_stays : (arrivals : List Coming) (place : ℕ) (p f : Coming) → (is : IsFirst arrivals place) → is.coming ≡ f → comes_before p f ≡ false
     → IsFirst (arrivals ++ p ∷ []) place
 first_stays arrivals place p f is same after =
@@ -71,7 +71,7 @@ first_stays arrivals place p f is same after =
       front = λ k q at e s. elim (is_last arrivals p q k at) [ inl old ↦ is.front k q old e s | inr new ↦ omega (arith, within, new.0) ];
     }
 
--- it is alone
+-- an arrival alone is the first
 first_alone : (p : Coming) → p.from ≤ 255 → IsFirst (p ∷ []) 0
 first_alone p known =
     let one : (k : ℕ) (q : Coming) → slice_get (p ∷ []) k ≡ Some q → (k ≡ 0) × (q ≡ p) = λ k q at. elim (is_last [] p q k at) [ inl old ↦ absurd (nothing q k old) | inr new ↦ new ] in
@@ -104,13 +104,13 @@ not_source s j t u a below above =
       ]
     ]
 
--- from a lower source nothing comes at that time
+-- nothing comes from a lower source at the time of the first arrival
 none_lower : (arrivals : List Coming) (place : ℕ) → (is : IsFirst arrivals place) → (j : ℕ) → j < is.coming.from
     → count_if (comes is.coming.time j) arrivals ≡ 0
 none_lower arrivals place is j below =
     none_pass (comes is.coming.time j) arrivals (λ k p at. not_source (p.from) j p.time is.coming.time (is.coming.from) below (is.source k p at))
 
--- where nothing passes in front of a place
+-- if nothing passes in front of place `k`, it is enough to search from there
 skip_to : (q : Coming → Bool) (arrivals : List Coming) (d : Coming) (k : ℕ) → k ≤ length arrivals → ((j : ℕ) → j < k → q (get_or arrivals j d) ≡ false)
     → passing_from q arrivals 0 ≡ passing_from q arrivals k
 skip_to q arrivals d zero h none = refl
@@ -139,7 +139,7 @@ not_in_front s t a u never =
 itself : (s t : ℕ) → ((s == s) && (t == t)) ≡ true
 itself s t = grind (arith, nat_tests)
 
--- it is the first that comes from its source
+-- the first arrival is the first from its source at its time
 first_coming : (arrivals : List Coming) (place : ℕ) → (is : IsFirst arrivals place)
     → StandsAt (coming_at is.coming.time arrivals (is.coming.from)) 0 arrivals place
 first_coming arrivals place is =
@@ -171,7 +171,7 @@ arrives_then arrivals place is =
     subst (λ n. 0 < n) (sym (ap length parts ∙ length-append (coming_at time arrivals source) (from_on time arrivals (source + 1) (256 - (source + 1))))) (omega (arith, here)) in
     subst (λ l. 0 < length l) (sym (arrivals_are time arrivals)) (subst (λ n. 0 < length (from_on time arrivals 0 n)) (let n : 256 - 0 ≡ 256 = omega arith in n) all)
 
--- it is the first of what comes at its time
+-- the first arrival is the first of all that come at its time
 pub first_ready : (arrivals : List Coming) (place : ℕ) → (is : IsFirst arrivals place) → StandsAt (arrivals_at is.coming.time arrivals) 0 arrivals place
 first_ready arrivals place is =
     let time = is.coming.time in
@@ -244,13 +244,13 @@ pub before_all : (arrivals : List Coming) (place : ℕ) (p f : Coming) → HasFi
 before_all [] place p f first within at known before = absurd (omega arith)
 before_all (x ∷ xs) place p f first within at known before = first_new (x ∷ xs) place p f first (same_first (x ∷ xs) place f first at) known before
 
--- it does not
+-- if a new arrival does not come before the first one, the first one stays
 pub not_before_all : (arrivals : List Coming) (place : ℕ) (p f : Coming) → HasFirst arrivals place → place < length arrivals → f ≡ get_or arrivals place f
     → comes_before p f ≡ false → HasFirst (arrivals ++ p ∷ []) place
 not_before_all [] place p f first within at after = absurd (omega arith)
 not_before_all (x ∷ xs) place p f first within at after = first_stays (x ∷ xs) place p f first (same_first (x ∷ xs) place f first at) after
 
--- one event more was looked at
+-- one more arrival was looked at
 pub first_more : (arrivals : List Coming) (i first : ℕ) (x : Coming) → i < length arrivals → x ≡ get_or arrivals i x → HasFirst (take i arrivals ++ x ∷ []) first
     → HasFirst (take (i + 1) arrivals) first
 first_more arrivals i first x within at has = subst (λ l. HasFirst l first) (ap (λ y. take i arrivals ++ y ∷ []) at ∙ sym (take_more arrivals i x within)) has

@@ -52,7 +52,7 @@ queue_left until lane new more capacity is left =
     let fits : length lane.arrivals + length more ≤ lane.room = is.fits in
     subst (λ l. IsQueue l more capacity) (sym left) (record { fits = omega (arith, few, fits); reserved = is.reserved })
 
--- nothing is left where all come before
+-- nothing is left if all arrivals come before the time
 pub none_left : (until latest : ℕ) (xs : List Coming) → AreBy latest xs → latest < until → filter (λ c. nat_le until c.time) xs ≡ []
 none_left until latest [] by later = refl
 none_left until latest (x ∷ xs) by later =

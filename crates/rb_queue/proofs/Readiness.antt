@@ -25,7 +25,7 @@ uncounted (c ∷ cs) ticks none = absurd (omega arith)
 
 -- ---- the least time
 
--- it is that of the first, as far as arrivals go
+-- the least time of the arrivals is that of the first one
 least_is : (arrivals : List Coming) (place : ℕ) (f : Coming) → HasFirst arrivals place → place < length arrivals → f ≡ get_or arrivals place f
     → least (map (λ c. c.time) arrivals) ≡ Some f.time
 least_is arrivals place f first within at =
@@ -44,7 +44,7 @@ tick_least arrivals place f (Some t) first within at sooner =
     let same : min t f.time ≡ t = omega (arith, less) in
     sym (with_least t f.time (least (map (λ c. c.time) arrivals)) (least_is arrivals place f first within at) ∙ ap (λ n. Some n) same)
 
--- it does not
+-- if the tick is no sooner than the first arrival, the time of that is the least
 pub first_least : (arrivals : List Coming) (place : ℕ) (f : Coming) (tick : Option ℕ) → HasFirst arrivals place → place < length arrivals
     → f ≡ get_or arrivals place f → is_sooner tick f.time ≡ false → Some f.time ≡ least (option_to_list tick ++ map (λ c. c.time) arrivals)
 first_least arrivals place f None first within at late = sym (least_is arrivals place f first within at)
@@ -58,7 +58,7 @@ first_least arrivals place f (Some t) first within at late =
 not_at : (t u s : ℕ) → t < u → (nat_le 0 s && nat_lt s 256 && (u == t)) ≡ false
 not_at t u s less = grind (arith, nat_tests)
 
--- nothing comes at a time where all comes later
+-- nothing comes at a time before that of all arrivals
 none_at : (t : ℕ) (arrivals : List Coming) → ((k : ℕ) (c : Coming) → slice_get arrivals k ≡ Some c → t < c.time) → arrivals_at t arrivals ≡ []
 none_at t arrivals later =
     no_items (arrivals_at t arrivals) (count_arrivals t arrivals ∙ none_pass (is_between t 0 256) arrivals (λ k c at. not_at t c.time c.from (later k c at)))
@@ -106,7 +106,7 @@ ready-get (d ∷ ds) ticks i place c there = comes-get (d ∷ ds) i place c ther
 
 -- ---- what is due before a time
 
--- nothing comes
+-- without arrivals nothing is ready before the time
 pub before_none : (arrivals : List Coming) (tick : Option ℕ) (room place until : ℕ) → HasFirst arrivals place → length arrivals ≤ place
     → IsFirstBefore until (record { arrivals = arrivals; tick = tick; room = room }) None
 before_none [] None room place until first past = λ time head. absurd (let never : ◌≡◌ {A = Option ℕ} None (Some time) = head in cc)
@@ -134,7 +134,7 @@ before_late arrivals tick room place until f first within at late =
         let same : f.time ≡ time = some_same f.time time (first_least arrivals place f tick first within at not_sooner ∙ head) in
         inl (omega (arith, late, same))
 
--- it does
+-- the first arrival is ready if it comes before the time and the tick is no sooner
 pub before_some : (arrivals : List Coming) (tick : Option ℕ) (room place until : ℕ) (f : Coming) → HasFirst arrivals place → place < length arrivals
     → f ≡ get_or arrivals place f → f.time < until → is_sooner tick f.time ≡ false
     → IsReadyBefore until (record { arrivals = arrivals; tick = tick; room = room }) place

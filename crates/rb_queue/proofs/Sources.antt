@@ -135,7 +135,7 @@ all_left time arrivals i h =
       same = ap (λ l. slice_get l i) e ∙ slice_get-front (arrivals_at time arrivals) (from_on time arrivals 256 1) i h;
     }
 
--- it is not of the next source
+-- if the arrival is not from source `s`, it is from a later one
 pub left_later : (time : ℕ) (arrivals : List Coming) (i first left s others : ℕ) → IsLeft time arrivals i first left → first ≤ s → s ≤ 256
     → ((j : ℕ) → first ≤ j → j < s → count_if (comes time j) arrivals ≡ 0) → others + length (coming_at time arrivals s) ≡ left
     → IsLeft time arrivals i (s + 1) others
@@ -155,7 +155,7 @@ left_later time arrivals i first left s others is low high none many =
           ∙ ap (λ l. slice_get l left) (sym next) ∙ is.same;
     }
 
--- it is of the next source
+-- if the arrival is from source `s`, this is its place
 pub left_here : (time : ℕ) (arrivals : List Coming) (i first left s place : ℕ) → IsLeft time arrivals i first left → first ≤ s → s ≤ 256
     → ((j : ℕ) → first ≤ j → j < s → count_if (comes time j) arrivals ≡ 0) → StandsAt (coming_at time arrivals s) left arrivals place
     → StandsAt (arrivals_at time arrivals) i arrivals place
@@ -201,7 +201,7 @@ found_here time arrivals source others k left x h is passes none same =
 not_there : (s j first lowest : ℕ) (b : Bool) → (nat_le first s && nat_lt s lowest && b) ≡ false → first ≤ j → j < lowest → ((s == j) && b) ≡ false
 not_there s j first lowest b outside low high = grind (arith, nat_tests)
 
--- one arrival more is looked at for the lowest source
+-- with one more arrival that is not from source `j` there is still none from it
 none_more : (time : ℕ) (arrivals : List Coming) (i : ℕ) (x : Coming) (j : ℕ) → i < length arrivals → x ≡ get_or arrivals i x
     → count_if (comes time j) (take i arrivals) ≡ 0 → (comes time j x ≡ false) → count_if (comes time j) (take (i + 1) arrivals) ≡ 0
 none_more time arrivals i x j h is none other =
@@ -225,14 +225,14 @@ lowest_is : (time first lowest : ℕ) (x : Coming) → is_between time first low
     → (first ≤ x.from) × (x.from < lowest)
 lowest_is time first lowest x h = both_of (x.from) first lowest (x.time == time) h
 
--- one arrival more is counted
+-- one more arrival is counted if it passes
 pub count_more : (time first end : ℕ) (arrivals : List Coming) (i : ℕ) (x : Coming) → i < length arrivals → x ≡ get_or arrivals i x
     → count_if (is_between time first end) (take (i + 1) arrivals) ≡ count_if (is_between time first end) (take i arrivals) + cond (is_between time first end x) 1 0
 count_more time first end arrivals i x h is =
     count_if-take_more (is_between time first end) arrivals i x h
     ∙ ap (λ y. count_if (is_between time first end) (take i arrivals) + cond (is_between time first end y) 1 0) (sym is)
 
--- the lowest source, from the first on, of the first i arrivals
+-- `lowest` is the lowest source from `first` on of the first `i` arrivals
 pub record IsLowest (time : ℕ) (arrivals : List Coming) (i first lowest : ℕ) : Type 0 where
   pub low : first ≤ lowest
   pub high : lowest ≤ 256

@@ -42,7 +42,7 @@ use Rattle.rb_record.proofs.Runs.{run-busy, run-idle, run-reached}
 
 -- One node.
 
--- where it has stopped, nothing is pending
+-- nothing is pending at a node that has stopped
 pub record IsIdle (s : Site) : Type 0 where
   pub ahead : s.runs ≡ false → s.ahead ≡ None
   pub coming : s.runs ≡ false → s.coming ≡ []

@@ -55,7 +55,7 @@ run-ends sc n lawful none = ap (λ (w : World). w.book.ended) (run-idle sc (firs
 
 -- The last record.
 
--- this turn is the last of the records that were given
+-- the turn is the last of the records that were given
 pub record EndsWith (w : World) : Type 0 where
   pub before : List Record
   pub last : Record
@@ -113,7 +113,7 @@ pub record IsLong (sc : Scenario) (n : ℕ) : Type 0 where
   pub more : ℕ
   pub over : (first_run sc (n + more)).book.ended ≡ true
 
--- one more event was due
+-- if an event was due in each of `n` steps and in the next one, it was in each of n + 1 steps
 pub busy-more : (sc : Scenario) (n : ℕ) → ((m : ℕ) → m < n → 1 ≤ length (due_of sc (first_run sc m))) → 1 ≤ length (due_of sc (first_run sc n))
     → (m : ℕ) → m < suc n → 1 ≤ length (due_of sc (first_run sc m))
 busy-more sc n busy here m lt = elim (cases_lt m n) [
@@ -183,7 +183,7 @@ all-given sc name n lawful = by (first_run sc n).book.ended refl
     by true over = ([], record { steps = n; over = over; all = append-nil (given_in sc name n) })
     by false going = going-given sc name n lawful (going-busy sc n lawful going)
 
--- where nothing is due, nothing is given
+-- if nothing is due, no event is given
 none-at : (sc : Scenario) (w : World) → length (due_of sc w) ≡ 0 → event_at sc w 0 ≡ None
 unfolding event_at
 none-at sc w = by (due_of sc w)

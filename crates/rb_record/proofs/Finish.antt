@@ -17,7 +17,7 @@ use Rattle.rb_record.proofs.Runs.{run-reached}
 pub turn-goes : (sc : Scenario) (n : ℕ) (t : Turn) → (first_run sc n).turn ≡ record_of t → end_at (record_of t) ≡ None → (first_run sc n).book.ended ≡ false
 turn-goes sc n t is none = reached-ended sc (first_run sc n) (run-reached sc n) ∙ ap is_last is ∙ goes-on (record_of t) none
 
--- it has ended after one that does
+-- the run has ended if its turn is a record that ends it
 pub turn-ends : (sc : Scenario) (n : ℕ) (t : Turn) (e : Ending) → (first_run sc n).turn ≡ record_of t → end_at (record_of t) ≡ Some e → (first_run sc n).book.ended ≡ true
 turn-ends sc n t e is some = reached-ended sc (first_run sc n) (run-reached sc n) ∙ ap is_last is ∙ ends-last (record_of t) e some
 

@@ -59,7 +59,7 @@ happens-by sc ports me i t s (Tick k) lawful ready is known = by (wants_in sc me
 happens-by sc ports me i t s (Arrival place c) lawful ready is known =
     let size = sized-at place c s.coming ready.0 is.sized in (known-at sc.sizes me place c s.coming ready.0 known, size.0, size.1)
 
--- it is one that can happen at its node
+-- an event at the named node is one that can happen there
 event-happens : (sc : Scenario) (w : World) (e : Event) (name : NodeName) → IsLawful sc → IsReached sc w → AreSound w.sites → IsEvent sc w e → same_node e.node name ≡ true
     → MayHappen (senders_of (record { sizes = sc.sizes; plan = sc.plan }) name) e.kind
 event-happens sc w e name lawful reached sound is same =

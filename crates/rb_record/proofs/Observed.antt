@@ -96,12 +96,12 @@ cause-err {T} {U} {E} a b c r s le err is = by s (rose r err (cause-join a b c r
     by (Ok x) rose = record { later = (cause-join a b c r le is).later; rose = tt }
     by (Err e) rose = record { later = (cause-join a b c r le is).later; rose = rose }
 
--- no failure
+-- `HasCause` holds for a result that is no failure
 pub cause-ok : {T U E : Type 0} (a b c : ℕ) (r : Result T E) (x : U) → a ≤ b → HasCause b c r → HasCause {E = E} a c (Ok x)
 cause-ok a b c r x le is = record { later = (cause-join a b c r le is).later; rose = tt }
 
 module _ {K : Type 0} (held : K → Option (List ℕ)) (faults : K → ℕ) where
-  -- these were passed on up to there, or a write failed
+  -- the events were passed on, or a write failed
   abbrev Passes : Recorder K → Recorder K → List Event → Type 0
   Passes x y events = PassesNext x.log y.log x.waiting y.waiting events (held x.output.now) (held y.output.now)
 
@@ -117,7 +117,7 @@ module _ {K : Type 0} (held : K → Option (List ℕ)) (faults : K → ℕ) wher
     next = λ ok may. match-ok (Passes a a []) (PassesPart a a []) a.written ok (passes-none a.log a.waiting (held a.output.now));
   }
 
-  -- some events, and then others
+  -- if some events were recorded and then others, both were
   records-join : (a b c : Recorder K) (xs ys : List Event) → Records held faults a xs b → Records held faults b ys c → Records held faults a (xs ++ ys) c
   records-join a b c xs ys first second = record {
     same_output = second.same_output ∙ first.same_output;

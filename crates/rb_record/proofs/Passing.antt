@@ -31,7 +31,7 @@ shift : (v w u x y out more : List ℕ) → v ++ x ≡ out ++ w → w ++ y ≡ m
 shift v w u x y out more first second =
     sym (append_assoc v x y) ∙ ap (λ zs. zs ++ y) first ∙ append_assoc out w y ∙ ap (λ zs. out ++ zs) second ∙ sym (append_assoc out more u)
 
--- some events, and then others
+-- if some events were passed on and then others, both were
 pub passes-join : (log mid later : Tally) (v w u : List ℕ) (xs ys : List Event) (h i j : Option (List ℕ)) → PassesNext log mid v w xs h i → PassesNext mid later w u ys i j
     → PassesNext log later v u (xs ++ ys) h j
 passes-join log mid later v w u xs ys h i j first second = record {

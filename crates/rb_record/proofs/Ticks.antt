@@ -115,7 +115,7 @@ is-event sc w e = by (slice_get (due_of sc w) 0) refl
     by None found same = absurd (cc)
     by (Some d) found same = at d found (slice_get (of_kind d.side w.sites) d.node) refl same
 
--- where something is due, there is one
+-- if something is due, there is an event
 pub has-event : (sc : Scenario) (w : World) → IsReached sc w → 1 ≤ length (due_of sc w) → (e : Event) × (event_at sc w 0 ≡ Some e)
 unfolding event_at
 has-event sc w reached some =
@@ -135,7 +135,7 @@ kind-named Biu i (node.Rmu j) h = absurd (cc)
 kind-named Rmu i (node.Biu j) h = absurd (cc)
 kind-named Rmu i (node.Rmu j) h = (refl, let same : i ≡ j = grind (arith, nat_tests) in same)
 
--- it is at this node
+-- the event is at the named node
 pub at-node : (sc : Scenario) (w : World) (e : Event) (name : NodeName) → (is : IsEvent sc w e) → same_node e.node name ≡ true
     → (is.d.side ≡ kind_of name) × (is.d.node ≡ index_of name)
 at-node sc w e name is same =
@@ -187,7 +187,7 @@ fits-by sc ports me i t s (Tick k) ready small tick arrival =
     omega (arith, later, below, is)
 fits-by sc ports me i t s (Arrival place c) ready small tick arrival = let below = arrival c.time ready.1 in omega (arith, small, below)
 
--- with it the node has at most 2^31 ticks
+-- with the ticks of the event its node has had at most 2^31 ticks
 pub event-fits : (sc : Scenario) (w : World) (e : Event) → IsLawful sc → IsReached sc w → AreSound w.sites → (is : IsEvent sc w e) → is.s.core.had + ticks_given e ≤ 2 ^ 31
 event-fits sc w e lawful reached sound is =
     let due : IsDue w is.d = due-reached sc w 0 is.d reached is.found in
@@ -266,7 +266,7 @@ same-is Biu j (node.Rmu i) = refl
 same-is Rmu j (node.Biu i) = refl
 same-is Rmu j (node.Rmu i) = eq-either_way i j
 
--- a step with an event
+-- a step with an event adds its ticks at the named node
 pub taken-before : (sc : Scenario) (w : World) (e : Event) (name : NodeName) (z : Site) → IsLawful sc → IsReached sc w → AreSound w.sites → IsEvent sc w e
     → site_of name (take sc w 0) ≡ Some z → (s : Site) × ((site_of name w ≡ Some s) × (z.core.had ≡ s.core.had + ticks_to name e))
 unfolding take happens
@@ -296,7 +296,7 @@ taken-before sc w e name z lawful reached sound is at =
 
 -- What is recorded.
 
--- at most the ticks that the node gets with it
+-- the node is given at most the ticks of the event
 few-given : (sc : Scenario) (name : NodeName) (w : World) (e : Event) → ticks_in (if_given sc name w (Some e)) ≤ ticks_to name e
 few-given sc name w e = by (same_node e.node name) (is_before_end sc (site_of name w))
   where
@@ -317,7 +317,7 @@ ticks-had sc name (suc n) z lawful at = by (ticks-had sc name n) (length (due_of
     w : World
     w = first_run sc n
 
-    -- where no event is due
+    -- no event is due
     idle : ((x : Site) → IsLawful sc → site_of name w ≡ Some x → ticks_in (given_in sc name n) ≤ x.core.had) → length (due_of sc w) ≡ 0 → ticks_in (given_in sc name (suc n)) ≤ z.core.had
     idle had none =
         let sites : (first_run sc (suc n)).sites ≡ w.sites = ap (λ (x : World). x.sites) (run-idle sc w none) ∙ go-on-sites sc w in

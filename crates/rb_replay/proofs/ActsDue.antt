@@ -27,7 +27,7 @@ use Rattle.rb_replay.proofs.QuietActs.{quiet-before, quiet-text, text-step}
 
 -- Quiet ticks.
 
--- nothing that is due changes when quiet ticks have passed
+-- quiet ticks change nothing that is due
 pub passes-due : (me : Side) (n m : Running) (name : NodeName) (frames count : ℕ) (events : List CoreEvent) (due : List ℕ)
     → n.had ≤ 2 ^ 31 → n.had + count ≤ passing_end me n → n.had + count ≤ 2 ^ 31
     → m ≡ record n { had = n.had + count }
@@ -82,7 +82,7 @@ at-had : (sizes : Sizes) (plan : Plan) (me : Side) (index : ℕ) (c : Core) (wor
 unfolding act_at
 at-had sizes plan me index c word = act-had sizes plan me index c _ _ _
 
--- no more frames than ticks
+-- an act begins no more frames than it has ticks
 counts : (c : Core) (x : Act) → x.core.had ≡ c.had + 1 → frames_with x.epoch + c.had ≤ x.core.had
 counts c x had = let one : frames_with x.epoch ≤ 1 = one-begins x.epoch in omega arith
 
@@ -99,7 +99,7 @@ tick-counts sizes plan me index c word = by (is_spent c)
     by true = omega arith
     by false = counts c (act_at sizes plan me index c word) (at-had sizes plan me index c word)
 
--- its lines were written
+-- the lines of the tick were written
 pub tick-advances : (me : Side) (n m : Running) (name : NodeName) (frames begun word : ℕ) (events : List CoreEvent) (due : List ℕ) (before after : Option (List ℕ))
     → IsSameNode n m
     → ((c : Core) → IsCore n c → IsCore m (tick_of me n c word).core)
@@ -125,7 +125,7 @@ tick-advances me n m name frames begun word events due before after same cores b
       };
     }
 
--- only a part of them was written
+-- only a part of the tick's lines was written
 pub tick-part : (me : Side) (n : Running) (name : NodeName) (frames word : ℕ) (events : List CoreEvent) (due : List ℕ) (before after : Option (List ℕ))
     → ((c : Core) → IsCore n c → AppendsPart before after (act_lines name (tick_of me n c word)))
     → IsDue me n name frames (Tick word ∷ events) due → AppendsPart before after due
@@ -172,7 +172,7 @@ end-is me n name frames bytes is rest d = end-due me n name frames rest d ∙ sy
 first-text : (name : NodeName) (acts : List Act) → acts_text name acts ≡ text_after name 0 acts
 first-text name acts = let none : frames_in acts ≡ 0 + frames_in acts = omega arith in ap (λ k. flat_map (act_lines name) acts ++ end_text k) none
 
--- of a node before its first tick the whole text is due
+-- at a node before its first tick the whole text is due
 pub all-due : (sizes : Sizes) (plan : Plan) (me : Side) (index : ℕ) (n : Running) (name : NodeName) (events : List CoreEvent)
     → kind_of name ≡ me → index_of name ≡ index
     → n.seat ≡ record { sizes = sizes; plan = plan; index = index; state = first_state sizes me }

@@ -8,7 +8,7 @@ use Rattle.rb_outside.proofs.Known.{appends_join, appends_none, part_join}
 use Rattle.rb_rules.specs.Core.{CoreEvent}
 use Rattle.rb_replay.specs.Advancing.{Advances}
 
--- nothing was written yet
+-- before the first write nothing is written
 pub advances-none : (P : List ℕ → Type 0) (due : List ℕ) (held : Option (List ℕ)) → P due → Advances P due held held
 advances-none P due held d = record { part = []; rest = due; whole = refl; appended = appends_none held; goes_on = d }
 
@@ -41,7 +41,7 @@ pub advances-part : (P : List ℕ → Type 0) (due : List ℕ) (first before aft
 advances-part P due first before after a then_part =
     subst (AppendsPart first after) (sym a.whole) (part_join first before after a.part a.rest a.appended (then_part a.rest a.goes_on))
 
--- all of it was written, by what a call answers
+-- all of the due text was written, if the call answers so
 pub advances-all : {T E : Type 0} (P : List ℕ → Type 0) (due : List ℕ) (first before after : Option (List ℕ)) (r : Result T E)
     → Advances P due first before → ((rest : List ℕ) → P rest → OnOk r (Appends before after rest)) → OnOk r (Appends first after due)
 advances-all P due first before after (Err e) a written = tt

@@ -5,12 +5,12 @@ use Rattle.rb_log.specs.Cursor.{shown}
 use Rattle.rb_log.specs.declared.cursor.LogEvent.{LogEvent}
 use Rattle.rb_rules.specs.Core.{CoreEvent}
 
--- where an event is given, it is the first of them
+-- if an event is given, it is the first of the events
 pub first-is : (e : CoreEvent) (events rest : List CoreEvent) → Some e ≡ slice_get events 0 → rest ≡ drop 1 events → events ≡ e ∷ rest
 first-is e [] rest given left = cc
 first-is e (x ∷ xs) rest given left = cc
 
--- where none is given, none was left
+-- if no event is given, none was left
 pub none-left : (o : Option LogEvent) (events : List CoreEvent) → o ≡ None → option_map shown o ≡ slice_get events 0 → events ≡ []
 none-left o [] none given = refl
 none-left o (x ∷ xs) none given = cc

@@ -63,7 +63,7 @@ passes-due h k name begun ticks events due same stands quiet had room d =
 
 -- A tick.
 
--- its lines were written
+-- the lines of the tick were written
 pub tick-advances : (h k : Hearer) (name : NodeName) (begun more word : ℕ) (events : List CoreEvent) (due : List ℕ) (before after : Option (List ℕ))
     → IsSameBus h k
     → ((l : Listening) → IsListening h l → IsListening k (heed h.sizes h.plan l).listening)
@@ -92,7 +92,7 @@ tick-advances h k name begun more word events due before after same stands begin
       };
     }
 
--- only a part of them was written
+-- only a part of the tick's lines was written
 pub tick-part : (h : Hearer) (name : NodeName) (begun word : ℕ) (events : List CoreEvent) (due : List ℕ) (before after : Option (List ℕ))
     → ((l : Listening) → IsListening h l → AppendsPart before after (heed_lines name (heed h.sizes h.plan l).heed))
     → IsDue h name begun (Tick word ∷ events) due → AppendsPart before after due
@@ -158,7 +158,7 @@ all-due h sizes plan name skip events left e f at is = record {
     zero-text : (name : NodeName) (hs : List Heed) → heeds_text name hs ≡ text_after name 0 hs
     zero-text name hs = let sum : begun_in hs ≡ 0 + begun_in hs = omega arith in ap (λ n. flat_map (heed_lines name) hs ++ end_text (n - 1)) sum
 
--- where there is no such tick, the end alone is told
+-- if no event is left from the tick on, only the end is told
 pub nothing-told : (sizes : Sizes) (plan : Plan) (name : NodeName) (skip : ℕ) (events : List CoreEvent) → from_tick skip events ≡ []
     → overheard_text sizes plan name skip events ≡ end_text 0
 unfolding overheard_text

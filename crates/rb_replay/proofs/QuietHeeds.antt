@@ -33,7 +33,7 @@ text-step name begun h hs =
     append_assoc (heed_lines name h) (flat_map (heed_lines name) hs) (end_text (begun + (begun_with h.epoch + begun_in hs) - 1))
     ∙ ap (λ n. heed_lines name h ++ (flat_map (heed_lines name) hs ++ end_text (n - 1))) sum
 
--- where nothing is told nothing is printed
+-- if nothing is told, nothing is printed
 text-nothing : (name : NodeName) (begun : ℕ) (hs : List Heed) → text_after name begun (no_heed ∷ hs) ≡ text_after name begun hs
 text-nothing name begun hs =
     let none : begun + 0 ≡ begun = omega arith in

@@ -43,7 +43,7 @@ pub finds : (skip left word : ℕ) (start mid rest : List CoreEvent) (e : CoreEv
 finds skip left word start mid rest e known none is tick =
     known ∙ ap (λ k. from_tick k mid) none ∙ ap (from_tick 0) (is ∙ ap (λ x. x ∷ rest) tick) ∙ finds-tick word rest
 
--- another tick comes before it
+-- a tick before the one to go to is passed
 pub goes-past : (skip left word : ℕ) (start mid rest : List CoreEvent) (e : CoreEvent) → from_tick skip start ≡ from_tick left mid → 1 ≤ left
     → mid ≡ e ∷ rest → e ≡ Tick word → from_tick skip start ≡ from_tick (left - 1) rest
 goes-past skip left word start mid rest e known some is tick =

@@ -19,7 +19,7 @@ closing_is s expected sense taken values voted taken_is values_are voted_is =
     voted_is ∙ ap majority_of values_are ∙ ap (λ t. majority_of (present t)) taken_is in
     rw (taken_is, vote) refl
 
--- where nothing is taken of any source, the closing is that of nothing
+-- if nothing is taken from any source, the closing is that of nothing
 pub nothing_closing : (s : Standing) (expected : ℕ → Bool) (sense : ℕ → Sense) → ((j : ℕ) → j < 16 → taken_of value_in s expected sense j ≡ None)
     → ◌≡◌ {A = Closing} (record { taken = replicate 16 None; voted = Fault }) (closing_of s expected sense)
 nothing_closing s expected sense none =

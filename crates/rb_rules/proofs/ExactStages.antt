@@ -28,12 +28,12 @@ pub idle_is_silent : (me : Side) (index : ℕ) (st : NodeState) (slot : ℕ) (ro
     → says_of me index st slot role Nobody stage word ≡ None
 idle_is_silent me index st slot role stage word = refl
 
--- where no number gives a value, none is there
+-- if no number gives a value, no value is present
 none_present : {X : Type 0} (f : ℕ → Option X) → ((j : ℕ) → f j ≡ None) → (js : List ℕ) → present (map f js) ≡ []
 none_present f none [] = refl
 none_present f none (j ∷ js) = rw (none j) (none_present f none js)
 
--- where nobody is expected the vote is Fault
+-- if nobody is expected, the vote is Fault
 pub vote_over_nothing : (s : Standing) (expected : ℕ → Bool) (sense : ℕ → Sense)
     → ((j : ℕ) → expected j ≡ false) → (closing_of s expected sense).voted ≡ Fault
 vote_over_nothing s expected sense nobody =

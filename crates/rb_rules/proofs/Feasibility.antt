@@ -13,14 +13,14 @@ use Rattle.rb_rules.specs.Plan.{Sides, inequalities_of, sides_of, first_failing,
 
 -- ---- the first item that passes
 
--- there is none if none passes
+-- if no item passes, `position` finds none
 none_passes : {X : Type 0} (p : X → Bool) (xs : List X) (d : X) → ((k : ℕ) → k < length xs → p (get_or xs k d) ≡ false) → position p xs ≡ None
 none_passes p xs d all =
     let at : position_or_len p xs ≡ length xs = position_or_len_is p xs (length xs) d (omega arith) all (λ h. absurd (omega arith)) in
     let past : nat_lt (length xs) (length xs) ≡ false = le-ltb (length xs) (length xs) (omega arith) in
     rw (at, past) refl
 
--- none passes where there is none
+-- if `position` finds no item, none passes
 none_found : {X : Type 0} (p : X → Bool) (xs : List X) → position p xs ≡ None → (k : ℕ) (d : X) → k < length xs → p (get_or xs k d) ≡ false
 none_found p xs none k d h =
     elim (cases_lt (position_or_len p xs) (length xs)) [
@@ -42,7 +42,7 @@ not_less a b h = grind (arith, ints)
 no_less : (a b : ℤ) → b ≤ℤ a → int_lt a b ≡ false
 no_less a b h = grind (arith, ints)
 
--- the nth fails
+-- inequality `n` of the plan fails
 pub record Fails (sizes : Sizes) (plan : Plan) (n : ℕ) : Type 0 where
   pub sides : Sides
   pub nth : sides_of sizes plan n ≡ Some sides

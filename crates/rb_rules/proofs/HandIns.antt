@@ -57,7 +57,7 @@ moments-more sc hands h (suc n) lt =
     let before : moment sc (hands ++ h ∷ []) n ≡ moment sc hands n = moments-more sc hands h n (omega arith) in
     ap (step sc (hands ++ h ∷ [])) before ∙ step-more sc hands h (moment sc hands n) lt
 
--- at the start of its frame it changes the ports alone, so the frame's record is the same
+-- a hand-in for the frame that begins changes the ports alone, so the book is the same
 pub begin-book : (sc : Scenario) (hands : List HandIn) (h : HandIn) (m : Moment) → (next_frame sc (hands ++ h ∷ []) m).book ≡ (next_frame sc hands m).book
 unfolding begin_frame
 begin-book sc hands h m = refl

@@ -15,7 +15,7 @@ not_later : (a b : Bool) → not b ≡ false → not (a || b) ≡ false
 not_later true b h = refl
 not_later false b h = h
 
--- of two sights that are not alike one is something
+-- one of two sights that are not alike is something
 some_of_unlike : (eps : ℕ) (a b : See) → not (are_alike eps a b) ≡ true → (is_something a ≡ true) ⊎ (is_something b ≡ true)
 some_of_unlike eps Nothing Nothing h = inl h
 some_of_unlike eps Nothing (Value b) h = inr refl
@@ -31,7 +31,7 @@ took good see i = good i && is_something (see i)
 abbrev differs : ℕ → (ℕ → Bool) → (ℕ → See) → See → ℕ → Bool
 differs eps good see a b = good b && not (are_alike eps a (see b))
 
--- against one sight
+-- if a sight is unlike `a`, that sight or `a` is something
 one_unlike : (eps : ℕ) (good : ℕ → Bool) (see : ℕ → See) (a : See) (ys : List ℕ) → list_any (differs eps good see a) ys ≡ true
     → (is_something a ≡ true) ⊎ (list_any (took good see) ys ≡ true)
 one_unlike eps good see a [] h = absurd (cc)
@@ -49,7 +49,7 @@ one_unlike eps good see a (y ∷ ys) h =
       ]
     ]
 
--- against each other
+-- if two sights are unlike each other, one of them is something
 some_unlike : (eps : ℕ) (good : ℕ → Bool) (see : ℕ → See) (xs ys : List ℕ)
     → list_any (λ a. good a && list_any (differs eps good see (see a)) ys) xs ≡ true
     → (list_any (took good see) xs ≡ true) ⊎ (list_any (took good see) ys ≡ true)
@@ -72,12 +72,12 @@ either_way : {P : Type 0} → P ⊎ P → P
 either_way (inl p) = p
 either_way (inr p) = p
 
--- in a stage
+-- a node that was seen unlike in a stage was taken in it
 pub unlike_was_taken : (kind : Side) (j : ℕ) (s : JudgedStage) → was_unlike kind j s ≡ true → was_taken kind j s ≡ true
 unlike_was_taken kind j s h =
     either_way (some_unlike s.eps (has (s.good (other kind))) (λ i. s.sight (other kind) i j) (numbers 16) (numbers 16) h)
 
--- in a frame: an asymmetric node is not benign
+-- an asymmetric node is not benign
 pub asymmetric_was_taken : (kind : Side) (stages : List JudgedStage) (j : ℕ) → is_asymmetric kind stages j ≡ true → is_benign kind stages j ≡ false
 asymmetric_was_taken kind [] j h = absurd (cc)
 asymmetric_was_taken kind (s ∷ earlier) j h =

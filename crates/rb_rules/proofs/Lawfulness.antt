@@ -79,7 +79,7 @@ some_and a b h = omega arith
 some_before : (a b c d : ℕ) → 1 ≤ b → 1 ≤ a + b + c + d
 some_before a b c d h = omega arith
 
--- where a plan is feasible, each of its windows has the sending tick
+-- each window of the plan has the sending tick
 pub record SendsInside (plan : Plan) : Type 0 where
   pub in_l : plan.h < plan.l
   pub in_v : plan.h < plan.v

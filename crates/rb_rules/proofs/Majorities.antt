@@ -61,7 +61,7 @@ winner_cases values (x ∷ xs) =
 pub majority_cases : (values : List Heard) → IsMajority (majority_of values) values ⊎ (majority_of values ≡ Fault)
 majority_cases values = winner_cases values values
 
--- where no value is held by more than half the majority is Fault
+-- if no value is held by more than half, the majority is Fault
 pub no_majority : (values : List Heard) → ((v : Heard) → ¬ IsMajority v values) → majority_of values ≡ Fault
 no_majority values none = elim (majority_cases values) [ inl most ↦ absurd (none (majority_of values) most) | inr is ↦ is ]
 

@@ -33,7 +33,7 @@ one_middle m n stamps is_m is_n =
       ]
     ]
 
--- where there is a stamp, the ascending list has one at the middle place
+-- the middle of a list with a stamp is at the middle place of the ascending list
 some_middle : (stamps : List ℕ) → 0 < length stamps → middle_of stamps ≡ Some (get_or (ascending stamps) ((length stamps - 1) / 2) 0)
 some_middle stamps some = slice_get-get_or (ascending stamps) ((length stamps - 1) / 2) 0 (omega (arith, length-ascending stamps))
 
@@ -66,7 +66,7 @@ no_middle (x ∷ xs) none =
 
 -- ---- the middle is one of the stamps
 
--- where no stamp is m, no more are at most m than are below it
+-- if no stamp is `m`, at most as many stamps are up to `m` as are below it
 up_to-without : (m : ℕ) (stamps : List ℕ) → All (λ x. x ≢ m) stamps → up_to m stamps ≤ below m stamps
 up_to-without m [] others = omega arith
 up_to-without m (x ∷ xs) others =
@@ -81,7 +81,7 @@ up_to-without m (x ∷ xs) others =
     ] in
     omega (arith, go (nat_le x m) refl, up_to-without m xs (All-tail (λ x. x ≢ m) x xs others))
 
--- where no stamp is the middle there is no stamp
+-- if no stamp is the middle, there is no stamp
 pub middle_among : (stamps : List ℕ) → ((k : ℕ) → k < length stamps → ¬ IsMiddle (get_or stamps k 0) stamps) → stamps ≡ []
 middle_among [] none = refl
 middle_among (x ∷ xs) none =
@@ -126,8 +126,7 @@ length-heard : {X : Type 0} (good : X → Bool) (stamp : X → ℕ) (heard : Lis
     → length (map stamp heard) ≡ count_if good heard + count_if (λ x. not (good x)) heard
 length-heard good stamp heard = length-map heard stamp ∙ sym (count_if-not good heard)
 
--- where what is heard has more good stamps than others, the middle lies between bounds that the
--- good ones have
+-- if more good stamps than others are heard, the middle lies between the bounds of the good ones
 pub middle_between : {X : Type 0} (good : X → Bool) (stamp : X → ℕ) (heard : List X) (low high m : ℕ)
     → count_if (λ x. not (good x)) heard < count_if good heard → All (λ x. good x ≡ true → IsBetween low high (stamp x)) heard
     → IsMiddle m (map stamp heard) → IsBetween low high m
@@ -161,14 +160,14 @@ pub record AreNear (e m n : ℕ) : Type 0 where
   pub above : m ≤ n + e
   pub under : n ≤ m + e
 
--- either list may stand first
+-- two near lists are near in either order
 near-swap : (e : ℕ) (xs ys : List ℕ) → AllZip (AreNear e) xs ys → AllZip (AreNear e) ys xs
 near-swap e [] [] near = tt
 near-swap e (x ∷ xs) (y ∷ ys) near = (record { above = near.0.under; under = near.0.above }, near-swap e xs ys near.1)
 near-swap e [] (y ∷ ys) near = absurd near
 near-swap e (x ∷ xs) [] near = absurd near
 
--- as many of one list are at most a number as of the other are at most e more
+-- at most as many items of `ys` are up to `n` as items of `xs` are up to n + e
 up_to-near : (e n : ℕ) (xs ys : List ℕ) → AllZip (AreNear e) xs ys → up_to n ys ≤ up_to (n + e) xs
 up_to-near e n [] [] near = omega arith
 up_to-near e n (x ∷ xs) (y ∷ ys) near =
@@ -181,7 +180,7 @@ up_to-near e n (x ∷ xs) (y ∷ ys) near =
 up_to-near e n [] (y ∷ ys) near = absurd near
 up_to-near e n (x ∷ xs) [] near = absurd near
 
--- one of the two bounds
+-- the middle of one list is at most `e` above that of the other
 near_above : (e : ℕ) (xs ys : List ℕ) (m n : ℕ) → AllZip (AreNear e) xs ys → IsMiddle m xs → IsMiddle n ys → m ≤ n + e
 near_above e xs ys m n near is_m is_n =
     elim (cases_lt (n + e) m) [

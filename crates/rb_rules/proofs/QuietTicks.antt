@@ -27,7 +27,7 @@ abbrev turning : Sizes → Plan → Side → NodeState → ℕ → Option ℕ �
 turning sizes plan me st k next =
     elim (is_tick next k) [ true ↦ elim next [ None ↦ st | Some epoch ↦ turn sizes plan.probation me epoch st ] | false ↦ st ]
 
--- where no frame begins with a tick, the node did not turn at it
+-- if no frame begins with a tick, the node did not turn at it
 turning-same : (sizes : Sizes) (plan : Plan) (me : Side) (st : NodeState) (k : ℕ) (next : Option ℕ)
     → ((turning sizes plan me st k next).epoch == k) ≡ false → turning sizes plan me st k next ≡ st
 unfolding turn
@@ -81,7 +81,7 @@ no-act sizes plan me index c q =
     ] in
     ap (λ b. act b (epoch_at sizes me c.state c.had)) q.no_close ∙ ap (λ b. act false (begin b)) q.no_begin
 
--- at a quiet tick nothing happens, and it is counted
+-- a quiet tick is only counted
 pub quiet-tick : (sizes : Sizes) (plan : Plan) (me : Side) (index : ℕ) (c : Core) → IsQuiet sizes plan me index c.state c.had → c.had < 2 ^ 31
     → tick sizes plan me index c 0 ≡ nothing c
 unfolding tick act_at
@@ -153,7 +153,7 @@ pass-is sizes plan me index n c k room h le =
     let below : k < 2 ^ 31 = next.below in
     quiet-ticks sizes plan me index n c (λ m lo hi. quiet-from sizes plan me index c.state m (next.quiet_before m lo (omega arith))) (omega arith)
 
--- where the search finds none, all ticks that it looked at are quiet
+-- if the search finds no busy tick, all ticks that it looked at are quiet
 not-found : (sizes : Sizes) (plan : Plan) (me : Side) (index : ℕ) (st : NodeState) (had end m : ℕ) (b : Bool) (others : Option ℕ)
     → is_busy sizes plan me index st had ≡ b → (others ≡ None → suc had ≤ m → m < end → is_busy sizes plan me index st m ≡ false)
     → (elim b as (λ _. Option ℕ) [ true ↦ Some had | false ↦ others ]) ≡ None → had ≤ m → m < end → is_busy sizes plan me index st m ≡ false
@@ -171,7 +171,7 @@ none-is sizes plan me index st (suc others) had m h lo hi =
     not-found sizes plan me index st had (had + suc others) m (is_busy sizes plan me index st had) (busy_among sizes plan me index st others (suc had)) refl
     (λ g more below. none-is sizes plan me index st others (suc had) m g more (omega arith)) h lo hi
 
--- where no tick is to come, all are only counted, until the core is spent
+-- if no busy tick is to come, all ticks are only counted, until the core is spent
 pub pass-all : (sizes : Sizes) (plan : Plan) (me : Side) (index n : ℕ) (c : Core) → next_tick sizes plan me index c ≡ None
     → c.had + n ≤ 2 ^ 31 → ticks sizes plan me index n c ≡ record c { had = c.had + n }
 pass-all sizes plan me index n c h le =

@@ -70,7 +70,7 @@ up-ascending : (stamps : List ℕ) → IsUp (ascending stamps)
 up-ascending [] = tt
 up-ascending (x ∷ xs) = up-put x (ascending xs) (up-ascending xs)
 
--- where no stamp is below a number, none at any place is
+-- if no stamp is below `m`, the stamp at each place is at least `m`
 none_below : (m : ℕ) (stamps : List ℕ) (k : ℕ) → below m stamps ≡ 0 → k < length stamps → m ≤ get_or stamps k 0
 none_below m [] k none inside = absurd (omega arith)
 none_below m (x ∷ xs) zero none inside =

@@ -29,7 +29,7 @@ use Rattle.rb_rules.specs.Plan.{tail_start_of}
 use Rattle.rb_rules.specs.Windows.{window_of, exact_window}
 use Rattle.rb_rules.proofs.WindowNumbers.{get-each, exact-numbered, exact-slot, sync-numbered}
 
--- a node's state after a window
+-- after a window a node is in the state in which it has gone through it
 pub state-after : (sc : Scenario) (m : Moment) (me : Side) (i : ℕ) (st : NodeState) → slice_get (of_kind me m.nodes) i ≡ Some st
     → slice_get (of_kind me (after_window sc m (results_of sc m)).nodes) i
     ≡ Some (go_through sc m (sent_in sc m) me i st (window_in sc m me st)).state
@@ -93,7 +93,7 @@ close-stays sizes me i st slot stage first sense = closes-stay sizes me i st slo
 abbrev pub knows : Sizes → Side → ℕ → ℕ → Bool
 knows sizes me stage n = listens me Sync stage && nat_lt (3 * sync_slot_of sizes + stage - 1) n
 
--- it knows those middles, and no others
+-- the node knows the middles of the windows before window `n`, and no others
 pub record Knows (sizes : Sizes) (me : Side) (n : ℕ) (st : NodeState) : Type 0 where
   pub k1 : is_some st.k1 ≡ knows sizes me 1 n
   pub k2 : is_some st.k2 ≡ knows sizes me 2 n
@@ -108,7 +108,7 @@ lt-neither a b c h k = grind (arith, nat_tests)
 lt-true : (a b : ℕ) → a < b → true ≡ nat_lt a b
 lt-true a b h = grind (arith, nat_tests)
 
--- nothing is known before its stage has been closed
+-- no middle is known before its stage has been closed
 early : (sizes : Sizes) (me : Side) (stage n : ℕ) → n + 1 ≤ 3 * sync_slot_of sizes + stage - 1 → knows sizes me stage n ≡ knows sizes me stage (n + 1)
 early sizes me stage n h =
     ap (λ b. listens me Sync stage && b) (lt-neither (3 * sync_slot_of sizes + stage - 1) n (n + 1) (omega arith) h)
@@ -124,7 +124,7 @@ and-none : (a : Bool) (x : ℕ) → (a && nat_lt x 0) ≡ false
 and-none true x = grind (arith, nat_tests)
 and-none false x = refl
 
--- at a frame's start none is known
+-- at the start of a frame no middle is known
 pub knows-none : (sizes : Sizes) (me : Side) (stage : ℕ) → knows sizes me stage 0 ≡ false
 knows-none sizes me stage = and-none (listens me Sync stage) (3 * sync_slot_of sizes + stage - 1)
 
@@ -137,7 +137,7 @@ same-knows sizes me n a b e1 e2 e3 same h = record {
   k3 = ap is_some e3 ∙ h.k3 ∙ same 3 (omega arith) (omega arith);
 }
 
--- the stages of the sync slot
+-- `Knows` goes on through the stages of the sync slot
 sync-1 : (sizes : Sizes) (me : Side) (st : NodeState) (first : ℕ) (sense : ℕ → Sense) → Knows sizes me (3 * sync_slot_of sizes + 0) st
     → Knows sizes me (3 * sync_slot_of sizes + 0 + 1) (close_sync sizes me st 1 first sense).state
 unfolding close_sync sync_outcome_of
@@ -180,7 +180,7 @@ sync-3 sizes Rmu st first sense h = record {
   k3 = lt-true (3 * sync_slot_of sizes + 3 - 1) (3 * sync_slot_of sizes + 2 + 1) (omega arith);
 }
 
--- the tail
+-- `Knows` goes on through the tail
 tail-knows : (sizes : Sizes) (me : Side) (st : NodeState) (first : ℕ) (sense : ℕ → Sense) → Knows sizes me (3 * sync_slot_of sizes + 3) st
     → Knows sizes me (3 * sync_slot_of sizes + 3 + 1) (close_sync sizes me st 4 first sense).state
 unfolding close_sync sync_outcome_of
@@ -189,7 +189,7 @@ tail-knows sizes Biu st first sense h =
 tail-knows sizes Rmu st first sense h =
     same-knows sizes Rmu (3 * sync_slot_of sizes + 3) st _ refl refl refl (λ stage lo hi. late sizes Rmu stage (3 * sync_slot_of sizes + 3) (omega arith)) h
 
--- the windows below the sync slot
+-- `Knows` goes on through each window below the sync slot
 exact-knows : (sizes : Sizes) (me : Side) (i : ℕ) (st : NodeState) (slot stage n : ℕ) (sense : ℕ → Sense) → n < 3 * sync_slot_of sizes → Knows sizes me n st
     → Knows sizes me (n + 1) (close_exact sizes me i st slot stage sense).state
 unfolding close_exact outcome_of
@@ -294,7 +294,7 @@ exact-case sc m sent me i n st ticks lt =
     (λ kept sense before. exact-knows sc.sizes me i kept (n / 3) (n % 3 + 1) n sense lt before)
     (never (n * sc.plan.l) (n * sc.plan.l + sc.plan.l - 1) (omega arith)))
 
--- in a window of the sync slot the middles go on as its stage makes them
+-- in a window of the sync slot `Knows` goes on as its stage makes it
 stage-knows : (sc : Scenario) (m : Moment) (sent : Each (Option Sending)) (me : Side) (i n stage first ticks : ℕ) (st : NodeState) → 1 ≤ ticks
     → ((kept : NodeState) (first : ℕ) (sense : ℕ → Sense) → Knows sc.sizes me n kept → Knows sc.sizes me (n + 1) (close_sync sc.sizes me kept stage first sense).state)
     → is_good sc me i m.frame (sync_slot_of sc.sizes) ≡ true → Knows sc.sizes me n st
@@ -304,7 +304,7 @@ stage-knows sc m sent me i n stage first ticks st some closing good h =
     through-knows sc m sent me i n st (window_of (sync_slot_of sc.sizes) stage first ticks) true (eq_self (sync_slot_of sc.sizes)) good h
     (λ kept sense before. closing kept (kept.epoch + first) sense before) (never first (first + ticks - 1) (omega arith))
 
--- in the tail nothing is added, empty or not
+-- `Knows` goes on through the tail, empty or not
 rest-knows : (sc : Scenario) (m : Moment) (sent : Each (Option Sending)) (me : Side) (i : ℕ) (st : NodeState)
     → is_good sc me i m.frame (sync_slot_of sc.sizes) ≡ true → Knows sc.sizes me (3 * sync_slot_of sc.sizes + 3) st
     → Knows sc.sizes me (3 * sync_slot_of sc.sizes + 3 + 1) (go_through sc m sent me i st (tail_at sc.sizes sc.plan me st)).state
@@ -315,7 +315,7 @@ rest-knows sc m sent me i st good h =
     (λ t. same-knows sc.sizes me (3 * sync_slot_of sc.sizes + 3) st st refl refl refl
     (λ stage lo hi. late sc.sizes me stage (3 * sync_slot_of sc.sizes + 3) (omega arith)) h)
 
--- the windows from the sync slot on
+-- `Knows` goes on through a window from the sync slot on
 GoesOn : Scenario → Moment → Each (Option Sending) → Side → ℕ → NodeState → ℕ → Type 0
 GoesOn sc m sent me i st n =
     is_good sc me i m.frame (window_numbered sc.sizes sc.plan me st n).slot ≡ true → Knows sc.sizes me n st

@@ -67,7 +67,7 @@ sync_role sizes =
     let s : ℕ = sync_slot_of sizes in
     rw (le-ltb s sizes.bius (omega arith), le-ltb s (first_diagnosis_of Biu sizes) (omega arith), le-ltb s (first_diagnosis_of Rmu sizes) (omega arith), le-ltb s s (omega arith)) refl
 
--- in every other slot than the sync slot
+-- each slot but the sync slot is closed by `close_exact`
 pub close-exact : (sizes : Sizes) (me : Side) (index : ℕ) (st : NodeState) (slot stage first : ℕ) (sense : ℕ → Sense) → (slot == sync_slot_of sizes) ≡ false
     → close sizes me index st slot stage first sense ≡ close_exact sizes me index st slot stage sense
 close-exact sizes me index st slot stage first sense is =

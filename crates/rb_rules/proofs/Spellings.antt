@@ -55,7 +55,7 @@ spelled_is_read version bytes m spells = ap (message_in version) spells.1 ∙ re
 
 -- ---- what is read is spelled so
 
--- one test of a byte, before those of the other tags
+-- if the tests of the other tags are right, they are with one more test before them
 tag_case : (same : Bool) (byte k : ℕ) (here tag : Tag) (others : Option Tag) → (byte == k) ≡ same → tag_byte here ≡ k
     → (others ≡ Some tag → tag_byte tag ≡ byte) → (if same then Some here else others) ≡ Some tag → tag_byte tag ≡ byte
 tag_case true byte k here tag others same is_k later is =

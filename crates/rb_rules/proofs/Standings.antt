@@ -9,7 +9,7 @@ use Rattle.rb_rules.specs.declared.sense.Sense.{Sense}
 use Rattle.rb_rules.proofs.Majorities.{same_heard_self}
 use Rattle.rb_rules.specs.Standing.{Standing, is_eligible, taken_of, does_wrong, has_evidence, with_evidence, is_unlike, with_mismatch, lapses, standing_at_end, calm_after}
 
--- where something unlike a value was taken, something was taken
+-- if something unlike a value was taken, something was taken
 pub unlike_is_taken : (value : Heard) (taken : Option Heard) → is_unlike value taken ≡ true → is_some taken ≡ true
 unlike_is_taken value None h = h
 unlike_is_taken value (Some v) h = refl
@@ -18,12 +18,12 @@ unlike_is_taken value (Some v) h = refl
 pub alike_is_not_unlike : (value : Heard) → is_unlike value (Some value) ≡ false
 alike_is_not_unlike value = ap not (same_heard_self value)
 
--- nothing is taken of a source that is not expected
+-- nothing is taken from a source that is not expected
 pub unexpected_not_taken : {X : Type 0} (part : Sense → Option X) (s : Standing) (expected : ℕ → Bool) (sense : ℕ → Sense) (j : ℕ)
     → expected j ≡ false → taken_of part s expected sense j ≡ None
 unexpected_not_taken part s expected sense j h = rw h refl
 
--- of a source that is expected and eligible all that is wanted is taken
+-- from a source that is expected and eligible all that is wanted is taken
 pub expected_is_taken : {X : Type 0} (part : Sense → Option X) (s : Standing) (expected : ℕ → Bool) (sense : ℕ → Sense) (j : ℕ)
     → expected j ≡ true → is_eligible s j ≡ true → taken_of part s expected sense j ≡ part (sense j)
 expected_is_taken part s expected sense j h e = rw (h, e) refl
@@ -55,7 +55,7 @@ pub alike_stay : (differs : ℕ → Bool) (s : Standing) (j : ℕ) → j < 16 �
 alike_stay differs s j below h =
     has-set_of j (λ j. has s.mismatch j || differs j) below ∙ ap (λ c. has s.mismatch j || c) h ∙ or-false (has s.mismatch j)
 
--- with no probation no accusation lapses
+-- if the probation is 0, no accusation lapses
 pub none_lapses : (s : Standing) (j : ℕ) → lapses 0 s j ≡ false
 none_lapses s j =
     let go : (a b c : Bool) → (a && not b && false && c) ≡ false =

@@ -27,7 +27,7 @@ one_more : {X : Type 0} (o : Option X) (rest : List X) → length (cons_option o
 one_more None rest = omega arith
 one_more (Some x) rest = omega arith
 
--- as many values are there as sources of which something was taken
+-- there are as many values as sources from which something was taken
 pub length_present : {X : Type 0} (f : ℕ → Option X) (js : List ℕ) → length (present (map f js)) ≡ count_if (λ j. is_some (f j)) js
 length_present f [] = refl
 length_present f (j ∷ js) = one_more (f j) (present (map f js)) ∙ ap (λ n. cond (is_some (f j)) 1 0 + n) (length_present f js)

@@ -43,7 +43,6 @@ length-from : {X Y : Type 0} (i : ℕ) (make : ℕ → X → Y) (xs : List X) �
 length-from i make [] = refl
 length-from i make (x ∷ xs) = ap suc (length-from (i + 1) make xs)
 
--- there are as many afterwards
 pub length-each : {X Y : Type 0} (make : Side → ℕ → X → Y) (xs : Each X) (me : Side) → length (of_kind me (map_each make xs)) ≡ length (of_kind me xs)
 length-each make xs Biu = length-from 0 (make Biu) xs.bius
 length-each make xs Rmu = length-from 0 (make Rmu) xs.rmus
@@ -56,7 +55,7 @@ get-made sizes make Rmu i h = slice_get-map (make Rmu) (numbers sizes.rmus) i �
 
 -- Windows.
 
--- below the sync slot
+-- below the sync slot window `n` is the exact window of that number
 pub exact-numbered : (sizes : Sizes) (plan : Plan) (me : Side) (st : NodeState) (n : ℕ) → n < 3 * sync_slot_of sizes
     → window_numbered sizes plan me st n ≡ exact_window plan n
 exact-numbered sizes plan me st n h =
@@ -67,14 +66,14 @@ exact-numbered sizes plan me st n h =
     (slice_get-front front (sync_windows sizes plan) n within ∙ slice_get-map (exact_window plan) (numbers (3 * sync_slot_of sizes)) n
     ∙ ap (option_map (exact_window plan)) (get-number (3 * sync_slot_of sizes) n h))
 
--- such a window is one of a slot below the sync slot
+-- a window below the sync slot is one of a slot below the sync slot
 pub exact-slot : (sizes : Sizes) (n : ℕ) → n < 3 * sync_slot_of sizes → n / 3 < sync_slot_of sizes
 exact-slot sizes n h =
     let e : 3 * sync_slot_of sizes ≡ sync_slot_of sizes * 3 = omega arith in
     let below : n < sync_slot_of sizes * 3 = omega arith in
     (div-lt_iff_lt-mul {k = 3} {x = n} {y = sync_slot_of sizes} (omega arith)).1 below
 
--- in the sync slot, and past it
+-- in the sync slot and past it a window is one of the sync slot or the tail
 pub sync-numbered : (sizes : Sizes) (plan : Plan) (me : Side) (st : NodeState) (r : ℕ)
     → window_numbered sizes plan me st (3 * sync_slot_of sizes + r) ≡ unwrap_or (slice_get (sync_windows sizes plan) r) (tail_at sizes plan me st)
 sync-numbered sizes plan me st r =

@@ -19,14 +19,14 @@ pub record IsCounted (sc : Scenario) (is_plain : Bool) (told since : Option (Lis
   pub many : length turns ≡ passed
   pub are : totals ≡ totals_of turns
 
--- at first
+-- before the first turn nothing is counted
 pub none-counted : (k : KeptWorld) (is_plain : Bool) (told : Option (List Turn)) (totals : Totals) → totals ≡ totals_of [] → HasGivenNothing k → IsCounted k.bus is_plain told told k totals 0
 none-counted k is_plain told totals none begun = record { turns = []; given = begins k is_plain told begun; many = refl; are = none }
 
 counted-next : (turns : List Turn) (before after : Totals) (t : Turn) → before ≡ totals_of turns → after ≡ counted before (record_of t) → after ≡ totals_of (turns ++ t ∷ [])
 counted-next turns before after t are now = now ∙ ap (λ x. counted x (record_of t)) are ∙ sym (totals-more turns t)
 
--- one turn more is counted, and the run goes on
+-- one more turn is counted, and the run goes on
 pub one-counted : (sc : Scenario) (is_plain : Bool) (told mid since : Option (List Turn)) (k after : KeptWorld) (before totals : Totals) (passed : ℕ) (t : Turn)
     → (is : IsCounted sc is_plain told mid k before passed) → IsUnderWay sc is_plain told since after (is.turns ++ t ∷ []) (is_last (record_of t))
     → totals ≡ counted before (record_of t) → end_at (record_of t) ≡ None → IsCounted sc is_plain told since after totals (passed + 1)

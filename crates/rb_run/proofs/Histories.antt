@@ -19,7 +19,7 @@ use Rattle.rb_world.specs.Numbering.{GoesInRounds, IsNextRecord}
 use Rattle.rb_world.specs.Worlds.{KeptWorld, Stands}
 use Rattle.rb_world.proofs.Numbered.{alike-in-rounds, next-in-rounds}
 
--- one call more
+-- one more call goes through one more record
 through-more : {D : Type 0} (gives : D → Turn → Turn → Type 0) (keeps : D → D → Turn → Type 0) (before mid after : D) (records : List Record) (turns : List Turn) (r : Record) (t : Turn)
     → GoesThrough gives keeps before mid records turns → gives mid (turn_of r) t → keeps mid after t
     → GoesThrough gives keeps before after (records ++ r ∷ []) (turns ++ t ∷ [])

@@ -29,7 +29,7 @@ same-totals a b f d c s =
     ∙ ap (λ x. made_of b.frames b.deliveries x a.spread) c
     ∙ ap (λ x. made_of b.frames b.deliveries b.convicted x) s
 
--- of some blocks and those of one record more
+-- one more record adds its block, if it has one
 blocks-more : (rs : List Record) (r : Record) → blocks_of (rs ++ r ∷ []) ≡ blocks_of rs ++ option_to_list (block_in r)
 blocks-more rs (Frame frame nodes ports) = filter_map-append block_in rs (Frame frame nodes ports ∷ [])
 blocks-more rs (Slot frame slot lines) = filter_map-append block_in rs (Slot frame slot lines ∷ [])
@@ -55,7 +55,7 @@ spread-more rs r b is =
     ∙ ap greatest (flat_map-append spreads (blocks_of rs) (b ∷ []) ∙ ap (λ ns. flat_map spreads (blocks_of rs) ++ ns) (append-nil (spreads b)))
     ∙ greatest-append (flat_map spreads (blocks_of rs)) (spreads b)
 
--- where a record has no block
+-- a record without a block changes the count of deliveries alone
 no-block : (rs : List Record) (r : Record) → block_in r ≡ None → tally_of (rs ++ r ∷ []) ≡ record (tally_of rs) { deliveries = (tally_of rs).deliveries + length (lines_in r) }
 no-block rs r none =
     let same = same-blocks rs r none in

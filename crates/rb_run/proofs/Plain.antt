@@ -35,7 +35,7 @@ plain-records sc told since turns given all =
     let rest : given.first.0 ≡ [] = no-rest given.first.0 (omega (arith, many, sum, all)) in
     ap records_in (given.plain refl) ∙ records-back given.records ∙ sym (given.first.1 ∙ ap (λ xs. given.records ++ xs) rest ∙ append-nil given.records)
 
--- their report
+-- the report of a plain drive's turns is that of the run
 pub plain-text : (sc : Scenario) (told since : Option (List Turn)) (turns : List Turn) → AreGiven sc true told since turns → AreAll sc turns → text_of turns ≡ report_of (records_of sc [])
 plain-text sc told since turns given all = ap report_of (plain-records sc told since turns given all)
 

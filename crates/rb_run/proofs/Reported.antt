@@ -24,11 +24,11 @@ pub record IsWritten (sc : Scenario) (is_plain : Bool) (told since : Option (Lis
   pub text : Appends held after (text_of turns)
   pub block : newest ≡ newest_after 0 (records_in turns)
 
--- at first
+-- before the first turn nothing is written
 pub none-written : (k : KeptWorld) (is_plain : Bool) (told : Option (List Turn)) (held : Option (List ℕ)) → HasGivenNothing k → IsWritten k.bus is_plain told told k held held 0 0
 none-written k is_plain told held begun = record { turns = []; given = begins k is_plain told begun; many = refl; text = appends_none held; block = refl }
 
--- one turn more, which has been given and is not yet written
+-- `t` is one more turn, which has been given and is not yet written
 abbrev pub Next : (sc : Scenario) (is_plain : Bool) (told mid since : Option (List Turn)) (k after : KeptWorld) (held mid_held : Option (List ℕ)) (newest passed : ℕ) (t : Turn)
     → IsWritten sc is_plain told mid k held mid_held newest passed → Type 0
 Next sc is_plain told mid since k after held mid_held newest passed t is = IsUnderWay sc is_plain told since after (is.turns ++ t ∷ []) (is_last (record_of t))
@@ -38,7 +38,7 @@ text-next : (sc : Scenario) (is_plain : Bool) (told mid : Option (List Turn)) (k
 text-next sc is_plain told mid k held mid_held newest passed t is =
     text-more is.turns t ∙ ap (λ n. text_of is.turns ++ turn_text n (record_of t)) (sym is.block)
 
--- it is written
+-- with the text of turn `t` the text of all turns up to `t` is written
 written-next : (sc : Scenario) (is_plain : Bool) (told mid : Option (List Turn)) (k : KeptWorld) (held mid_held after_held : Option (List ℕ)) (newest passed : ℕ) (t : Turn)
     → (is : IsWritten sc is_plain told mid k held mid_held newest passed) → Appends mid_held after_held (turn_text newest (record_of t))
     → Appends held after_held (text_of (is.turns ++ t ∷ []))

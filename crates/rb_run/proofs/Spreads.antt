@@ -7,7 +7,7 @@ use Rattle.rb_rules.specs.declared.record.NodeLine.{NodeLine}
 use Rattle.rb_run.specs.Tallies.{differences_in, greatest}
 use Rattle.rb_run.proofs.Numbers.{greatest-append}
 
--- the latest time among these lines and one more time, and the earliest
+-- the latest and the earliest of one time and the times of these lines
 abbrev pub latest_of : ℕ → List NodeLine → ℕ
 latest_of t [] = t
 latest_of t (l ∷ ls) = max l.time (latest_of t ls)
@@ -42,7 +42,7 @@ later-than t first (l ∷ ls) = let rest = later-than t first ls in omega (arith
 later-than-all : (t : ℕ) (l : NodeLine) (ls : List NodeLine) → greatest (map (λ x. t - x.time) (l ∷ ls)) ≡ t - earliest_of l.time (l ∷ ls)
 later-than-all t l ls = let e = later-than t l.time (l ∷ ls) in omega (arith, e)
 
--- of each of these and one more time, over the least
+-- the greatest difference of these lines' times and one more from `low` is that of the latest
 rows : (low first : ℕ) (f : NodeLine → List ℕ) (ls : List NodeLine) → ((l : NodeLine) → greatest (f l) ≡ l.time - low)
     → latest_of first ls - low ≡ max (first - low) (greatest (flat_map f ls))
 rows low first f [] each = omega arith
@@ -52,7 +52,7 @@ rows low first f (l ∷ ls) each =
     let both = greatest-append (f l) (flat_map f ls) in
     omega (arith, rest, here, both)
 
--- the greatest difference in a block with this first line
+-- the greatest difference in a block is that of its latest and its earliest time
 pub spread-is : (l : NodeLine) (ls : List NodeLine) → greatest (differences_in (l ∷ ls)) ≡ latest_of l.time (l ∷ ls) - earliest_of l.time (l ∷ ls)
 spread-is l ls =
     let low : ℕ = earliest_of l.time (l ∷ ls) in
@@ -67,7 +67,7 @@ spread-so : (l : NodeLine) (ls : List NodeLine) → Some l ≡ slice_get ls 0 �
 spread-so l [] is = absurd (cc)
 spread-so l (x ∷ ls) is = let same : l ≡ x = cc in subst (λ (y : NodeLine). greatest (differences_in (x ∷ ls)) ≡ latest_of y.time (x ∷ ls) - earliest_of y.time (x ∷ ls)) (sym same) (spread-is x ls)
 
--- once all lines are read
+-- once all lines are read, the spread is the greatest difference of the block
 pub spread-from : (l : NodeLine) (ls : List NodeLine) (i latest earliest : ℕ) → Some l ≡ slice_get ls 0 → length ls ≤ i
     → latest ≡ latest_of l.time (take i ls) → earliest ≡ earliest_of l.time (take i ls) → latest - earliest ≡ greatest (differences_in ls)
 spread-from l ls i latest earliest first past late early =

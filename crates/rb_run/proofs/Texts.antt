@@ -43,7 +43,7 @@ newest-with n [] None = refl
 newest-with n [] (Some r) = refl
 newest-with n (r ∷ rs) o = newest-with (newest_with n (Some r)) rs o
 
--- the number of the newest block after it
+-- after one more turn the newest block is that of its record, if it has one
 pub newest-more : (turns : List Turn) (t : Turn) → newest_after 0 (records_in (turns ++ t ∷ [])) ≡ newest_with (newest_after 0 (records_in turns)) (record_of t)
 newest-more turns t = ap (newest_after 0) (records-more turns t) ∙ newest-with 0 (records_in turns) (record_of t)
 

@@ -25,7 +25,7 @@ use Rattle.rb_world.specs.Worlds.{KeptWorld, Stands}
 use Rattle.rb_world.proofs.LastTurn.{reached-ended, reached-gave}
 use Rattle.rb_world.proofs.Numbered.{alike-in-rounds, alike-last, next-in-rounds}
 
--- these turns were given, and the run has ended or not
+-- `turns` were given, and `over` says whether the run has ended
 pub record IsUnderWay (sc : Scenario) (is_plain : Bool) (told since : Option (List Turn)) (k : KeptWorld) (turns : List Turn) (over : Bool) : Type 0 where
   pub world : World
   pub stands : Stands k world
@@ -101,7 +101,7 @@ pub last-some : (o : Option Record) → is_last o ≡ true → (r : Record) × (
 last-some None e = absurd (cc)
 last-some (Some r) e = (r, refl)
 
--- where nothing was given, the run has not ended
+-- if nothing was given, the run has not ended
 pub not-over : (k : KeptWorld) → (begun : HasGivenNothing k) → begun.world.book.ended ≡ false
 not-over k begun = by begun.world.book.ended refl
   where
@@ -206,7 +206,7 @@ whole-given sc is_plain told since k turns is =
     subst (λ (w : World). w.book.ended ≡ true → w.book.given ≡ records_of k.bus w.hands) (sym reached.is) ((events-hold k.bus is.stands.lawful).whole reached.choices) is.ended in
     whole ∙ ap (records_of k.bus) is.hands ∙ ap (λ (s : Scenario). records_of s []) is.bus
 
--- at the end all were given
+-- at the end of the run all turns were given
 pub are-all : (sc : Scenario) (is_plain : Bool) (told since : Option (List Turn)) (k : KeptWorld) (turns : List Turn) → IsUnderWay sc is_plain told since k turns true → AreAll sc turns
 are-all sc is_plain told since k turns is =
     many-given sc is_plain told since k turns true is ∙ ap length (whole-given sc is_plain told since k turns is)
@@ -217,7 +217,7 @@ last-map f [] None p y none some e = absurd (let never : None ≡ Some y = sym (
 last-map f [] (Some x) p y none some e = (x, (refl, let both : Some (f x) ≡ Some y = sym (some x refl) ∙ e in cc))
 last-map f (x ∷ xs) o p y none some e = last-map f xs (Some x) (Some (f x)) y (λ e. absurd (cc)) (λ z e. let same : x ≡ z = cc in ap (λ v. Some (f v)) same) e
 
--- where the last of them ends the run, it has ended
+-- if a turn ends the run, the run is over after it
 pub finished : (sc : Scenario) (is_plain : Bool) (told since : Option (List Turn)) (k : KeptWorld) (turns : List Turn) (t : Turn) (e : Ending)
     → IsUnderWay sc is_plain told since k turns (is_last (record_of t)) → end_at (record_of t) ≡ Some e → IsUnderWay sc is_plain told since k turns true
 finished sc is_plain told since k turns t e is ends = subst (λ over. IsUnderWay sc is_plain told since k turns over) (ends-last (record_of t) e ends) is

@@ -112,7 +112,7 @@ pub none_breaks : (sc : Scenario) → AllKept sc → broken_by sc ≡ None
 unfolding chain broken_by
 none_breaks sc k = at_end _ _ _ _ _ _ k.plan k.clocks k.delays k.starts k.says k.few
 
--- where no rule is broken, all are kept
+-- if no rule is broken, all rules are kept
 all_from_end : (o : Option ℕ) (a b c d e : Bool) → chain o a b c d e ≡ None
     → (o ≡ None) × (a ≡ true) × (b ≡ true) × (c ≡ true) × (d ≡ true) × (e ≡ true)
 unfolding chain

@@ -181,7 +181,7 @@ onsets_in side nodes bus t sc most frames sizes some h = record {
   each = all_made (IsOnsetOf sc) (λ i. onset_for bus t (name_of side i)) 16 (λ i. onset_in bus t sc frames sizes some h (name_of side i));
 }
 
--- all together
+-- a scenario that keeps all rules is lawful
 pub lawful : (bus : Bus) (t : Members) → IsBus bus → fits_bus bus t ≡ true → AllKept (scenario_on bus t) → IsLawful (scenario_on bus t)
 lawful bus t is fits kept =
     let sc = scenario_on bus t in

@@ -14,7 +14,7 @@ use Rattle.rb_base.specs.declared.node.NodeName.{NodeName}
 use Rattle.rb_base.specs.declared.node.NodeName.TheVariants.{Biu, Rmu}
 use Rattle.rb_scenario_document.specs.Names.{IsNumbered, biu_letter, indexed, named, node_at, node_named, rmu_letter, text_or_none}
 
--- two digits from 10 on
+-- a number from 10 on has two digits
 pub decimal_two_digits : (i : ℕ) → 10 ≤ i → i < 16 → decimal i ≡ 49 ∷ (38 + i) ∷ []
 decimal_two_digits i low high =
     let tens : i / 10 ≡ 1 = omega arith in

@@ -47,7 +47,7 @@ de_morgan : (a b : Bool) → not (a || b) ≡ (not a && not b)
 de_morgan true b = refl
 de_morgan false b = refl
 
--- none was seen and none is the new one, if and only if none was seen with the new one
+-- none of `names` was seen and none is `name`, if and only if none was seen with `name`
 unseen_with : (seen seen' : Seen) (name : NodeName) → ((n : NodeName) → IsNumbered n → was_seen seen' n ≡ (was_seen seen n || same_node name n))
     → (names : List NodeName) → All IsNumbered names
     → list_all (λ n. not (was_seen seen' n)) names ≡ (list_all (λ n. not (was_seen seen n)) names && not (list_any (same_node name) names))
@@ -65,7 +65,7 @@ unseen_with seen seen' name h (n ∷ ns) small =
     shuffled true false c d = refl
     shuffled false b c d = refl
 
--- a further node
+-- names are new if the first was not seen and the others are new with it
 pub new-cons : (seen seen' : Seen) (name : NodeName) → ((n : NodeName) → IsNumbered n → was_seen seen' n ≡ (was_seen seen n || same_node name n))
     → (names : List NodeName) → All IsNumbered names → are_new seen (name ∷ names) ≡ (not (was_seen seen name) && are_new seen' names)
 new-cons seen seen' name h names small =
@@ -77,7 +77,7 @@ new-cons seen seen' name h names small =
     regrouped true false c d = refl
     regrouped false b c d = refl
 
--- at first nothing was seen
+-- if nothing was seen, names are new if and only if they are distinct
 pub new-none : (names : List NodeName) → are_new (record { biu = 0; rmu = 0 }) names ≡ are_distinct names
 new-none names = ap (λ b. b && are_distinct names) (all names)
   where
@@ -106,7 +106,7 @@ pub nodes_in-IsNumbered : (sizes : Sizes) → IsShape sizes → (es : List Membe
 nodes_in-IsNumbered sizes shape es =
     all_numbered (λ e. node_at sizes (codes "node") e) (λ e n is. node_at-IsNumbered sizes shape.most_bius shape.most_rmus (codes "node") e n is) es
 
--- one more entry, of which it was told whether it names a new node
+-- names with one more entry are new if the entry names a new node and the others are new with it
 pub are_new-more : (sizes : Sizes) → IsShape sizes → (vs : List Value) (i : ℕ) (v : Value) (seen seen' : Seen) (r : Bool) → i < length vs → v ≡ get_or vs i v
     → ((names : List NodeName) → All IsNumbered names → are_new seen (nodes_in sizes (option_to_list (as_table (view v))) ++ names) ≡ (r && are_new seen' names))
     → are_new seen (nodes_in sizes (tables_in (items_view (drop i vs)))) ≡ (r && are_new seen' (nodes_in sizes (tables_in (items_view (drop (i + 1) vs)))))

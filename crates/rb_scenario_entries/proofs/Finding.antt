@@ -19,7 +19,7 @@ found_passes p q (y ∷ ys) x e h =
       | false ↦ λ is. found_passes p q ys x (e ∙ ap (λ b. cond b (Some y) (find p ys)) is) parts.1
     ] in go (p y) refl
 
--- one that fails makes the whole fail
+-- if one item fails, the whole fails
 pub all-numbers_fails : {X : Type 0} (p : X → Bool) (f : ℕ → X) (a n i : ℕ) → i < n → p (f (a + i)) ≡ false → list_all p (map f (range_with_len a n)) ≡ false
 all-numbers_fails p f a zero i h e = absurd (omega arith)
 all-numbers_fails p f a (suc n) zero h e =
@@ -32,7 +32,7 @@ all-numbers_fails p f a (suc n) (suc i) h e =
 pub all-below_fails : {X : Type 0} (p : X → Bool) (f : ℕ → X) (n i : ℕ) → i < n → p (f i) ≡ false → list_all p (map f (numbers n)) ≡ false
 all-below_fails p f n i h e = let is : i ≡ 0 + i = omega arith in all-numbers_fails p f 0 n i h (subst (λ j. p (f j) ≡ false) is e)
 
--- one more that is made by number
+-- one more item is made by its number
 pub made_more : {X : Type 0} (f : ℕ → X) (i : ℕ) (xs ys zs : List X) (x : X) → zs ≡ ys ++ x ∷ [] → ys ≡ xs ++ map f (numbers i) → x ≡ f i
     → zs ≡ xs ++ map f (numbers (i + 1))
 made_more f i xs ys zs x pushed before is =

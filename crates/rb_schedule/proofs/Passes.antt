@@ -138,7 +138,7 @@ nobody_later sizes trusted requests k j h none =
     (numbers sizes.bius)
     none
 
--- after a pass that added no owner
+-- after a pass that added no owner the owners are those of the schedule
 pub granted_all : (sizes : Sizes) (trusted : ℕ) (requests : List Heard) (k : ℕ) (before now : List ℕ) → k < sizes.data_slots
     → before ≡ granted sizes.data_slots (owners_in_pass sizes trusted requests) k
     → now ≡ take sizes.data_slots (before ++ owners_in_pass sizes trusted requests k)

@@ -11,14 +11,14 @@ use Rattle.rb_slot.specs.Engines.{IsSound, Seated}
 use Rattle.rb_slot.specs.KeptSlots.{IsKeptSlot, bius_by, rmus_by, speaks_of}
 use Rattle.rb_slot.specs.Senders.{sender_of}
 
--- with the same trusted nodes
+-- a state stays sound with the same trusted nodes
 pub still_sound : (sizes : Sizes) (me : Side) (index frame epoch near far after : ℕ) (owners : List ℕ) (kept : KeptSlot) (k1 k2 k3 : Option ℕ)
     → IsSound sizes me index frame epoch near far owners kept k1 k2 k3 → after ≡ far
     → IsSound sizes me index frame epoch near after owners kept k1 k2 k3
 still_sound sizes me index frame epoch near far after owners kept k1 k2 k3 sound same =
     subst (λ f. IsSound sizes me index frame epoch near f owners kept k1 k2 k3) (sym same) sound
 
--- with another slot that is right
+-- a state stays sound with another slot that is right
 pub sound_with : (sizes : Sizes) (me : Side) (index frame epoch near far near_after far_after : ℕ) (owners owners_after : List ℕ) (kept kept_after : KeptSlot) (k1 k2 k3 : Option ℕ)
     → IsSound sizes me index frame epoch near far owners kept k1 k2 k3
     → IsKeptSlot sizes me index near_after far_after owners_after kept_after
@@ -33,7 +33,7 @@ sound_with sizes me index frame epoch near far near_after far_after owners owner
   slot_kept = right;
 }
 
--- the trusted nodes by kind
+-- the masks by kind are the trusted nodes of each kind
 bius_are : (me : Side) (st : NodeState) → bius_by me st.near st.far.trusted ≡ trusted_of me Side.Biu st
 bius_are Side.Biu st = refl
 bius_are Side.Rmu st = refl

@@ -24,7 +24,7 @@ use Rattle.rb_test_bridge_rules.specs.Bridges.{slot_each, triple}
 abbrev owner_held : Scenario → List HandIn → ℕ → ℕ → Side → ℕ → Option (Option ℕ)
 owner_held sc hands frame slot me i = option_map (λ st. owner_at sc.sizes st slot) (slice_get (of_kind me (before_slot sc hands frame slot).nodes) i)
 
--- of three BIUs and an RMU each holds that each BIU owns one
+-- in this slot three BIUs and an RMU hold that each BIU owns one data slot
 pub record HoldTheSlot (sc : Scenario) (hands : List HandIn) (frame slot : ℕ) : Type 0 where
   pub first : owner_held sc hands frame slot Biu 0 ≡ Some (slot_each slot)
   pub second : owner_held sc hands frame slot Biu 1 ≡ Some (slot_each slot)

@@ -41,7 +41,7 @@ passed tests h k lt = AllPass-from_list_all (λ t. t) tests h k false lt
 each_by : {X : Type 0} (P : X → Type 0) (test : X → Bool) → ((x : X) → test x ≡ true → P x) → (xs : List X) → list_all test xs ≡ true → All P xs
 each_by P test shows xs h = λ k d lt. shows (get_or xs k d) (AllPass-from_list_all test xs h k d lt)
 
--- there is one for each node
+-- the list has an item for each node, and all items pass
 abbrev has_each : {X : Type 0} → ℕ → (X → Bool) → List X → Bool
 has_each nodes test xs = nat_le nodes (length xs) && list_all test xs
 
@@ -52,7 +52,7 @@ has_each_by P test shows nodes xs h =
 
 -- ---- numbers
 
--- of each pair the first is at most the second
+-- the first number of each pair is at most the second
 abbrev are_ordered : List (ℕ × ℕ) → Bool
 are_ordered pairs = list_all (λ p. nat_le p.0 p.1) pairs
 

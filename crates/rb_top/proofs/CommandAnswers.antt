@@ -168,7 +168,7 @@ group_reports accepted asked status held held' writes writes' is_plain told told
   one_of = one_of;
 }
 
--- where such a run wrote nothing it was not opened
+-- `OutOfMemory` is the only answer to a run that writes nothing
 pub is_memory : (status : Status) → IsOfRun status → WritesNothing status → status ≡ OutOfMemory
 is_memory Done one_of h = absurd h
 is_memory Breach one_of h = absurd h
@@ -179,7 +179,7 @@ is_memory ReadFault one_of h = absurd one_of
 is_memory WriteFault one_of h = absurd h
 is_memory OutOfMemory one_of h = refl
 
--- where nothing was asked of the drive
+-- `OutOfMemory` is the only answer to a run that asks nothing of the drive
 pub is_memory_only : (status : Status) → IsOfRun status → RunsNothing status → status ≡ OutOfMemory
 is_memory_only Done one_of h = absurd h
 is_memory_only Breach one_of h = absurd h
@@ -254,7 +254,7 @@ pub of_two : (status : Status) → (status ≡ Done) ⊎ (status ≡ WriteFault)
 of_two status (inl e) = let P : Status → Type 0 = λ s. IsOfText s in subst P (sym e) tt
 of_two status (inr e) = let P : Status → Type 0 = λ s. IsOfText s in subst P (sym e) tt
 
--- nothing else is answered
+-- neither `Done` nor `WriteFault` is the answer if nothing was written
 pub not_two : (status : Status) → (status ≡ Done) ⊎ (status ≡ WriteFault) → WritesNothing status → ⊥
 not_two status (inl e) h = let P : Status → Type 0 = λ s. WritesNothing s in subst P e h
 not_two status (inr e) h = let P : Status → Type 0 = λ s. WritesNothing s in subst P e h

@@ -50,7 +50,7 @@ not_refused input scenario rule.OutOfMemory accepted coded refused =
 breaks_none : (input line : List ℕ) (sc : Scenario) → IsTextOf input sc → ¬ BreaksRule input line
 breaks_none input line sc text breaks = not_refused input text.accepted breaks.rule text.is breaks.coded breaks.broken
 
--- the text of one scenario
+-- a text is that of at most one scenario
 same_scenario : (input : List ℕ) (a b : Scenario) → IsTextOf input a → IsTextOf input b → a ≡ b
 same_scenario input a b is_a is_b = sym is_a.shows ∙ accepted_alike input is_a.accepted is_b.accepted is_a.is is_b.is ∙ is_b.shows
 
@@ -196,14 +196,14 @@ never_faulty (Some limit) left left' reads reads' writes writes' input fine unre
 
 -- Completeness.
 
--- where the command has ended
+-- if the command has ended, `is_end` holds for its input and status
 has_ended : (command : Command) → IsSound command → (status : Status) (left left' held held' : Option (List ℕ)) (is_plain : Bool) (told told' : Option (List Turn)) (input : List ℕ)
     → IsLeft command.limit left input → CommandEnds command status left left' held held' is_plain told told' → command.is_end input status
 has_ended command s status left left' held held' is_plain told told' input is e =
     let P : List ℕ → Type 0 = λ xs. command.is_end xs status in
     subst P (read_is_left command.limit left left' input e.input is e.read) (s.ends_so e.input is_plain told told' status e.text e.due)
 
--- where it is refused
+-- if the command has refused the input, `is_refused` holds for the input and the line
 has_refused : (command : Command) (left left' held held' : Option (List ℕ)) (input : List ℕ) → IsLeft command.limit left input → (r : CommandRefuses command left left' held held')
     → command.is_refused input r.line
 has_refused command left left' held held' input is r =

@@ -22,7 +22,7 @@ rest_past [] (suc n) is = refl
 rest_past (first ∷ lines) zero is = cc
 rest_past (first ∷ lines) (suc n) is = rest_past lines n is
 
--- of a text of lines those from number n on are owed: the next line is written
+-- if line `n` is written, the lines from n + 1 on are owed
 pub owes_line : (old mid new : Option (List ℕ)) (lines : List (List ℕ)) (n : ℕ) (line : List ℕ) → slice_get lines n ≡ Some line
     → Owes old mid (flat_map (λ x. x) lines) (rest_of lines n) → Appends mid new line → Owes old new (flat_map (λ x. x) lines) (rest_of lines (n + 1))
 owes_line old mid new lines n line is owes written =
@@ -30,14 +30,14 @@ owes_line old mid new lines n line is owes written =
     owes_less old mid new (flat_map (λ x. x) lines) line (rest_of lines (n + 1))
     (owes_same old mid (flat_map (λ x. x) lines) (rest_of lines n) (line ++ rest_of lines (n + 1)) (rest_next lines n line is ∙ ap (λ k. line ++ rest_of lines k) next) owes) written
 
--- it is written in part
+-- if line `n` is written in part, the whole text is written in part
 pub part_of_line : (old mid new : Option (List ℕ)) (lines : List (List ℕ)) (n : ℕ) (line : List ℕ) → slice_get lines n ≡ Some line
     → Owes old mid (flat_map (λ x. x) lines) (rest_of lines n) → AppendsPart mid new line → AppendsPart old new (flat_map (λ x. x) lines)
 part_of_line old mid new lines n line is owes written =
     owes_part old mid new (flat_map (λ x. x) lines) line (rest_of lines (suc n))
     (owes_same old mid (flat_map (λ x. x) lines) (rest_of lines n) (line ++ rest_of lines (suc n)) (rest_next lines n line is) owes) written
 
--- there is none, and all is written
+-- if there is no line `n`, all is written
 pub owes_no_line : (old now : Option (List ℕ)) (lines : List (List ℕ)) (n : ℕ) → slice_get lines n ≡ None
     → Owes old now (flat_map (λ x. x) lines) (rest_of lines n) → Appends old now (flat_map (λ x. x) lines)
 owes_no_line old now lines n past owes =

@@ -51,7 +51,7 @@ pub summed_in_part : (seed frames : ℕ) (sc : Scenario) (ended : Ending) (is_pl
 summed_in_part seed frames sc ended is_plain told told' totals held held' is t written =
     record { text = summary_of totals; due = due seed frames sc ended is_plain told told' totals is t; written = written }
 
--- with a breach nothing is due
+-- after a breach no numbers are due
 pub not_summed : (seed frames : ℕ) (sc : Scenario) (ended : Ending) (is_plain : Bool) (told told' : Option (List Turn)) (totals : Totals) (held : Option (List ℕ))
     → ended ≡ ending.Breach → IsToldOf seed frames sc ended is_plain told told' totals → IsSummed seed frames Breach is_plain told told' held held
 not_summed seed frames sc ended is_plain told told' totals held is t =

@@ -6,7 +6,7 @@ use Rattle.std.specs.Io.KnownBytes.{Appends}
 use Rattle.rb_outside.specs.Bytes.{AppendsPart}
 use Rattle.rb_outside.proofs.Known.{appends_none, appends_join, part_join, part_widens}
 
--- of the whole text, all but the rest is written
+-- all of the whole text but the rest is written
 pub record Owes (old now : Option (List ℕ)) (whole rest : List ℕ) : Type 0 where
   pub written : List ℕ
   pub appended : Appends old now written
@@ -20,7 +20,7 @@ owes_all old whole = record { written = []; appended = appends_none old; complet
 pub owes_same : (old now : Option (List ℕ)) (whole rest other : List ℕ) → rest ≡ other → Owes old now whole rest → Owes old now whole other
 owes_same old now whole rest other e o = let P : List ℕ → Type 0 = λ xs. Owes old now whole xs in subst P e o
 
--- one more piece is written
+-- if one more piece is written, only what follows it is owed
 pub owes_less : (old mid new : Option (List ℕ)) (whole piece rest : List ℕ) → Owes old mid whole (piece ++ rest) → Appends mid new piece → Owes old new whole rest
 owes_less old mid new whole piece rest o p = record {
   written = o.written ++ piece;
@@ -38,7 +38,7 @@ owes_part old mid new whole piece rest o p =
 pub owes_last : (old mid new : Option (List ℕ)) (whole rest : List ℕ) → Owes old mid whole rest → Appends mid new rest → Appends old new whole
 owes_last old mid new whole rest o p = rw (← o.completes) (appends_join old mid new o.written rest o.appended p)
 
--- nothing is owed any more
+-- if nothing is owed any more, the whole text is written
 pub owes_none : (old new : Option (List ℕ)) (whole : List ℕ) → Owes old new whole [] → Appends old new whole
 owes_none old new whole o = owes_last old new new whole [] o (appends_none new)
 
@@ -54,7 +54,7 @@ pieces_next piece i n h =
 pieces_done : (piece : ℕ → List ℕ) (i n : ℕ) → n ≤ i → pieces piece i n ≡ []
 pieces_done piece i n h = let e : n - i ≡ 0 = omega arith in ap (λ k. flat_map piece (range_with_len i k)) e
 
--- before piece i a text ends in the pieces from i on and a tail
+-- before piece `i` that piece, the pieces after it and the tail are owed
 piece_owed : (old now : Option (List ℕ)) (whole tail : List ℕ) (piece : ℕ → List ℕ) (i n : ℕ) → i < n
     → Owes old now whole (pieces piece i n ++ tail) → Owes old now whole (piece i ++ (pieces piece (i + 1) n ++ tail))
 piece_owed old now whole tail piece i n h o =
@@ -75,13 +75,13 @@ pub owes_tail : (old now : Option (List ℕ)) (whole tail : List ℕ) (piece : �
     → Owes old now whole (pieces piece i n ++ tail) → Owes old now whole tail
 owes_tail old now whole tail piece i n h o = owes_same old now whole _ _ (ap (λ rest. rest ++ tail) (pieces_done piece i n h)) o
 
--- where the write of the tail failed, the tail is written in part
+-- if the write of the tail failed, the whole text is written in part
 pub part_of_tail : {T E : Type 0} (r : Result T E) (old mid new : Option (List ℕ)) (whole tail : List ℕ) → Owes old mid whole tail
     → OnErr r (AppendsPart mid new tail) → OnErr r (AppendsPart old new whole)
 part_of_tail (Ok x) old mid new whole tail o p = tt
 part_of_tail (Err e) old mid new whole tail o p = owes_part old mid new whole tail [] (owes_same old mid whole _ _ (sym (append-nil tail)) o) p
 
--- before the first write of a text of pieces alone
+-- before the first write of a text of pieces alone all pieces are owed
 pub owes_pieces_alone : (old : Option (List ℕ)) (piece : ℕ → List ℕ) (n : ℕ) → Owes old old (flat_map piece (range_with_len 0 n)) (pieces piece 0 n ++ [])
 owes_pieces_alone old piece n =
     let e : n - 0 ≡ n = omega arith in

@@ -175,7 +175,7 @@ in-time sc kept w d me i x r = by (next_tick sc.sizes sc.plan me i r.s.core) ref
 
 -- What it leaves.
 
--- the node after it
+-- after an arrival the node that is kept is the node of the world
 arrived-node : (sc : Scenario) (kept : Each KeptSite) (w : World) (d : Due) (me : Side) (i : ℕ) (x : Coming) (new : KeptSite) → (r : ArrivalReady sc kept w d me i x)
     → number_of_kept new ≡ i → StandsFor sc me new (after_arrival sc me i r.place x r.s) → IsNode sc me i new (after_arrival sc me i r.place x r.s)
 unfolding after_arrival

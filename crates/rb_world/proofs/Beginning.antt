@@ -126,7 +126,7 @@ one-more sc me n kept new k scene after w is set goes =
       | inr ge ↦ absurd (ne (omega (arith, below, ge)))
     ]
 
--- before the first
+-- before the first node none has begun
 pub none-yet : (sc : Scenario) (me : Side) (kept : List KeptSite) (scene : Scene) (w : World) → AreFresh sc me kept → MayBegin sc me scene w → HaveBegun sc me 0 kept scene w
 unfolding with_begun
 none-yet sc me kept scene w fresh may = record {

@@ -66,7 +66,7 @@ pub goes-on : (sc : Scenario) (kept : Each KeptSite) (scene : Scene) (until : Si
 goes-on sc kept scene until w v me i a h =
     worlds-go-on sc h.trails.lawful h.trails.reached.choices until v (is-ahead sc kept scene until w v h.trails) h.event me i a h.first (h.trails.later me i a h.first)
 
--- the node of each site
+-- the node has a site that is kept
 pub record NodeOf (sc : Scenario) (kept : Each KeptSite) (me : Side) (i : ℕ) (s : Site) : Type 0 where
   pub within : i < count_of me sc.sizes
   pub inside : i < length (of_kind me kept)
@@ -286,7 +286,7 @@ takes-first sc kept scene after until w v me i a time own site new lanes m sweep
 
 -- Which tick it is.
 
--- an index below n for BIUs, and any index for RMUs
+-- a BIU's index is below `n`, and an RMU's may be any
 abbrev count_in : Side → ℕ → ℕ → Type 0
 count_in Biu n i = i < n
 count_in Rmu n i = ⊤

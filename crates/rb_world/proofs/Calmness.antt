@@ -89,7 +89,7 @@ out-of first last frame g outside is =
           inr (elim is [ inl e ↦ omega (arith, e, lt) | inr e ↦ omega (arith, e, lt) ])
     ]
 
--- there the node is good
+-- a node is good in a frame outside its restless ones
 good-out : (o : Option (ℕ × ℕ)) (first last g slot : ℕ) → g < 4294967297 → IsOut (first_restless o first) (last_restless o last) g → is_before o g slot ≡ true
 good-out None first last g slot small out = refl
 good-out (Some onset) first last g slot small out =

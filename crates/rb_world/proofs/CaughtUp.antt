@@ -95,7 +95,7 @@ first-other sc until me (suc n) i sites =
     ∙ ap (λ (b : Bool). option_map (λ s. elim b as (λ _. Site) [ true ↦ swept sc me n (until me n) s | false ↦ s ]) (slice_get (of_kind (other me) (swept_first sc until me n sites)) i)) (not-other me n i)
     ∙ kept-none (slice_get (of_kind (other me) (swept_first sc until me n sites)) i) ∙ first-other sc until me n i sites
 
--- all nodes of a kind
+-- the sweep of `n` nodes sweeps all nodes of their kind
 first-all : (sc : Scenario) (until : Side → ℕ → ℕ) (me : Side) (n : ℕ) (sites : Each Site) → length (of_kind me sites) ≡ n
     → of_kind me (swept_first sc until me n sites) ≡ of_kind me (each_swept sc until sites)
 first-all sc until me n sites many = same-lists (of_kind me (swept_first sc until me n sites)) (of_kind me (each_swept sc until sites)) at
@@ -115,7 +115,7 @@ first-far sc until me n sites = same-lists (of_kind (other me) (swept_first sc u
 each-same : (xs ys : Each Site) → xs.bius ≡ ys.bius → xs.rmus ≡ ys.rmus → xs ≡ ys
 each-same xs ys e f = ap (λ l. record xs { bius = l }) e ∙ ap (λ l. record ys { rmus = l }) f
 
--- both kinds, the BIUs first
+-- the sweep of the BIUs and then of the RMUs sweeps all nodes
 pub both-swept : (sc : Scenario) (until : Side → ℕ → ℕ) (n m : ℕ) (sites : Each Site) → length sites.bius ≡ n → length sites.rmus ≡ m
     → swept_first sc until Rmu m (swept_first sc until Biu n sites) ≡ each_swept sc until sites
 both-swept sc until n m sites bius rmus =
@@ -139,7 +139,7 @@ catch-begins sc until me kept lanes sites may = record {
   rooms = may.rooms;
 }
 
--- the next node
+-- node `n` is the next to be swept
 pub record NextOf (sc : Scenario) (until : Side → ℕ → ℕ) (me : Side) (n : ℕ) (kept : List KeptSite) (lanes : Each Held) (sites : Each Site) : Type 0 where
   pub within : n < count_of me sc.sizes
   pub site : KeptSite
@@ -174,7 +174,7 @@ next-of sc until me n first begun kept lanes sites may is inside =
       };
     }
 
--- its tick stays
+-- if its tick does not come before the time, a node is swept by its arrivals alone
 cleared-swept : (sc : Scenario) (me : Side) (i until : ℕ) (s : Site) → ((a : Timed) → s.ahead ≡ Some a → until ≤ a.time) → cleared sc me i until s ≡ swept sc me i until s
 cleared-swept sc me i until s late =
     let keeps = sweeps-keep sc me i until s in
@@ -218,7 +218,7 @@ catch-goes sc until me n first begun kept lanes new site sites may is next sweep
         lower : (i : ℕ) → i < n + 1 → (i ≡ n → ⊥) → i < n
         lower i below not = elim (cases_lt i n) [ inl lt ↦ lt | inr ge ↦ absurd (not (omega (arith, below, ge))) ]
 
--- when all of a kind have been swept
+-- when all nodes of a kind have been swept, the kept ones are those of the world
 pub catch-ends : (sc : Scenario) (until : Side → ℕ → ℕ) (me : Side) (n : ℕ) (kept : List KeptSite) (lanes : Each Held) (sites : Each Site) → n ≡ count_of me sc.sizes
     → HaveCaughtUp sc until me n kept lanes sites → AreNodes sc me kept (of_kind me (swept_first sc until me n sites))
 catch-ends sc until me n kept lanes sites all is = record {
@@ -320,7 +320,7 @@ may-all sc kept scene until w v me h = record {
   behind = h.behind me;
 }
 
--- the RMUs after the BIUs
+-- the RMUs may be swept after the BIUs
 pub may-others : (sc : Scenario) (kept : Each KeptSite) (scene : Scene) (until : Side → ℕ → ℕ) (w v : World) (n : ℕ) (bius : List KeptSite) (lanes : Each Held) → Trails sc kept scene until w v
     → HaveCaughtUp sc until Biu n bius lanes v.sites → MayCatchUp sc until Rmu kept.rmus lanes (swept_first sc until Biu n v.sites)
 may-others sc kept scene until w v n bius lanes h is =
@@ -358,7 +358,7 @@ all-caught sc kept scene until w v bius rmus between lanes h one two =
     nodes a b Biu = a
     nodes a b Rmu = b
 
--- where there was no tick
+-- if there was no tick, there is nothing to catch up with
 pub none-caught : (sc : Scenario) (kept : Each KeptSite) (scene : Scene) (w v : World) → Trails sc kept scene (λ side j. 0) w v → HasCaughtUp sc kept scene w
 none-caught sc kept scene w v h =
     let same : v ≡ w = sym (h.ahead ∙ nobody-is-ahead sc v) in

@@ -29,7 +29,8 @@ room-left place lane = by (slice_get (ready_of lane) place)
     by (Some (Comes n c)) = refl
     by (Some Ticks) = refl
 
--- it is due in the world, and what surrounds the nodes stands for the world without it
+-- an event that is due by what is kept is due in the world, and what surrounds the nodes stands for
+-- the world without it
 pub may-happen : (k : KeptWorld) (w : World) (i : ℕ) (name : NodeName) (event : Event) (lanes : Each Held) → Stands k w → i < due_in k → Takes k.scene.agenda i name event lanes
     → TakesDue k.bus w i (first_time k.scene.agenda) name event lanes
     → (d : Due) × MayHappen k.bus k.nodes (record k.scene { agenda = lanes }) (first_time k.scene.agenda) name event w i d

@@ -86,7 +86,7 @@ close-time sizes me index st slot stage first sense j stamp h e = by (slot == sy
     by true e = call-time sizes me st stage (st.epoch + first) sense j stamp h e
     by false e = absurd (below-none sizes me index st slot stage sense j stamp e)
 
--- of which one message came
+-- a sense with a stamp comes from a sole arrival
 sole-sense : (x : Expect) (arrivals : List Arrival) (stamp : ℕ) → stamp_in (sense_of x arrivals) ≡ Some stamp → (a : Arrival) × (arrivals ≡ a ∷ [])
 sole-sense x [] stamp e = absurd (cc)
 sole-sense x (a ∷ []) stamp e = (a, refl)

@@ -55,8 +55,7 @@ sole-got inbox got j together a e =
 
 -- The times kept.
 
--- where times are shown only of sources of which one message came, those kept are those of what was
--- got
+-- if times are shown only for sources with one message, the kept times are those of what was got
 see-same : (times : List ℕ) (got : List Coming) (j : ℕ) (see : See)
     → ((stamp : ℕ) → see ≡ Time stamp → (c : Coming) × ((coming_from got j ≡ c ∷ []) × (slice_index times j ≡ c.time)))
     → judged_see (sole_time (coming_from got j)) see ≡ judged_see (slice_index times j) see

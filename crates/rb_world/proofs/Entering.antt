@@ -33,7 +33,7 @@ use Rattle.rb_world.proofs.Lanes.{kind-named, rooms-with}
 use Rattle.rb_world.proofs.Calmness.{calm-awaits}
 use Rattle.rb_world.proofs.Onward.{goes-in, goes-on, goes-out, others-stay, proceeds-on, proceeds-out}
 
--- the lanes of the other kind, the node being named
+-- a new lane of a named node leaves the lanes of the other kind as they are
 pub others-named : (name : NodeName) (lane : Held) (lanes : Each Held) → of_kind (other (kind_of name)) (with_lane name lane lanes) ≡ of_kind (other (kind_of name)) lanes
 others-named name lane lanes = subst (λ n. of_kind (other (kind_of name)) (with_lane n lane lanes) ≡ of_kind (other (kind_of name)) lanes) (name-is name) (others-stay (kind_of name) (number_of name) lane lanes)
 
@@ -56,7 +56,7 @@ changed-there me i change w s there =
     get-at me me i i change w.sites ∙ ap (option_map (λ z. elim (is_node me i me i) as (λ _. Site) [ true ↦ change z | false ↦ z ])) there
     ∙ ap (λ b. Some (elim b as (λ _. Site) [ true ↦ change s | false ↦ s ])) (node-itself me i)
 
--- its core, where the node's name is this
+-- `IsCoreAt` holds for the core of a node by its name
 pub core-at : (sc : Scenario) (me : Side) (i : ℕ) (site : KeptSite) (scene : Scene) (w : World) (s : Site) → IsAt sc me i site scene w s → IsCoreAt sc me (name_of me i) site s.core w
 core-at sc me i site scene w s at = record {
   number = at.number ∙ sym (number-of me i);
@@ -88,7 +88,7 @@ core-then sc me i site scene w s span at = record {
         (sym (changed-there me i (λ z. record z { coming = z.coming ++ says_in sc me i span }) w s at.there)
         ∙ subst (λ n. slice_get (of_kind me (moved me i (λ z. record z { coming = z.coming ++ says_in sc me i span }) w).sites) n ≡ Some z) (number-of me i) e)
 
--- as the world has it, the node's name being this
+-- a change of a node by its name is the one by its kind and number
 pub named-moved : (me : Side) (i : ℕ) (change : Site → Site) (w : World) → moved (kind_of (name_of me i)) (number_of (name_of me i)) change w ≡ moved me i change w
 named-moved Biu i change w = refl
 named-moved Rmu i change w = refl
@@ -103,7 +103,7 @@ pub await-named : (sc : Scenario) (me : Side) (i : ℕ) (w : World)
 await-named sc Biu i w = refl
 await-named sc Rmu i w = refl
 
--- there is room for the next tick then
+-- after the entries of the span the lane has room for the next tick
 pub spare-said : (sc : Scenario) (lanes after : Each Held) (name : NodeName) (span : Span) → HasLane lanes name
     → after ≡ with_lane name (with_arrivals (says_in sc (kind_of name) (number_of name) span) (lane_of lanes name)) lanes
     → length sc.says + 1 ≤ spare_of (lane_of lanes name) → 1 ≤ spare_of (lane_of after name)

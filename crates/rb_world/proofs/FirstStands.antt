@@ -198,7 +198,7 @@ all-begun sc me w fresh = same-lists (of_kind me (with_begun sc me (count_of me 
           ∙ sym (slice_get_past (of_kind me (each_of sc.sizes (λ me i. proceed sc me i (fresh_site sc.sizes me)))) i (omega (arith, ge, all)))
     ]
 
--- the BIUs first, and then the RMUs
+-- the BIUs begin first, and then the RMUs
 pub both-begun : (sc : Scenario) → with_begun sc Rmu sc.sizes.rmus (with_begun sc Biu sc.sizes.bius (before_all sc)) ≡ first_world sc
 both-begun sc =
     let one : World = with_begun sc Biu sc.sizes.bius (before_all sc) in

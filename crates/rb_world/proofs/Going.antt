@@ -51,7 +51,7 @@ not-itself : (me : Side) (i n : ℕ) → is_node me i me n ≡ false → (n == i
 not-itself Biu i n h = h
 not-itself Rmu i n h = h
 
--- of its own kind
+-- if a node stops, the running nodes of its kind are the others
 running-without : (running : ℕ) (sites : Each Site) (me : Side) (i : ℕ) → length (of_kind me sites) ≤ 16 → AreRunning me running sites
     → AreRunning me (without running i) (at_node me i stop sites)
 running-without running sites me i few runs n z e =
@@ -71,7 +71,7 @@ running-without running sites me i few runs n z e =
         let kept : s ≡ z = sym (ap (λ b. elim b as (λ _. Site) [ true ↦ stop s | false ↦ s ]) h) ∙ is in
         ap (λ b. not b && has running n) apart ∙ runs n s there ∙ ap (λ (s : Site). s.runs) kept
 
--- of the other kind
+-- if a node stops, the running nodes of the other kind stay the same
 running-other : (side me : Side) (running : ℕ) (sites : Each Site) (i : ℕ) → ((n : ℕ) → is_node me i side n ≡ false) → AreRunning side running sites
     → AreRunning side running (at_node me i stop sites)
 running-other side me running sites i apart runs n z e =
@@ -79,7 +79,7 @@ running-other side me running sites i apart runs n z e =
     let kept : was.site ≡ z = sym (ap (λ b. elim b as (λ _. Site) [ true ↦ stop was.site | false ↦ was.site ]) (apart n)) ∙ was.is in
     runs n was.site was.there ∙ ap (λ (s : Site). s.runs) kept
 
--- the scene afterwards
+-- `after` is the scene after node `i` has stopped
 pub record Stops (me : Side) (i : ℕ) (before after : Scene) : Type 0 where
   pub lanes : after.agenda ≡ with_lane (name_of me i) (without_events (lane_of before.agenda (name_of me i))) before.agenda
   pub book : after.book ≡ before.book
@@ -141,7 +141,7 @@ stop-around sc before after w me i there stops is =
 
 -- What is pending at the node changes.
 
--- the scene afterwards, the node's lane being this
+-- `after` is the scene with the new lane of node `i`
 pub record Lanes (me : Side) (i : ℕ) (new : Held) (before after : Scene) : Type 0 where
   pub lanes : after.agenda ≡ with_lane (name_of me i) new before.agenda
   pub room : new.room ≡ (lane_of before.agenda (name_of me i)).room

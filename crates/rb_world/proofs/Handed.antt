@@ -121,7 +121,7 @@ good-within sc biu frame slot good = by (nat_lt biu sc.sizes.bius) refl (is_befo
     by true e c both = ltb-true biu sc.sizes.bius e
     by false e c both = absurd (cc)
 
--- what surrounds the nodes then
+-- the book that is kept still holds after a hand-in
 book-holds : (sc : Scenario) (l : KeptBook) (w : World) (biu state frame : ℕ) → Holds sc l w → Holds sc l (with_hand w biu state frame)
 book-holds sc l w biu state frame is = record {
   fits = is.fits;

@@ -90,7 +90,7 @@ sent-nodes sc me j frame k (Some m) side kept sites are = record {
       subst (IsNode sc side n a) found.2 (sent-node sc me j frame (record { tick = k; message = m }) side n a found.0 (are.each n a found.0 ea found.1));
 }
 
--- one node of its kind has changed
+-- the kept nodes of a kind are those of the world after one of them has changed
 pub nodes-own : (sc : Scenario) (me : Side) (i : ℕ) (change : Site → Site) (kept : List KeptSite) (sites : Each Site) (new : KeptSite) (s : Site) → slice_get (of_kind me sites) i ≡ Some s
     → IsNode sc me i new (change s) → AreNodes sc me kept (of_kind me sites) → AreNodes sc me (slice_set kept i new) (of_kind me (at_node me i change sites))
 nodes-own sc me i change kept sites new s there is are = record {

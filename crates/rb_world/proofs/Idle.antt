@@ -23,7 +23,7 @@ free-idle k w is e = ap (λ b. w.book.ended || b) e ∙ or-true w.book.ended
 pub busy : (k : KeptWorld) (w : World) → w.book.ended ≡ false → needs_no_event k.bus w.book.upcoming ≡ false → (w.book.ended || needs_no_event k.bus w.book.upcoming) ≡ false
 busy k w e f = ap (λ b. b || needs_no_event k.bus w.book.upcoming) e ∙ f
 
--- nothing is due
+-- if the run has ended or its next record needs no event, nothing is due
 pub none-due : (k : KeptWorld) (w : World) → Stands k w → (w.book.ended || needs_no_event k.bus w.book.upcoming) ≡ true → due_in k ≡ 0
 none-due k w is e = ap (λ b. elim b as (λ _. ℕ) [ true ↦ 0 | false ↦ how_many k.scene.agenda ]) (sym (idle-is k w is) ∙ e)
 
@@ -48,7 +48,7 @@ no-more {n} {b} none some =
       | inr zero_at ↦ omega (arith, zero_at)
     ]
 
--- where something is due by what is kept, the world is not idle
+-- if an event is due by what is kept, the world is not idle
 pub due-busy : (k : KeptWorld) (w : World) (i : ℕ) → Stands k w → i < due_in k → (w.book.ended || needs_no_event k.bus w.book.upcoming) ≡ false
 due-busy k w i is lt = by (w.book.ended || needs_no_event k.bus w.book.upcoming) refl
   where

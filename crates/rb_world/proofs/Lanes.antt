@@ -107,7 +107,7 @@ pub lane-holds : (sizes : Sizes) (lanes : Each Held) (sites : Each Site) (me : S
 lane-holds sizes lanes sites Biu i s h e = lane-held sizes Biu lanes.bius sites.bius i s h.bius e
 lane-holds sizes lanes sites Rmu i s h e = lane-held sizes Rmu lanes.rmus sites.rmus i s h.rmus e
 
--- there is room for what may come at once, where at most so much is pending
+-- if at most so much is pending as may be, the lane has room for what may come at once
 pub spare-at : (sc : Scenario) (lanes : Each Held) (sites : Each Site) (me : Side) (i : ℕ) (s : Site) → HaveRooms sc lanes → HasLane lanes (name_of me i) → HoldsSites sc.sizes lanes sites
     → slice_get (of_kind me sites) i ≡ Some s → length (times_of s) ≤ most_pending sc me → length sc.says + 1 ≤ spare_of (lane_of lanes (name_of me i))
 spare-at sc lanes sites me i s rooms there holds at few =

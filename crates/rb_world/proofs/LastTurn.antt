@@ -104,7 +104,7 @@ go-on-ends sc w well = by w.book.ended refl
     by true e = well
     by false e = settle-ends sc ByItself 2 w e
 
--- where something is due, the run has not ended
+-- if something is due, the run has not ended
 due-going : (sc : Scenario) (w : World) (i : ℕ) (d : Due) → slice_get (due_of sc w) i ≡ Some d → w.book.ended ≡ false
 unfolding due_of
 due-going sc w i d = by w.book.ended (needs_no_event sc w.book.upcoming)

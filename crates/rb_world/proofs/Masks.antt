@@ -32,7 +32,7 @@ pub record-given : (mask : Bool) (t : Turn) → is_some (record_of (given_for ma
 record-given true t = record-masked t
 record-given false t = refl
 
--- without a mask it is the turn itself
+-- without a mask the turn itself is given
 pub given-plain : (mask : Bool) (t : Turn) → IsTrue (not mask) → given_for mask t ≡ t
 given-plain true t plain = absurd (cc)
 given-plain false t plain = refl

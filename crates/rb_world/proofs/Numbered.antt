@@ -33,7 +33,7 @@ use Rattle.rb_world.proofs.Turns.{reached-more}
 
 -- One call.
 
--- where no record or the next one is given, and what was handed in stays
+-- if no record or the next one is given and the hand-ins stay, the step is one in the rounds
 turn-in-rounds : (sc : Scenario) (before after : World) → IsLawful sc → IsReached sc after → after.hands ≡ before.hands → IsNextTurn sc before after
     → TakesInRounds sc before after after.turn
 turn-in-rounds sc before after lawful reached hands turn = record {
@@ -118,7 +118,7 @@ steps-wait sc ties (suc n) s lawful reached going quiet =
       hands = goes.rounds.hands ∙ waits.hands;
     }
 
--- once the run has ended, no step changes anything
+-- once the run has ended nothing is due
 pub none-due : (sc : Scenario) (w : World) → w.book.ended ≡ true → length (due_of sc w) ≡ 0
 unfolding due_of
 none-due sc w e = ap (λ b. length (elim (b || needs_no_event sc w.book.upcoming) as (λ _. List Due) [ true ↦ [] | false ↦ due_at sc w (least (flat_map times_of (in_order w.sites))) ])) e
@@ -142,7 +142,7 @@ some-of : (o : Option Record) → is_some o ≡ true → (r : Record) × (o ≡ 
 some-of None e = absurd (cc)
 some-of (Some r) e = (r, refl)
 
--- until the run has ended
+-- until the run has ended it gives the records of the rounds
 going-on : (sc : Scenario) (ties : Ties) (before after : Standing) (r : Record) → IsLawful sc → IsReached sc before.world → IsNext sc ties before after → after.world.turn ≡ Some r
     → before.world.book.ended ≡ false → IsReached sc after.world × (GivesInRounds sc before.world after.world r)
 unfolding after_steps

@@ -25,7 +25,7 @@ pub told-as : (S : Type 0) (step : S → Told → S → Type 0) (a b : S) (sc : 
 told-as S step a b sc states me i frame s p e did frame_is event_is =
     subst (λ f. step a (record { frame = f; event = event_of sc states me i s.core p }) b) frame_is (subst (λ e. step a (record { frame = frame; event = e }) b) event_is did)
 
--- the arrival at a place of a lane
+-- the arrival that comes is the one at its place of the lane
 pub arrival-there : (sc : Scenario) (me : Side) (i place : ℕ) (name : NodeName) (site : KeptSite) (lanes : Each Held) (c x : Coming) → CanHear sc me i name place site lanes c
     → slice_get (lane_of lanes name).arrivals place ≡ Some x → c ≡ x
 arrival-there sc me i place name site lanes c x can there = same_Some c x (sym can.stands ∙ there)

@@ -30,7 +30,6 @@ pub record ComesFirst (me : Side) (i until : ℕ) (lanes : Each Held) (name : No
 some-coming : (c d : Coming) → Some c ≡ Some d → c ≡ d
 some-coming c d e = cc
 
--- from its parts
 pub coming-is : (x : Coming) (time from : ℕ) (bytes : List ℕ) → time ≡ x.time → from ≡ x.from → bytes ≡ x.bytes → ◌≡◌ {A = Coming} (record { time = time; from = from; bytes = bytes }) x
 coming-is x time from bytes t f b =
     ap (λ (n : ℕ). let c : Coming = record { time = n; from = from; bytes = bytes } in c) t
@@ -45,7 +44,7 @@ tick-is lane until most before = by lane.tick refl
     by None e = absurd (let last : tick_time_of lane ≡ 18446744073709551615 = ap (λ o. unwrap_or o 18446744073709551615) e in omega (arith, last, most, before))
     by (Some t) e = e ∙ ap (λ n. Some n) (sym (ap (λ o. unwrap_or o 18446744073709551615) e))
 
--- it stands at this place of the node's lane
+-- the first arrival of a node's lane comes first at the node
 pub comes-first : (me : Side) (i until : ℕ) (lanes : Each Held) (name : NodeName) (place : ℕ) (c : Coming) → name ≡ name_of me i → HasLane lanes name → until ≤ 18446744073709551615
     → IsReadyBefore until (lane_of lanes name) place → slice_get (lane_of lanes name).arrivals place ≡ Some c
     → ComesFirst me i until lanes name c.time (event_with name (Comes place c))
@@ -91,7 +90,7 @@ pub tick-dropped : (lanes new : Each Held) (name : NodeName) (time : ℕ) → Is
 tick-dropped lanes new name time is after =
     after ∙ ap (λ rs. with_lane name (without_found (slice_get rs 0) (lane_of lanes name)) lanes) (sym is.ready)
 
--- nothing comes before where no arrival does, and the tick comes no sooner
+-- if no arrival comes before the time and the tick is no sooner, nothing in the lane is sooner
 pub none-first : (lane : Held) (until : ℕ) → until ≤ 18446744073709551615 → IsFirstBefore until lane None → until ≤ tick_time_of lane → until ≤ key_of lane
 none-first lane until most later late = by (head_of lane) refl
   where

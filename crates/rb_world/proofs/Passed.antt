@@ -45,7 +45,7 @@ passed-tick sc me i k stamp c e le = elim (cases_lt (2 ^ 31) c.had) [
       (passed-next sc.sizes sc.plan me i c.state c.had k (pass_to stamp c).had next lo hi)
 ]
 
--- where the search finds none it finds none later
+-- if the search finds no busy tick, it finds none from a later tick on
 none-later : (sizes : Sizes) (plan : Plan) (me : Side) (i : ℕ) (st : NodeState) (n all others had m : ℕ) → all ≡ n + others → m ≡ had + n
     → busy_among sizes plan me i st all had ≡ None → busy_among sizes plan me i st others m ≡ None
 none-later sizes plan me i st zero all others had m many at e =

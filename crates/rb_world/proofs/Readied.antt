@@ -85,7 +85,7 @@ got-known sc me i until s =
 abbrev stamps_of : Scenario → Side → Timed → Site → ℕ → ℕ
 stamps_of sc me a s = stamps_in (taken_all sc me (due_before (a.time + 1) s.coming) s).core
 
--- the core with those
+-- the swept core with its arrivals stamped anew
 abbrev pub kept_core : Scenario → Side → ℕ → Timed → Site → Core
 kept_core sc me i a s = stamped_anew s.core.had (stamps_of sc me a s) (swept sc me i (a.time + 1) s).core
 
@@ -181,7 +181,7 @@ readied sc kept scene until w v me i a before site lanes h there up ends =
 
 -- What is taken in at the node.
 
--- its tick, if it ends such a window, ends one in the scenario
+-- if the node's tick ends an exact window by what is kept, it ends one in the scenario
 ends-there : (sc : Scenario) (me : Side) (i : ℕ) (a : Timed) (site : KeptSite) (s : Site) → IsNode sc me i site s → s.ahead ≡ Some a → EndsExactly me site.node
     → EndsExactWindow sc.sizes sc.plan me s.core.state a.tick
 ends-there sc me i a site s node pends ends =
@@ -201,7 +201,7 @@ node-at sc kept scene until w v me i a time own site m =
     let same : n.site ≡ site = same_Some n.site site (sym n.there ∙ ap (λ ks. slice_get ks i) m.first.own_is ∙ m.there) in
     (n.within, subst (λ (k : KeptSite). IsNode sc me i k m.first.at.first.node) same n.node)
 
--- its lane, in which all senders are nodes of the bus
+-- all senders in the lane of the node are nodes of the bus
 pub lane-known : (sc : Scenario) (kept : Each KeptSite) (scene : Scene) (until : Side → ℕ → ℕ) (w v : World) (me : Side) (i : ℕ) (a : Timed) (time : ℕ) (own : List KeptSite) (site : KeptSite) (name : NodeName)
     → MayTakeExactly sc kept scene until w v me i a time own site → name ≡ name_of me i
     → HasLane scene.agenda name × All (λ (c : Coming). c.from < count_of (other me) site.node.seat.sizes) (lane_of scene.agenda name).arrivals
@@ -245,7 +245,7 @@ readied-now sc kept scene until w v me i a time own before site name lanes m nam
     (taken-up sc kept scene until w v me i a time own before site name lanes m named takes)
     (ends-there sc me i a before m.first.at.first.node node.1 m.first.at.first.pends m.ends)
 
--- it may take the tick
+-- the node may take its tick
 pub may-tick-now : (sc : Scenario) (kept : Each KeptSite) (scene : Scene) (until : Side → ℕ → ℕ) (w v : World) (me : Side) (i : ℕ) (a : Timed) (time : ℕ) (own : List KeptSite) (before site : KeptSite) (name : NodeName)
     (lanes : Each Held) → (m : MayTakeExactly sc kept scene until w v me i a time own before) → name ≡ name_of me i → TakesIn me scene.agenda name (time + 1) before site lanes
     → MayTick sc me (number_of site) a.tick site (record scene { agenda = lanes }) (moved me i (bare_with sc me i a (kept_core sc me i a m.first.at.first.node)) v)

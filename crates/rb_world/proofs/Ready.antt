@@ -66,7 +66,7 @@ pub due-reached : (sc : Scenario) (w : World) (place : ℕ) (d : Due) → IsReac
 due-reached sc w place d reached found =
     due-is sc w place d (record { known = subst (λ (v : World). (me : Side) (i : ℕ) (s : Site) → slice_get (of_kind me v.sites) i ≡ Some s → Every (λ c. c.from < count_of (other me) sc.sizes) s.coming) (sym reached.is) (worlds-known sc reached.choices).known }) found
 
--- its node runs, and the tick is the next that is not quiet
+-- the node of a pending tick runs, and the tick is its next busy one
 pub next-due : (sc : Scenario) (me : Side) (i k : ℕ) (s : Site) (a : Timed) → Awaits sc me i s → s.ahead ≡ Some a → a.tick ≡ k → (s.runs ≡ true) × (next_tick sc.sizes sc.plan me i s.core ≡ Some k)
 next-due sc me i k s a awaits ahead tick = by s.runs refl
   where

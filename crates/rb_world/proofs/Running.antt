@@ -91,7 +91,7 @@ rmu-may sc kept scene until w v me i a name time j h here e =
     subst (λ k. BehindTick sc kept scene until w v k j a) its.0 (subst (λ n. BehindTick sc kept scene until w v me n a) its.1 h) in
     ((node-of sc kept scene until w v behind.trails Rmu j behind.first.node behind.first.there).inside, record { at = behind; own_is = refl; time_is = here.at })
 
--- it may as well with lanes that are the same
+-- `MayTakeFirst` holds for lanes that are the same, too
 pub may-same : {sc : Scenario} {kept : Each KeptSite} {until : Side → ℕ → ℕ} {w v : World} {me : Side} {i time : ℕ} {a : Timed} {own : List KeptSite}
     (scene : Scene) (agenda : Each Held) → agenda ≡ scene.agenda → MayTakeFirst sc kept scene until w v me i a time own
     → MayTakeFirst sc kept (record scene { agenda = agenda }) until w v me i a time own

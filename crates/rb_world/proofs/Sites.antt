@@ -87,7 +87,7 @@ pub from-map : {X Y : Type 0} (f : X → Y) (o : Option X) (y : Y) → option_ma
 from-map f None y e = absurd (cc)
 from-map f (Some x) y e = (x, refl, let same : f x ≡ y = cc in same)
 
--- it was one before, which changed if it is the node's
+-- the site was there before, and it has changed if it is that of node `i`
 pub record WasThere (me : Side) (i : ℕ) (change : Site → Site) (sites : Each Site) (side : Side) (n : ℕ) (z : Site) : Type 0 where
   pub site : Site
   pub there : slice_get (of_kind side sites) n ≡ Some site

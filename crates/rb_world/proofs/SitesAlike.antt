@@ -75,7 +75,7 @@ takes-on me before after inbox times e = record {
   passing = ap (λ (k : KeptSite). passing_end me k.node) e;
 }
 
--- the site after it
+-- the site after the arrival is in the same state and has the same next tick
 pub record GoesOn (sc : Scenario) (me : Side) (i : ℕ) (before after : Site) : Type 0 where
   pub state : after.core.state ≡ before.core.state
   pub had : after.core.had ≡ before.core.had

@@ -39,7 +39,7 @@ every-later : (t until : ℕ) (us : List ℕ) → until ≤ t → Every (λ u. t
 every-later t until [] le all = tt
 every-later t until (u ∷ us) le all = let here = all.0 in (omega (arith, le, here), every-later t until us le all.1)
 
--- where the lane's least time is no earlier nothing is pending before
+-- if the least time of the lane is not before `until`, nothing is pending before `until`
 pub none-before : (sizes : Sizes) (me : Side) (lane : Held) (s : Site) (until : ℕ) → HoldsSite sizes me lane s → until ≤ key_of lane → NoneBefore until s
 none-before sizes me lane s until holds le = by (least (times_of s)) refl
   where
@@ -51,7 +51,7 @@ none-before sizes me lane s until holds le = by (least (times_of s)) refl
 
 -- The first.
 
--- it is the first arrival
+-- the next event is the first arrival
 pub record ArrivalNext (sizes : Sizes) (me : Side) (lane : Held) (s : Site) (time : ℕ) (k : EventKind) : Type 0 where
   pub first : Placed
   pub is : first_of s.coming ≡ Some first

@@ -60,7 +60,7 @@ takes sc me k node c s is all same there core = record {
   times = times-more k.times s.got c all is.times;
 }
 
--- once the ticks up to its stamp have passed
+-- `Stands` holds once the ticks up to a stamp have passed
 pub passed : (sc : Scenario) (me : Side) (k : KeptSite) (node : Running) (stamp : ℕ) (s : Site) → Stands sc me k s → IsSameNode k.node node
     → IsCore node (pass_to stamp s.core) → Stands sc me (record k { node = node }) (record s { core = pass_to stamp s.core })
 passed sc me k node stamp s is same core =
@@ -308,7 +308,7 @@ passing-most me n = by (next_of me n (bare_core n)) refl
     by None e = omega arith
     by (Some k) e = let below : k < 2 ^ 31 = (next-is n.seat.sizes n.seat.plan me n.seat.index (bare_core n) k (early k e) e).below in omega arith
 
--- up to the next busy tick of a site that is stood for
+-- the ticks pass up to the next busy tick of the site, or to 2^31
 pub passing-next : (sc : Scenario) (me : Side) (k : KeptSite) (s : Site) → Stands sc me k s
     → passing_end me k.node ≡ unwrap_or (next_tick sc.sizes sc.plan me (number_of k) s.core) (2 ^ 31)
 passing-next sc me k s is =

@@ -40,12 +40,12 @@ due-in-reached : (sc : Scenario) (w : World) → IsLawful sc → IsReached sc w 
 due-in-reached sc w lawful reached needs =
     subst (λ (x : World). NeedsEvent sc x → 1 ≤ length (due_of sc x)) (sym reached.is) (λ n. something-due sc lawful reached.choices n.going n.needs) needs
 
--- where the next record needs an event, some event is due
+-- if the next record needs an event, some event is due
 pub some-due : (k : KeptWorld) (w : World) (n : ℕ) → Stands k w → NeedsEvent k.bus w → n ≡ length (due_of k.bus w) → 1 ≤ n
 some-due k w n is needs all = let some = due-in-reached k.bus w is.lawful is.reached needs in omega (arith, some, all)
 
--- in a world that some choices lead to, going on without an event gives a record, if no event is
--- due
+-- if no event is due in a world that some choices lead to, it gives a record to go on without an
+-- event
 go-on-gives : (sc : Scenario) (w : World) → IsLawful sc → IsReached sc w → length (due_of sc w) ≡ 0 → (go_on sc w).turn ≢ None
 go-on-gives sc w lawful reached none = by w.book.ended (needs_no_event sc w.book.upcoming) refl refl
   where

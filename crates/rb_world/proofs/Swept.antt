@@ -48,7 +48,6 @@ pub record MayCome (sc : Scenario) (me : Side) (i until place : ℕ) (site : Kep
   pub sender : c.from < count_of (other me) sc.sizes
   pub reachable : IsReachable sc me i until s
 
--- it runs
 empty-first : (cs : List Coming) (p : Placed) → cs ≡ [] → first_of cs ≡ Some p → ⊥
 unfolding first_of
 empty-first [] p e f = let never : ◌≡◌ {A = Option Placed} None (Some p) = f in cc
@@ -61,7 +60,7 @@ comes-running sc me i until place site s c h = by s.runs refl
     by true e = e
     by false e = absurd (empty-first s.coming (record { place = place; coming = c }) (h.node.awaits.nothing e) h.is)
 
--- it comes no later than the next tick
+-- an arrival that may come comes no later than the next tick
 pub comes-before : (sc : Scenario) (me : Side) (i until place : ℕ) (site : KeptSite) (s : Site) (c : Coming) → MayCome sc me i until place site s c
     → (k : ℕ) → next_tick sc.sizes sc.plan me i s.core ≡ Some k → c.time ≤ time_of (clock_of sc me i) k
 comes-before sc me i until place site s c h k next =
@@ -92,7 +91,7 @@ comes-in-time sc me i until place site s c h = by (next_tick sc.sizes sc.plan me
         let end : passing_end me site.node ≡ k = end-is _ e in
         record { tick = k; in_time = omega (arith, end); come = comes-before sc me i until place site s c h k e }
 
--- the node after it
+-- after an arrival the node that is kept is the node of the world
 pub come-node : (sc : Scenario) (me : Side) (i until place : ℕ) (site new : KeptSite) (s : Site) (c : Coming) → MayCome sc me i until place site s c → number_of new ≡ i
     → StandsFor sc me new (after_arrival sc me i place c s) → IsNode sc me i new (after_arrival sc me i place c s)
 unfolding after_arrival
@@ -152,7 +151,8 @@ may-come sc me i until site lanes new sites s c on takes = record {
   reachable = on.may.reachable;
 }
 
--- only what comes and what has come are other than before
+-- after an arrival the lanes hold the sites: only what comes and what has come are other than
+-- before
 pub come-lanes : (sc : Scenario) (me : Side) (i place : ℕ) (c : Coming) (z : Site) (lanes : Each Held) (sites : Each Site)
     → HoldsSites sc.sizes lanes (at_node me i (without_waiting (Arrival place c)) (at_node me i (λ _. z) sites)) → HoldsSites sc.sizes lanes (at_node me i (λ _. after_arrival sc me i place c z) sites)
 unfolding after_arrival
@@ -168,7 +168,7 @@ pub come-same : (sc : Scenario) (me : Side) (i place : ℕ) (c : Coming) (z : Si
 unfolding after_arrival
 come-same sc me i place c z = (refl, refl)
 
--- one arrival more
+-- the sweep goes on after one more arrival
 unfoldable pub sweep-goes : (sc : Scenario) (me : Side) (i until : ℕ) (site after : KeptSite) (lanes new : Each Held) (sites : Each Site) (s : Site) (c : Coming)
     → (on : SweepsOn sc me i until site lanes sites s) → (takes : TakesArrival sc.sizes me i until new (at_node me i (λ _. on.now) sites) on.now c)
     → HasLane new (name_of me i) → HaveRooms sc new → number_of after ≡ i → StandsFor sc me after (after_arrival sc me i takes.place c on.now)
@@ -216,7 +216,7 @@ at-end sc me i until sites s z o there is tick =
     subst (λ x. record z { ahead = o } ≡ cleared sc me i until x) same
     (sym (ap (λ (y : Site). record y { ahead = tick_from until s.ahead }) is ∙ ap (λ (t : Option Timed). record z { ahead = t }) tick)))
 
--- where nothing is pending before the time
+-- the sweep ends if nothing is pending before the time
 pub sweep-ends : (sc : Scenario) (me : Side) (i until : ℕ) (site : KeptSite) (lanes new : Each Held) (sites : Each Site) (s : Site) → (on : SweepsOn sc me i until site lanes sites s)
     → new ≡ lanes → NoneBefore until on.now → Sweeps sc me i until site new sites s
 sweep-ends sc me i until site lanes new sites s on same none =
@@ -231,7 +231,7 @@ sweep-ends sc me i until site lanes new sites s on same none =
       rooms = on.may.rooms;
     })
 
--- where the tick was taken
+-- the sweep ends if the tick was taken
 pub sweep-ticks : (sc : Scenario) (me : Side) (i until : ℕ) (site : KeptSite) (lanes new : Each Held) (sites : Each Site) (s : Site) → (on : SweepsOn sc me i until site lanes sites s)
     → TakesTick sc.sizes me i until new (at_node me i (λ _. on.now) sites) on.now → HasLane new (name_of me i) → HaveRooms sc new → Sweeps sc me i until site new sites s
 sweep-ticks sc me i until site lanes new sites s on takes lane rooms =

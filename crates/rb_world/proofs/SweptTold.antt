@@ -35,7 +35,7 @@ use Rattle.rb_world.proofs.Taken.{lanes-taken, nothing-next, rooms-taken}
 
 -- One arrival.
 
--- it may come to the node
+-- the first arrival of the lane may come to the node
 pub hears-next : (sc : Scenario) (me : Side) (i until place : ℕ) (site : KeptSite) (lanes : Each Held) (sites : Each Site) (s : Site) (name : NodeName) → (on : SweepsOn sc me i until site lanes sites s)
     → name ≡ name_of me i → HasLane lanes name → until ≤ 18446744073709551615 → (ready : IsReadyBefore until (lane_of lanes name) place) → number_of site ≡ i
     → CanHear sc me (number_of site) name place site lanes ready.coming
@@ -98,7 +98,7 @@ told-goes S step a b b2 sc me i until place site after lanes new sites s name it
 
 -- The end.
 
--- nothing is left that comes before the time
+-- no arrival is left that comes before the time
 none-left : (sc : Scenario) (me : Side) (i until : ℕ) (site : KeptSite) (lanes : Each Held) (sites : Each Site) (s : Site) (name : NodeName) → (on : SweepsOn sc me i until site lanes sites s)
     → name ≡ name_of me i → HasLane lanes name → until ≤ 18446744073709551615 → IsFirstBefore until (lane_of lanes name) None → Every (λ c. until ≤ c.time) on.now.coming
 none-left sc me i until site lanes sites s name on named has_lane most later = by (cases_lt (tick_time_of lane) until)

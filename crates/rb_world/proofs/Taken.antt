@@ -133,7 +133,7 @@ fewer-taken lanes new name place c h stands after =
     let now : lane_of new name ≡ without_place place lane = ap (λ ls. lane_of ls name) after ∙ lane-with lanes name (without_place place lane) h in
     subst (λ (l : Held). length l.arrivals + 1 ≤ length lane.arrivals) (sym now) (remove-fewer lane.arrivals place c stands)
 
--- where the node goes by its name
+-- the ready event of the lane is taken by the node with this name
 pub is-taken : (sizes : Sizes) (me : Side) (i until : ℕ) (lanes new : Each Held) (sites : Each Site) (s : Site) (name : NodeName) (time : ℕ) (event : Event) → IsPending sizes me i lanes sites s name
     → HasLane lanes name → time ≡ key_of (lane_of lanes name) → until ≤ 18446744073709551615 → time < until → ready_event name 0 (lane_of lanes name) ≡ Some event
     → new ≡ with_lane name (without_ready 0 (lane_of lanes name)) lanes → IsTaken sizes me i until lanes new sites s time event

@@ -60,7 +60,7 @@ one-got j c cs = by (c.from == j)
     by true = refl
     by false = refl
 
--- one is taken in
+-- the core takes one arrival in
 taken-one : (sc : Scenario) (me : Side) (c : Coming) (s : Site) → c.from < count_of (other me) sc.sizes → s.core.had < 2 ^ 31
     → taken_in sc me c s ≡ record s { core = record s.core { inbox = s.core.inbox ++ (c.from, stamped s.core.had c) ∷ [] }; got = s.got ++ c ∷ [] }
 taken-one sc me c s known small = ap (λ core. record s { core = core; got = s.got ++ c ∷ [] }) (arrive-is sc me s.core c.from c.bytes known small)
@@ -91,7 +91,7 @@ taken sc me (c ∷ cs) s small known =
           ∙ ap (λ l. coming_from s.got j ++ l) (one-got j c cs);
     })
 
--- of what is due, what comes of a source
+-- what comes from a source of all that is due is what is due from that source
 pub due-node : (until j : ℕ) (cs : List Coming) → of_node j (due_before until cs) ≡ due_from until j cs
 due-node until j [] = refl
 due-node until j (c ∷ cs) = by (nat_lt c.time until) (c.from == j) refl (due-node until j cs)
@@ -117,7 +117,7 @@ first_stamp (a ∷ others) = a.stamp
 abbrev pub stamps_in : Core → ℕ → ℕ
 stamps_in core j = first_stamp (of_source core.inbox j)
 
--- with another stamp
+-- the arrival with another stamp
 abbrev pub with_stamp : ℕ → Arrival → Arrival
 with_stamp stamp a = record { stamp = stamp; bytes = a.bytes }
 
@@ -143,7 +143,7 @@ pub data ShowAlike (a b : List Arrival) : Type 0 where
   one : (x : Arrival) → a ≡ x ∷ [] → b ≡ x ∷ [] → ShowAlike a b
   many : 1 < length a → 1 < length b → ShowAlike a b
 
--- where these came before and these were due
+-- arrivals with the due ones show the same as those after it
 pub shows-alike : (had : ℕ) (before : List Arrival) (due : List Coming) (after : List Arrival) → BringsArrivals before due after
     → ShowAlike (before ++ map (stamped had) due) (map (with_stamp (first_stamp (before ++ map (stamped had) due))) after)
 shows-alike had [] [] after b = none refl (ap (map (with_stamp 0)) (b.none refl))

@@ -70,7 +70,7 @@ begin-biu sc scene book w name i e epoch time port named begun time_is port_is i
     (subst (λ n. Holds sc book (moved Biu i (with_begun (record { frame = e.frame; line = record { node = n; tick = e.tick; time = time; biu = e.biu; rmu = e.rmu }; port = Some port })) w))
     named holds)))
 
--- an RMU
+-- an RMU begins a frame
 pub begin-rmu : (sc : Scenario) (scene : Scene) (book : KeptBook) (w : World) (name : NodeName) (i : ℕ) (e : Epoch) (epoch : Option Epoch) (time : ℕ)
     → name ≡ node.Rmu i → epoch ≡ Some e → time ≡ time_of (clock_of sc (kind_of name) (number_of name)) e.tick → Surrounds sc scene w
     → Holds sc book (moved Rmu i (with_begun (record { frame = e.frame; line = record { node = name; tick = e.tick; time = time; biu = e.biu; rmu = e.rmu }; port = None })) w)
@@ -116,7 +116,6 @@ closes-then sc scene after w name c row agenda biu rmu book ports is =
     (with_delivery sc (number_of name) c.delivered w.ports) agenda refl refl biu rmu ports
     (told-more sc scene after.book w (kind_of name) (number_of name) (with_row c.place.stage row) (row-tells c.place.stage row) is book)
 
--- by either name
 pub number-is : (name : NodeName) → number_in name ≡ number_of name
 number-is (node.Biu i) = refl
 number-is (node.Rmu i) = refl

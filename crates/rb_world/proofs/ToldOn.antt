@@ -63,7 +63,7 @@ tick-shown sc me i k site scene x s name may named =
       holds = may.at.surrounds.ports;
     })
 
--- the arrivals up to the tick, and the tick
+-- the node is told of the arrivals up to the tick, and then of the tick
 pub alone-told : (sc : Scenario) (v : World) (me : Side) (i : ℕ) (a : Timed) (s : Site) (from name : NodeName) → from ≡ name_of me i → slice_get (of_kind me v.sites) i ≡ Some s
     → (if same_node from name then heard sc me i (a.time + 1) s else []) ++ (if same_node from name then telling sc v.ports me i (bare sc me i a s) (Tick a.tick) ∷ [] else [])
     ≡ alone_for sc v me i a name
@@ -90,7 +90,6 @@ alone-told sc v me i a s from name named there =
         ap (λ b. if b then heard sc me i (a.time + 1) s ++ t ∷ [] else []) (sym (named-itself me i)) ∙ sym (own me there)
         ∙ ap (alone_for sc v me i a) (sym (same-name me i name e))
 
--- by its node's kind
 pub alone-moved : (S : Type 0) (step : S → Told → S → Type 0) (old new : S) (sc : Scenario) (v : World) (me side : Side) (i j : ℕ) (a : Timed) (name : NodeName) → (me ≡ side) × (i ≡ j)
     → WasTold S step old (alone_for sc v side j a name) new → WasTold S step old (alone_for sc v me i a name) new
 alone-moved S step old new sc v me side i j a name same was =
@@ -106,7 +105,7 @@ node-there sc scene v (node.Rmu i) is of_bus = let many = is.counts Rmu in let i
 
 -- Steps.
 
--- where none is due nothing is told
+-- if nothing is due, nothing is told
 pub told-none : (sc : Scenario) (side : Side) (j : ℕ) (w : World) → (w.book.ended || needs_no_event sc w.book.upcoming) ≡ true → told_next sc side j w ≡ []
 unfolding told_next event_at due_of
 told-none sc side j w idle =
@@ -132,7 +131,7 @@ told-takes sc side j n d k s0 now is (suc m) le =
     ∙ ap (λ (s : Standing). (told_by sc side j n s0 ++ told_in sc side j m now) ++ told_next sc side j s.world) (is m (omega (arith, le)))
     ∙ append_assoc (told_by sc side j n s0) (told_in sc side j m now) (told_next sc side j (after_takes sc m now))
 
--- at first
+-- before the first event nothing is told
 pub told-first : (S : Type 0) (step : S → Told → S → Type 0) (name : NodeName) (a : S) (sc : Scenario) (kept : Each KeptSite) (scene : Scene) (w : World) (d : ℕ) → MayRun sc kept scene w → IsNodeOf sc.sizes name
     → AlongTold S step name a a sc kept scene (until_from None) 0 w d
 unfolding along-first along-begins
@@ -168,7 +167,7 @@ told-by-itself S step name a b sc kept scene until n w0 d book turn it free sett
           ∙ ap (λ (x : Each Site). it.held ++ left_for sc until x name) (sym sites);
     }
 
--- a tick
+-- `ComesTold` holds for a tick once the node was told of it
 told-to-tick : (S : Type 0) (step : S → Told → S → Type 0) (name : NodeName) (a b c : S) (sc : Scenario) (kept new : Each KeptSite) (scene after : Scene) (until : Side → ℕ → ℕ) (n : ℕ) (w0 : World) (d : ℕ) (at : NodeName) (time : ℕ) (turn : Turn)
     → (it : AlongTold S step name a b sc kept scene until n w0 d) → (to : GoesToTick sc new after until it.on.back at time turn) → IsNodeOf sc.sizes name
     → WasTold S step b (alone_for sc it.on.back to.me to.i to.a name) c → ComesTold S step name a c sc new after (until_tick to.me to.i to.a.time) n w0 d turn
@@ -219,7 +218,7 @@ pub told-quiet : (S : Type 0) (step : S → Told → S → Type 0) (name : NodeN
 unfolding comes-quiet
 told-quiet S step name a b sc kept scene until n w0 d turn it none = record { on = comes-quiet sc kept scene until n w0 d turn it.on none; held = it.held; was = it.was; all = it.all }
 
--- it came
+-- `ToldToRecord` holds once the node was told of what was left
 pub told-to-record : (S : Type 0) (step : S → Told → S → Type 0) (name : NodeName) (a b c : S) (sc : Scenario) (kept new : Each KeptSite) (scene after : Scene) (until : Side → ℕ → ℕ) (n : ℕ) (w0 : World) (d : ℕ) (turn : Turn)
     → (it : ComesTold S step name a b sc kept scene until n w0 d turn) → is_some (record_of turn) ≡ true → HasCaughtUp sc new after it.on.now
     → WasTold S step b (left_for sc until it.on.back.sites name) c → ToldToRecord S step name a c sc new after turn w0 d

@@ -27,7 +27,7 @@ use Rattle.rb_world.specs.Steps.{Happens}
 use Rattle.rb_world.specs.Turning.{Gives}
 use Rattle.rb_world.specs.Worlds.{AreNodes, HoldsPorts, IsReached, Surrounds, last_of, running_of}
 
--- one choice more leads to the next world
+-- a world with one more choice is reached
 pub reached-more : (sc : Scenario) (w : World) (c : Choice) → IsReached sc w → IsReached sc (choose sc w c)
 reached-more sc w c reached = record {
   choices = reached.choices ++ c ∷ [];

@@ -47,7 +47,7 @@ data-role sizes slot h e =
     ap (λ t. if t then Schedule slot else (if nat_lt slot (first_diagnosis_of Biu sizes) then Data (slot - sizes.bius) else rest)) h
     ∙ ap (λ t. if t then Data (slot - sizes.bius) else rest) e
 
--- in these slots no RMU listens to the other kind's stage 1
+-- an RMU says nothing in stage 1 if no BIU listens there
 says-none : (i : ℕ) (st : NodeState) (slot word : ℕ) (role : Role) (sender : Sender) → listens Biu role 1 ≡ false → says_of Rmu i st slot role sender 1 word ≡ None
 says-none i st slot word role Nobody h = refl
 says-none i st slot word role (Node n) h = rw h refl

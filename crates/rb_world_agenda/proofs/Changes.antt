@@ -29,7 +29,7 @@ others n i change (s ∷ ss) h =
     ap (λ b. elim b as (λ _. Site) [ true ↦ change s | false ↦ s ] ∷ map_from (i + 1) (changed true n change) ss) (more-differs i n h)
     ∙ ap (λ l. s ∷ l) (others n (i + 1) change ss (omega arith))
 
--- the site at place n of those from number i on
+-- each lane of a list holds its site after the change
 holds-list : (sizes : Sizes) (me : Side) (new : Held) (change : Site → Site) (ls : List Held) (ss : List Site) (i n m : ℕ) → m ≡ i + n → HoldsAll sizes me ls ss
     → n < length ls
     → ((s : Site) → slice_get ss n ≡ Some s → HoldsSite sizes me (unwrap_or (slice_get ls n) (empty_lane 0)) s → HoldsSite sizes me new (change s))

@@ -24,12 +24,12 @@ abbrev site_due : Sizes → Option ℕ → Side → ℕ → Site → List Due
 site_due sizes None me i s = []
 site_due sizes (Some t) me i s = ready_at sizes t me i s
 
--- at the sites of a kind, from this number on
+-- what is due at the sites of a kind from number `i` on
 abbrev sites_due : Sizes → Option ℕ → Side → ℕ → List Site → List Due
 sites_due sizes o me i [] = []
 sites_due sizes o me i (s ∷ ss) = site_due sizes o me i s ++ sites_due sizes o me (i + 1) ss
 
--- in the lanes of a kind, from this number on
+-- what is due in the lanes of a kind from number `i` on
 unfoldable pub dues_from : ℕ → Side → ℕ → List Held → List Site → List Due
 dues_from time me i [] ss = []
 dues_from time me i (l ∷ ls) [] = []

@@ -116,7 +116,7 @@ below all leasts opened at own rest n h is fits most low =
     ] in
     subst (λ m. min own rest ≤ m) (sym (get_or-take n all k 0 within)) (omega (arith, four, under)))
 
--- all 32
+-- the least of both halves is the least of all 32 keys
 pub fours-least : (all leasts : List ℕ) (opened at own : ℕ) → AreFours all leasts opened at → own ≡ four_at all (opened * 4) → own < 18446744073709551616
     → min own (min (four_at leasts 0) (four_at leasts 4)) ≡ least_key all
 fours-least all leasts opened at own h is fits =

@@ -17,7 +17,7 @@ least-low (x ∷ xs) (suc k) h = omega (arith, least-low xs k (omega arith))
 
 -- ---- looking through the keys
 
--- the front of the keys so far
+-- `front` is the front of the first `i` keys
 pub record IsFrontOf (keys : List ℕ) (i : ℕ) (front : Front) : Type 0 where
   pub within : i ≤ length keys
   pub least_is : front.least ≡ least_key (take i keys)
@@ -57,7 +57,7 @@ front-more keys i front h is = go (nat_lt (get_or keys i 0) front.least) refl
           before = is.before;
         }
 
--- one key more
+-- with one more key the front is that key if it is less
 pub front-key : (keys : List ℕ) (i key : ℕ) (front next : Front) → i < length keys → get_or keys i 0 ≡ key → IsFrontOf keys i front
     → next ≡ (if nat_lt key front.least then record { first = i; least = key } else front) → IsFrontOf keys (i + 1) next
 front-key keys i key front next h at is after =

@@ -148,7 +148,7 @@ pub low-itself : (o : Option ℕ) → IsLow o o
 low-itself None = tt
 low-itself (Some t) = omega arith
 
--- all of the times are later
+-- all times are later than `t`
 abbrev AllLater : ℕ → List ℕ → Type 0
 AllLater t [] = ⊤
 AllLater t (u ∷ us) = (t < u) × AllLater t us
@@ -179,13 +179,13 @@ no-tick t u less =
     let other : (u == t) ≡ false = grind (arith, nat_tests) in
     ap (λ b. elim b as (λ _. List Ready) [ true ↦ Ticks ∷ [] | false ↦ [] ]) other
 
--- nothing comes at a time where all comes later
+-- nothing comes at a time before that of all arrivals
 none-come : (t : ℕ) (arrivals : List Coming) → AllLater t (map (λ c. c.time) arrivals) → arrivals_of t arrivals ≡ []
 none-come t arrivals h =
     arrivals_are t arrivals ∙ ap (from_on t arrivals 0) (let e : 256 ≡ 256 + 0 = omega arith in e)
     ∙ from_on-skip t arrivals 0 256 0 (λ j low high. none-then t j arrivals h) ∙ from_on-zero t arrivals (0 + 256)
 
--- nothing is ready at a time where all comes later
+-- nothing is ready at a time before that of all arrivals and of the tick
 none-ready : (t : ℕ) (arrivals : List Coming) (tick : Option ℕ) → AllLater t (option_to_list tick ++ map (λ c. c.time) arrivals)
     → unless_some (arrivals_of t arrivals) (tick_in t tick) ≡ []
 none-ready t arrivals None h = ap (λ l. unless_some l (tick_in t None)) (none-come t arrivals h)

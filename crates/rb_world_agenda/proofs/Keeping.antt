@@ -47,7 +47,7 @@ pub order-with : (lanes new : Each Held) (bius : ℕ) (name : NodeName) (lane : 
 order-with lanes new bius name lane split h after =
     ap in_order after ∙ with-in-order lanes name lane h ∙ ap (λ b. slice_set (in_order lanes) (position_of b name) lane) (sym split)
 
--- as many keys as before
+-- a changed lane leaves as many keys as there were
 pub many-with : (lanes new : Each Held) (bius : ℕ) (name : NodeName) (lane : Held) → bius ≡ length lanes.bius → HasLane lanes name → new ≡ with_lane name lane lanes
     → length (keys_of lanes) ≡ length (keys_of new)
 many-with lanes new bius name lane split h after =
@@ -70,7 +70,7 @@ few-with lanes new bius name lane few h after room =
     many (node.Biu i) = (length-set lanes.bius i lane, refl)
     many (node.Rmu i) = (refl, length-set lanes.rmus i lane)
 
--- the lane at a position
+-- the lane at a position is that of the node there
 pub lane-at : (lanes : Each Held) (bius position : ℕ) → bius ≡ length lanes.bius → position < length (in_order lanes)
     → HasLane lanes (node_at bius position) × (slice_get (in_order lanes) position ≡ Some (lane_of lanes (node_at bius position)))
 lane-at lanes bius position split h = go (nat_lt position bius) refl

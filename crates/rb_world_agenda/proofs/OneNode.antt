@@ -23,7 +23,7 @@ use Rattle.rb_world_agenda.specs.Holding.{HoldsSite, due_with}
 abbrev arrival_due : Side → ℕ → ℕ × Coming → Due
 arrival_due me i c = record { side = me; node = i; pending = Arrival c.0 c.1 }
 
--- of n sources, the first of which this is
+-- what is due from `n` sources, the first of which is `a`
 arrivals_of_some : (me : Side) (i t : ℕ) (s : Site) (a n : ℕ)
     → map (arrival_due me i) (from_on t s.coming a n) ≡ flat_map (arrivals_at me i t s) (range_with_len a n)
 arrivals_of_some me i t s a zero = ap (map (arrival_due me i)) (from_on-zero t s.coming a)
@@ -32,7 +32,7 @@ arrivals_of_some me i t s a (suc n) =
     ∙ map-append (arrival_due me i) (coming_at t s.coming a) (from_on t s.coming (a + 1) n)
     ∙ ap (λ l. arrivals_at me i t s a ++ l) (arrivals_of_some me i t s (a + 1) n)
 
--- nothing comes of a number from the last node on
+-- nothing comes from a source with a number from `top` on
 none_past : (t j top : ℕ) → top ≤ j → (cs : List Coming) → All (λ c. c.from < top) cs → count_if (comes t j) cs ≡ 0
 none_past t j top low [] all = refl
 none_past t j top low (c ∷ cs) all =

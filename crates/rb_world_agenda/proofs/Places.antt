@@ -64,7 +64,7 @@ at-from t arrivals a (suc n) =
 
 -- What is ready.
 
--- it is of this time: the arrival at its place, or the tick
+-- the ready event is of time `t`: the arrival at its place, or the tick
 abbrev pub IsOf : ℕ → Held → Ready → Type 0
 IsOf t lane (Comes place c) = (c.time ≡ t) × (slice_get lane.arrivals place ≡ Some c)
 IsOf t lane Ticks = lane.tick ≡ Some t

@@ -16,7 +16,6 @@ unfolding least_key
 least-push [] k = omega arith
 least-push (x ∷ ks) k = ap (min x) (least-push ks k) ∙ omega arith
 
--- one key more
 pub least-more : (keys : List ℕ) (i : ℕ) → i < length keys → least_key (take (i + 1) keys) ≡ min (least_key (take i keys)) (get_or keys i 0)
 least-more keys i h = ap least_key (take_more keys i 0 h) ∙ least-push (take i keys) (get_or keys i 0)
 
@@ -60,7 +59,7 @@ one : (t : ℕ) (l : Held) → due_count t (l ∷ []) ≡ length (due_in t l)
 unfolding due_count
 one t l = omega arith
 
--- one node more
+-- one more node adds what is due in its lane
 pub count-more : (lanes : Each Held) (bius position key t : ℕ) → IsHere lanes bius position key
     → due_count t (take (position + 1) (in_order lanes)) ≡ due_count t (take position (in_order lanes)) + length (due_in t (lane_of lanes (node_at bius position)))
 count-more lanes bius position key t here =
@@ -72,7 +71,7 @@ count-more lanes bius position key t here =
     ∙ count-append t (take position (in_order lanes)) (lane_of lanes name ∷ [])
     ∙ ap (λ n. due_count t (take position (in_order lanes)) + n) (one t (lane_of lanes name))
 
--- after the last
+-- after the last node all that is due is counted
 pub count-all : (lanes : Each Held) (bius position t : ℕ) → AreFew lanes bius → length (keys_of lanes) ≤ position
     → due_count t (take position (in_order lanes)) ≡ due_count t (in_order lanes)
 count-all lanes bius position t few last =

@@ -32,7 +32,7 @@ use Rattle.rb_world_agenda.proofs.Which.{has-item}
 
 -- A lane changes.
 
--- the lane at the position of a node
+-- the lane at the position of a node is the node's lane
 name-lane : (lanes : Each Held) (name : NodeName) → HasLane lanes name
     → (position_of (length lanes.bius) name < length (in_order lanes)) × (get_or (in_order lanes) (position_of (length lanes.bius) name) (empty_lane 0) ≡ lane_of lanes name)
 name-lane lanes (node.Biu i) h =
@@ -88,7 +88,7 @@ ticks-same lanes new ticks bius name lane split kept h after same =
     (ap (mark_of place) same ∙ sym (tick-place lanes ticks bius name split kept h))
     (ticks-with lanes new ticks bius place name lane (tick_time_of lane) split refl kept h after refl))
 
--- one that is ready is taken
+-- a ready event is taken out of its lane
 pub ticks-taken : (lanes new : Each Held) (ticks : List ℕ) (bius place : ℕ) (name : NodeName) (i : ℕ) (event : Event) → bius ≡ length lanes.bius → place ≡ position_of bius name
     → AreTicks lanes ticks → HasLane lanes name → ready_event name i (lane_of lanes name) ≡ Some event → new ≡ with_lane name (without_ready i (lane_of lanes name)) lanes
     → AreTicks new (ticks_after event.kind place ticks)
@@ -114,7 +114,7 @@ pub ticks-dropped : (lanes new : Each Held) (ticks : List ℕ) (bius place : ℕ
 ticks-dropped lanes new ticks bius place name split at kept h after =
     ticks-with lanes new ticks bius place name (without_events (lane_of lanes name)) 18446744073709551615 split at kept h after refl
 
--- at first
+-- at first no lane has a tick
 pub ticks-empty : (sizes : Sizes) (lanes : Each Held) (room bius n : ℕ) → bius ≡ sizes.bius → n ≡ bius + sizes.rmus → n ≤ 32
     → lanes ≡ each_of sizes (λ side i. empty_lane room) → AreTicks lanes (replicate 32 18446744073709551615)
 ticks-empty sizes lanes room bius n split all few is =

@@ -55,7 +55,7 @@ last-there (Stage stage) place lasting j here member = record {
         equal : (a == b) ≡ true → b ≡ a
         equal e = grind (arith, nat_tests)
 
--- in the upcoming stage those that are not counted last
+-- `OthersLast` holds in the upcoming stage
 pub others-last : {K : Type 0} (sc : Scenario) (kind : Side) (m : Milestone) (place : Place) (g : Group K) (sites : Each Site) → is_at m place ≡ true → count_of kind sc.sizes ≤ 16
     → HoldsKind sc kind m g sites → OthersLast m place.frame (count_of kind sc.sizes) g.lasting g.counted
 others-last sc kind (Begin f) place g sites here most holds = absurd (cc)
@@ -71,7 +71,7 @@ others-last sc kind (Stage stage) place g sites here most holds = λ j e out.
     by true false ha o = absurd (cc)
     by false b ha o = absurd (cc)
 
--- where all are counted, too
+-- `OthersLast` holds if all nodes are counted
 pub none-out : (m : Milestone) (frame count lasting all : ℕ) → count ≤ 16 → all ≡ set_of (λ i. nat_lt i count) → OthersLast m frame count lasting all
 none-out m frame count lasting all few is = λ j e out.
     let no : true ≡ false = sym (first_counted count all few is j e) ∙ out in

@@ -9,6 +9,6 @@ pub all_but_is : (count set first rest : ℕ) → first ≡ set_of (λ i. nat_lt
 all_but_is count set first rest first_is is =
     is ∙ same_set_of _ _ (λ j h. ap (λ b. b && not (has set j)) (has-is first j (λ i. nat_lt i count) first_is h))
 
--- all of them are counted where none is left out
+-- all nodes are counted if none is left out
 pub first_counted : (count first : ℕ) → count ≤ 16 → first ≡ set_of (λ i. nat_lt i count) → (j : ℕ) → nat_lt j count ≡ true → has first j ≡ true
 first_counted count first few is j e = let below : j < count = ltb-true j count e in has-is first j (λ i. nat_lt i count) is (omega arith) ∙ e

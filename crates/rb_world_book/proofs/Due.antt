@@ -297,7 +297,7 @@ settles-at sc way w next l t r is same h = record {
   turn_is = ap (λ (x : World). x.turn) is ∙ same;
 }
 
--- nothing is due
+-- if nothing is due, nothing is settled
 pub settles-none : (sc : Scenario) (k : KeptWay) (l : KeptBook) (w : World) → Holds sc l w → is_due k l ≡ false → Settles sc (way_of k) w l turn.Quiet
 settles-none sc k l w h e =
     let not_due = next-not sc k l w h e in

@@ -8,7 +8,7 @@ use Rattle.rb_base.proofs.Sets.{eq_other, has-is, has_none}
 use Rattle.rb_base.proofs.Plain.{and-not_true, eq_self}
 use Rattle.rb_world_book.specs.Telling.{kept_of}
 
--- of each of the sources that are not left what is new
+-- the new values of the counted sources that are not left, and else the values before
 abbrev pub kept_but : {X : Type 0} → ℕ → ℕ → X → (ℕ → X) → List X → ℕ → X
 kept_but counted left d new before j = if has counted j && not (has left j) then new j else get_or before j d
 
@@ -45,7 +45,7 @@ left-before left left' k j removed h is = front (has left j) (j == k) (sym (has-
     front true b e = refl
     front false b e = absurd (cc)
 
--- one source more
+-- with one more source its new value is kept
 pub kept-next : {X : Type 0} (counted left left' k : ℕ) (d v : X) (new : ℕ → X) (before kept : List X) → k < 16 → length kept ≡ 16 → v ≡ new k → has counted k ≡ true
     → left' ≡ set_of (λ i. has left i && not (i == k))
     → ((j : ℕ) → j < 16 → get_or kept j d ≡ kept_but counted left d new before j)

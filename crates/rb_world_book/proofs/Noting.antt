@@ -44,7 +44,7 @@ never {X = X} k i change (x ∷ xs) h =
     ap (λ b. let y : X = elim b [ true ↦ change x | false ↦ x ] in y ∷ map_from (k + 1) (λ n s. elim (n == i) as (λ _. X) [ true ↦ change s | false ↦ s ]) xs) (eq_other k i (omega arith))
     ∙ ap (λ l. x ∷ l) (never (k + 1) i change xs (omega arith))
 
--- one site changes, and so does what it shows
+-- if one site changes, so does what it shows
 pub one-changes : {X Y : Type 0} (h : X → Y) (k i j : ℕ) (change : X → X) (v : Y) (xs : List X) → i ≡ k + j → ((s : X) → h (change s) ≡ v)
     → map h (map_from k (λ n s. elim (n == i) [ true ↦ change s | false ↦ s ]) xs) ≡ set (map h xs) j v
 one-changes h k i zero change v [] same shows = refl
@@ -83,7 +83,7 @@ shows-changed h kind i change v sites shows =
     ap (map h) (at-kind kind kind i change sites ∙ ap (λ b. map_from 0 (λ n s. elim (b && (n == i)) as (λ _. Site) [ true ↦ change s | false ↦ s ]) (of_kind kind sites)) (same_side_self kind))
     ∙ one-changes h 0 i i change v (of_kind kind sites) (let e : i ≡ 0 + i = omega arith in e) shows
 
--- the nodes of the other kind
+-- a change at a node leaves the nodes of the other kind as they are
 apart : (kind me : Side) (i : ℕ) (change : Site → Site) (sites : Each Site) → same_side kind me ≡ false → of_kind kind (at_node me i change sites) ≡ of_kind kind sites
 apart Biu Biu i change sites e = absurd (cc)
 apart Biu Rmu i change sites e = all-same 0 (of_kind Biu sites)
@@ -144,7 +144,7 @@ from-other f g k i zero v (x ∷ xs) same alike = ap (λ l. v ∷ l) (past (k + 
 from-other f g k i (suc j) v (x ∷ xs) same alike =
     ap (λ y. y ∷ set (map_from (k + 1) f xs) j v) (alike k x (eq_other k i (omega arith))) ∙ ap (λ l. g k x ∷ l) (from-other f g (k + 1) i j v xs (omega arith) alike)
 
--- one that shows the same as before
+-- a node that shows the same as before changes nothing in the list
 from-same_set : {Y : Type 0} (f : ℕ → Told → Y) (k i j : ℕ) (told : List Told) (t : Told) → i ≡ k + j → j < length told → f i t ≡ f i (told_at told j)
     → set (map_from k f told) j (f i t) ≡ map_from k f told
 from-same_set f k i j [] t same h e = absurd (omega arith)

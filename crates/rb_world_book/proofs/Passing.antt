@@ -73,7 +73,7 @@ slot-record sizes place lines = by ((place.stage == 3) && nat_lt place.slot (syn
     by true = refl
     by false = refl
 
--- what follows a stage is to come
+-- the milestone after a stage is to come
 coming-when : (sc : Scenario) (place : Place) (more last : Bool) → (place.slot == sync_slot_of sc.sizes) ≡ last → IsStageOf sc place → (m : Kept)
     → milestone_of m ≡ (if more then Stage (record place { stage = place.stage + 1 })
     else (if last then Begin (place.frame + 1) else Stage (record { frame = place.frame; slot = place.slot + 1; stage = 1 })))
@@ -132,7 +132,7 @@ turns-holds sc kind before now g h sizes sites same holds turns good lasting cou
   counted = counted;
 }
 
--- the lines after a stage
+-- after stage 2 the lines are those that the nodes told, and after another stage those before
 pub lines-after : {K : Type 0} (sc : Scenario) (place : Place) (g : Group K) (sites : Each Site) (before now : List SlotLine) (n : ℕ) → n ≡ sc.sizes.bius → sc.sizes.bius ≤ 16
     → HoldsKind sc Biu (kept.Stage place) g sites
     → now ≡ (if place.stage == 2 then found_of (λ i t. line_of place (has g.good i) t) n g.told else before)
@@ -193,7 +193,7 @@ frame-record sc frame bius rmus sites sizes same shape biu rmu =
     ∙ ap (frame_record frame (map (λ x. x.line) (bs ++ rs))) (sym ports)
     ∙ first-frame frame (bs ++ rs) ∙ ap (λ l. slice_get (frame_records frame l) 0) (sym all)
 
--- what follows the start of a frame
+-- the milestone after the start of a frame is to come
 pub coming-begun : (sc : Scenario) (frame : ℕ) (m : Kept) → frame ≤ sc.frames → milestone_of m ≡ after_begin frame sc.frames
     → IsComing sc m × ((p : Place) → m ≡ kept.Stage p → p.frame ≡ frame)
 coming-begun sc frame m h same = by (frame == sc.frames) refl m same

@@ -86,7 +86,7 @@ none_gone these left set passes is none = record {
     never true b = refl
     never false b = refl
 
--- one more joins, if it passes
+-- one more node joins, if it passes
 pub one_more : (these : ℕ → Bool) (before after k set more : ℕ) (passes : ℕ → Bool) (member : Bool) → ArePassed these before set passes → TakesFirst before after k → k < 16
     → member ≡ passes k → more ≡ set_of (λ i. if i == k then member else has set i) → ArePassed these after more passes
 one_more these before after k set more passes member so_far takes hk is joined = record {
@@ -110,7 +110,7 @@ all_gone count among left set passes so_far none =
 
 -- The first of what is found.
 
--- nothing more is found from node k on
+-- if nothing is found from node `k` on, what is found is that of the first `k` nodes
 found_on : {X : Type 0} (find : ℕ → Told → Option X) (told : List Told) (k more n : ℕ) → n ≡ k + more → n ≤ length told → ((j : ℕ) → k ≤ j → j < n → find j (told_at told j) ≡ None)
     → found_of find n told ≡ found_of find k told
 found_on find told k zero n is h none = ap (λ m. found_of find m told) (omega arith)
@@ -120,11 +120,11 @@ found_on find told k (suc more) n is h none =
     ∙ append-nil (found_of find (k + more) told)
     ∙ found_on find told k more (k + more) refl (omega arith) (λ j low high. none j low (omega arith))
 
--- nothing is found of the first n nodes
+-- if no node gives anything, nothing is found
 found_nothing : {X : Type 0} (find : ℕ → Told → Option X) (told : List Told) (n : ℕ) → n ≤ length told → ((j : ℕ) → j < n → find j (told_at told j) ≡ None) → found_of find n told ≡ []
 found_nothing find told n h none = found_on find told 0 n n (omega arith) h (λ j low high. none j high) ∙ found_none find told
 
--- of those that are gone, none told of the stage
+-- none of the nodes that are gone has told of the stage
 abbrev pub none_told : Place → ℕ → ℕ → List Told → ℕ → Type 0
 none_told place count good told left = NonePassed (is_below count good) left (λ i. has_told (Stage place) (told_at told i))
 

@@ -33,7 +33,7 @@ all_are_left eps among sight kept none = record {
     by true x = refl
     by false x = refl
 
--- of a receiver that is left nothing was noted
+-- nothing was noted for a receiver that is left
 pub not_yet : (eps among left i : ℕ) (sight : ℕ → See) (kept : SourceSights) → KeptSoFar eps among left sight kept → i < 16 → has left i ≡ true → has kept.by i ≡ false
 not_yet eps among left i sight kept so_far h e =
     so_far.shows.by i h ∙ ap (λ b. is_something (if has among i && not b then sight i else Nothing)) e

@@ -22,7 +22,7 @@ use Rattle.rb_world_book.specs.Waiting.{row_saw, some_good, waiting_for, was_tak
 
 -- Good receivers.
 
--- where two tests agree at the good ones, all of which are there
+-- if two tests agree at the good nodes, some good node passes the one if some passes the other
 pub same-good : (count good : ℕ) (p q : ℕ → Bool) → ((i : ℕ) → i < 16 → has good i ≡ true → nat_lt i count ≡ true)
     → ((i : ℕ) → i < 16 → has good i ≡ true → p i ≡ q i) → some_node (λ i. has good i && p i) ≡ some_good count good q
 unfolding some_good
@@ -93,7 +93,7 @@ told-row place saw t e = by t.has_closed e
     by false e = absurd (cc)
     by true e = same (same_place t.place place) e
 
--- it told of that place
+-- a node that has told of a stage has told of its place
 pub told-there : (place : Place) (t : Told) → has_told (Stage place) t ≡ true → same_place t.place place ≡ true
 told-there place t e = by t.has_closed e
   where
@@ -126,7 +126,7 @@ saw seen good count place told i j hj within e told_it =
     ∙ told-row place (seen i) (told_at told i) told_it)
     ∙ get-node (seen i) j hj
 
--- where nobody is awaited, a good one has told
+-- if nobody is awaited, each good node has told
 pub has-told : (count good : ℕ) (place : Place) (told : List Told) (i : ℕ) → waiting_for count good (Stage place) told ≡ 0 → i < 16 → nat_lt i count ≡ true → has good i ≡ true
     → has_told (Stage place) (told_at told i) ≡ true
 unfolding waiting_for

@@ -42,7 +42,7 @@ not-both place next t other told = by (has_told (Stage next) t) refl
     by false e = e
     by true e = e ∙ differ t.place.stage place.stage next.stage other (stage-of place told) (stage-of next e)
 
--- of nodes that all have told of one stage last, all are awaited at another
+-- if all good nodes have told of one stage last, all are awaited at another
 all-wait : (sc : Scenario) (kind : Side) (place next : Place) (good n : ℕ) (told : List Told) → n ≡ count_of kind sc.sizes → (place.stage == next.stage) ≡ false
     → good ≡ good_at sc kind place.frame place.slot → waiting_for n good (Stage place) told ≡ 0 → good ≡ waiting_for n good (Stage next) told
 unfolding waiting_for

@@ -25,7 +25,7 @@ use Rattle.rb_world_book.proofs.Noting.{at-kind, same-shown}
 pub record HasTimes (c : Closed) (heard : ℕ → List Coming) (times : List ℕ) : Type 0 where
   pub time : (j stamp : ℕ) → get_or c.sees j Nothing ≡ Time stamp → slice_index times j ≡ sole_time (heard j)
 
--- this is the row that the definitions have
+-- the row that is shown is the row that the definitions have
 pub row-is : (me : Side) (i : ℕ) (st : NodeState) (heard : ℕ → List Coming) (c : Closed) (times : List ℕ) → HasTimes c heard times
     → row_of me i st heard c ≡ row_shown i c times (trusted_of Biu me st) (trusted_of Rmu me st)
 unfolding row_of

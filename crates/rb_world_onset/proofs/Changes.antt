@@ -32,7 +32,7 @@ down_any (Some a) c d f s from fs = before_down a.0 a.1 c d f s from fs
 
 -- One node more is looked at.
 
--- at first none of them is
+-- among the first 0 nodes the next change is the one that was found before
 pub next_none : (onsets : List (Option (ℕ × ℕ))) (frame slot : ℕ) (first : Option (ℕ × ℕ)) → IsNextAmong 0 onsets frame slot first first
 next_none onsets frame slot first = record { sooner = λ f s h. h; later = λ h. h; steady = λ i f s h from fs. absurd (omega arith); origin = inl refl }
 
@@ -135,7 +135,7 @@ stops_rmu sc frame slot (Some c) q = record {
   not_there = lt_true_and q.node sc.sizes.rmus _ false q.within (ap (λ o. is_before o c.0 c.1) (sym q.is) ∙ not_before_itself c.0 c.1);
 }
 
--- the earliest of all onsets after the place
+-- the earliest onset of both kinds after the place is the next change
 next_of : (sc : Scenario) (frame slot : ℕ) (change next : Option (ℕ × ℕ)) → IsNextAmong sc.sizes.bius sc.biu_onsets frame slot None change
     → IsNextAmong sc.sizes.rmus sc.rmu_onsets frame slot change next → IsNextChange sc frame slot next
 next_of sc frame slot change next bius rmus = record {

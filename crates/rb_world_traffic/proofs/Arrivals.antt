@@ -45,11 +45,11 @@ pub lane-again : (lanes : Each Held) (to : NodeName) (x y : Held) → with_lane 
 lane-again lanes (node.Biu i) x y = ap (λ ls. record lanes { bius = ls }) (set-set lanes.bius i x y)
 lane-again lanes (node.Rmu i) x y = ap (λ ls. record lanes { rmus = ls }) (set-set lanes.rmus i x y)
 
--- nothing more
+-- to add no arrivals leaves the lane as it is
 pub with-nothing : (lanes : Each Held) (to : NodeName) → HasLane lanes to → with_lane to (with_arrivals [] (lane_of lanes to)) lanes ≡ lanes
 with-nothing lanes to h = lane-same lanes to (with_arrivals [] (lane_of lanes to)) h (ap (λ e. record (lane_of lanes to) { arrivals = e }) (append-nil (lane_of lanes to).arrivals))
 
--- more, and again more
+-- to add arrivals and then more adds both
 pub with-both : (lanes now : Each Held) (to : NodeName) (xs ys : List Coming) → HasLane lanes to → now ≡ with_lane to (with_arrivals xs (lane_of lanes to)) lanes
     → with_lane to (with_arrivals ys (lane_of now to)) now ≡ with_lane to (with_arrivals (xs ++ ys) (lane_of lanes to)) lanes
 with-both lanes now to xs ys h is =
@@ -72,7 +72,7 @@ one-place lanes new to p h is =
 
 -- Entries.
 
--- one entry brings what it brings, if it is said
+-- an entry brings its message if it is said in the span
 pub one-brought : (sc : Scenario) (clock : Timeline) (span : Span) (s : Say) (b : Bool) → is_said_in sc span s ≡ b
     → all_brought sc clock span (s ∷ []) ≡ cond b (brought sc.plan.version clock span s ∷ []) []
 one-brought sc clock span s b e =
@@ -133,14 +133,14 @@ said-holds sc lanes new sites to span holds h is =
     (holds-at sc.sizes lanes sites me i (with_arrivals cs (lane_of lanes to)) (hears sc to span) holds (subst (HasLane lanes) n h)
     (λ s at its. holds-arrivals sc.sizes me (lane_of lanes to) s cs (subst (λ x. HoldsSite sc.sizes me x s) lane its) (says-small sc me i span)))
 
--- the entries with one number more
+-- one more number adds its entry, if there is one
 pub entries-more : (says : List Say) (places : List ℕ) (i n : ℕ) → i < length places → n ≡ get_or places i 0
     → entries_at says (take (i + 1) places) ≡ entries_at says (take i places) ++ cons_option (slice_get says n) []
 entries-more says places i n h is =
     ap (entries_at says) (take_more places i 0 h) ∙ filter_map-append (slice_get says) (take i places) (get_or places i 0 ∷ [])
     ∙ ap (λ m. entries_at says (take i places) ++ cons_option (slice_get says m) []) (sym is)
 
--- one entry more is gone through
+-- one more entry was gone through
 pub so-far-said : (kept : KeptSayings) (clock : Timeline) (span : Span) (lanes now new : Each Held) (to : NodeName) (places : List ℕ) (i n : ℕ) (s : Say) → HasLane lanes to
     → i < length places → n ≡ get_or places i 0 → slice_get kept.says n ≡ Some s → Brings kept (entries_at kept.says (take i places)) clock to span lanes now
     → Brings kept (s ∷ []) clock to span now new → Brings kept (entries_at kept.says (take (i + 1) places)) clock to span lanes new
@@ -150,7 +150,7 @@ so-far-said kept clock span lanes now new to places i n s h within is at so_far 
     more sc kept_is ∙ with-both lanes now to (all_brought sc clock span before) (all_brought sc clock span (s ∷ [])) h (so_far sc kept_is)
     ∙ ap (λ cs. with_lane to (with_arrivals cs (lane_of lanes to)) lanes) (sym (brought-append sc clock span before (s ∷ [])) ∙ ap (all_brought sc clock span) (sym next))
 
--- a number without an entry
+-- a number without an entry brings nothing
 pub so-far-none : (kept : KeptSayings) (clock : Timeline) (span : Span) (lanes now : Each Held) (to : NodeName) (places : List ℕ) (i n : ℕ)
     → i < length places → n ≡ get_or places i 0 → length kept.says ≤ n → Brings kept (entries_at kept.says (take i places)) clock to span lanes now
     → Brings kept (entries_at kept.says (take (i + 1) places)) clock to span lanes now

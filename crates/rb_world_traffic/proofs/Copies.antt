@@ -2,7 +2,6 @@
 use Rattle.std.proofs.Common.{◌≡◌, ◌==◌, ℕ, true, List, [], ◌∷◌, length, refl, arith}
 use Rattle.std.proofs.lemmas.Bool.{eqb-true}
 
--- there are none where their number is 0
 pub none_there : (xs : List ℕ) → (length xs == 0) ≡ true → xs ≡ []
 none_there [] is = refl
 none_there (x ∷ xs) is = let long : length (x ∷ xs) ≡ 0 = eqb-true (length (x ∷ xs)) 0 is in absurd (omega arith)

@@ -15,7 +15,7 @@ use Rattle.rb_world_traffic.specs.Saying.{AreFor, AreOfKind, entries_at, entries
 
 -- Of one sender.
 
--- one entry more is looked at
+-- one more entry is added if it passes
 filter-more : (p : Say → Bool) (says : List Say) (n : ℕ) (s : Say) → slice_get says n ≡ Some s → filter p (take (n + 1) says) ≡ filter p (take n says) ++ cond (p s) (s ∷ []) []
 filter-more p says n s at =
     ap (filter p) (take_more says n s (slice_get_within says n s at)) ∙ filter-append p (take n says) (get_or says n s ∷ [])
@@ -47,7 +47,7 @@ one-number says old places from to n s b at is so_far =
 
 -- Of all senders.
 
--- of the first n senders
+-- the entries of the first `n` senders for the receiver `to`
 abbrev pub entries_of : NodeName → ℕ → List Say → List Say
 entries_of to n says = flat_map (λ j. filter (is_between (name_of (other (kind_of to)) j) to) says) (range_with_len 0 n)
 
@@ -58,7 +58,7 @@ range-more f a (suc n) =
     ap (λ l. f a ++ l) (range-more f (a + 1) n ∙ ap (λ m. flat_map f (range_with_len (a + 1) n) ++ f m) e)
     ∙ sym (append_assoc (f a) (flat_map f (range_with_len (a + 1) n)) (f (a + suc n)))
 
--- one sender more
+-- one more sender adds its entries
 pub one-sender : (to : NodeName) (n : ℕ) (says : List Say)
     → entries_of to (n + 1) says ≡ entries_of to n says ++ filter (is_between (name_of (other (kind_of to)) n) to) says
 one-sender to n says =
@@ -67,7 +67,7 @@ one-sender to n says =
     let z : 0 + n ≡ n = omega arith in
     ap (λ m. entries_of to m says) e ∙ range-more f 0 n ∙ ap (λ m. entries_of to n says ++ f m) z
 
--- the numbers of the entries of the first n senders
+-- `places` are the numbers of the entries of the first `n` senders
 pub record AreSoFar (says : List Say) (to : NodeName) (n : ℕ) (places : List ℕ) : Type 0 where
   pub entries : entries_at says places ≡ entries_of to n says
   pub many : length places ≡ length (entries_of to n says)
@@ -104,7 +104,7 @@ get-front [] y n h = absurd (omega arith)
 get-front (x ∷ xs) y zero h = refl
 get-front (x ∷ xs) y (suc n) h = get-front xs y n (omega arith)
 
--- one receiver more
+-- one more receiver adds its list
 pub kind-more : (says : List Say) (side : Side) (n senders : ℕ) (lists new : List (List ℕ)) (to : NodeName) (list : List ℕ) → AreOfKind says side n senders lists
     → to ≡ name_of side n → AreFor says to senders list → new ≡ lists ++ list ∷ [] → AreOfKind says side (n + 1) senders new
 kind-more says side n senders lists new to list so_far is its after =

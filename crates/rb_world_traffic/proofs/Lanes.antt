@@ -31,7 +31,7 @@ length-list : (side : Side) (coming : ℕ → Coming) (p : ℕ → Bool) (ls : L
 length-list side coming p [] i = refl
 length-list side coming p (l ∷ ls) i = ap suc (length-list side coming p ls (i + 1))
 
--- the lane of number k, at place n
+-- a lane whose node does not pass stays as it is
 get-list : (side : Side) (coming : ℕ → Coming) (p : ℕ → Bool) (ls : List Held) (i n k : ℕ) → k ≡ i + n → p k ≡ false
     → slice_get (map_from i (lane_with side coming p) ls) n ≡ slice_get ls n
 get-list side coming p [] i n k at out = refl
@@ -72,7 +72,7 @@ pub lane-still : (side : Side) (coming : ℕ → Coming) (p : ℕ → Bool) (lan
 lane-still Biu coming p lanes k out = ap (λ o. unwrap_or o (empty_lane 0)) (get-list Biu coming p lanes.bius 0 k k (omega arith) out)
 lane-still Rmu coming p lanes k out = ap (λ o. unwrap_or o (empty_lane 0)) (get-list Rmu coming p lanes.rmus 0 k k (omega arith) out)
 
--- one node more
+-- one more node gets its arrival
 with-more : (side : Side) (coming : ℕ → Coming) (p q : ℕ → Bool) (lanes : Each Held) (k : ℕ) → HasLane lanes (name_of side k) → q k ≡ true → ((m : ℕ) → m ≢ k → p m ≡ q m)
     → with_lane (name_of side k) (with_arrival (coming k) (lane_of lanes (name_of side k))) (lanes_with side coming p lanes) ≡ lanes_with side coming q lanes
 with-more Biu coming p q lanes k h inside same =
@@ -117,7 +117,7 @@ gone-none side coming running lanes = with-none side coming (those_gone running 
 still-out : (running left k : ℕ) → has left k ≡ true → those_gone running left k ≡ false
 still-out running left k is = ap (λ b. has running k && not b) is ∙ and-false (has running k)
 
--- one node more gets what comes to it
+-- one more node gets what comes to it
 pub gone-more : (side : Side) (coming : ℕ → Coming) (running before after k : ℕ) (lanes now : Each Held) → now ≡ lanes_with side coming (those_gone running before) lanes
     → before < 2 ^ 16 → TakesFirst before after k → k < 16 → has running k ≡ true → HasLane lanes (name_of side k)
     → with_lane (name_of side k) (with_arrival (coming k) (lane_of now (name_of side k))) now ≡ lanes_with side coming (those_gone running after) lanes
@@ -130,7 +130,7 @@ gone-more side coming running before after k lanes now so_far fits takes within 
     ∙ with-more side coming (those_gone running before) (those_gone running after) lanes k h gone
     (λ m apart. ap (λ b. has running m && not b) (gone-others before after k m fits takes apart))
 
--- none is left
+-- once no node is left, all running nodes have got what comes to them
 pub gone-all : (side : Side) (coming : ℕ → Coming) (running left : ℕ) (lanes : Each Held) → left ≡ 0
     → lanes_with side coming (those_gone running left) lanes ≡ lanes_with side coming (has running) lanes
 gone-all side coming running left lanes none =

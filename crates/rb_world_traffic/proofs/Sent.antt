@@ -63,7 +63,7 @@ from-zero : (running : ℕ) (ss : List Site) → ((n : ℕ) → (s : Site) → s
     → (n : ℕ) → (s : Site) → slice_get ss n ≡ Some s → has running (0 + n) ≡ s.runs
 from-zero running ss runs n s at = let e : 0 + n ≡ n = omega arith in ap (has running) e ∙ runs n s at
 
--- of a node of this kind and number
+-- a message goes out from the node of this kind and number
 sent-from : (sc : Scenario) (from : NodeName) (frame tick running : ℕ) (m : Message) (lanes : Each Held) (sites : Each Site) → number_of from < count_of (kind_of from) sc.sizes
     → AreRunning (other (kind_of from)) running sites → HoldsSites sc.sizes lanes sites
     → HoldsSites sc.sizes

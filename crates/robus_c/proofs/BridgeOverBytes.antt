@@ -88,7 +88,7 @@ shown_done : (flag : Flag) (status : Status) (sink sink' : Held) → sink ≡ fr
     → (status ≡ code.Done) × (sink'.bytes ≡ page_text flag)
 shown_done flag status sink sink' f ok s = shown_by flag status sink sink' f ok s s.one_of
 
--- all clauses of the call, with a source of this input and an empty sink, of which no call failed
+-- all clauses of the call hold for a source with this input and an empty sink, if no call failed
 pub over_bytes : (words : List (String Global)) (status : Status) (input source source' : List ℕ) (sink sink' : Held) (left left' right right' : FirstDrive)
     → source ≡ input → sink ≡ fresh → sink'.failed ≡ false
     → UsageExactly status words

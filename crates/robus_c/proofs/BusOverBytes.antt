@@ -98,7 +98,7 @@ promised (Show flag) status input source source' sink sink' e f k = tt
 
 -- Answers.
 
--- all clauses of the call, with a source of this input and an empty sink, of which no call failed
+-- all clauses of the call hold for a source with this input and an empty sink, if no call failed
 pub over_bytes : (words : List (String Global)) (status : Status) (input source source' : List ℕ) (sink sink' : Held) (drive drive' : FirstDrive)
     → source ≡ input → sink ≡ fresh → sink'.failed ≡ false
     → UsageExactly status words

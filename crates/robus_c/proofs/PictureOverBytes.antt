@@ -41,7 +41,7 @@ page_given words flag (Draw frames) input output shows draws given = absurd (no_
 page_given words flag (Show other) input output shows also given =
     given ∙ ap page_text (one_flag other flag (ap (λ ws. get_or ws 0 []) (sym also.same ∙ shows.same)))
 
--- all clauses of the call, with a source of this input and an empty sink, of which no call failed
+-- all clauses of the call hold for a source with this input and an empty sink, if no call failed
 pub over_bytes : (words : List (String Global)) (status : Status) (input source source' : List ℕ) (sink sink' : Held)
     → source ≡ input → sink ≡ fresh → sink'.failed ≡ false
     → UsageExactly status words → Untouched words status source source' sink sink'

@@ -4,7 +4,7 @@ use Rattle.rb_base.specs.Sizes.{sync_slot_of}
 use Rattle.rb_plan.proofs.Offsets.{number_below, divided_below, found_stage_1, found_stage_2, found_stage_3, found_none}
 use Rattle.rb_plan.proofs.window.Goals as goal
 
--- the number of the window
+-- the number of the window is less than three times the sync slot
 small : (c : goal.After-from-then-offset-first) → c.args.offset / c.from-then-offset-first.result < 3 * sync_slot_of c.args.shape.now
 small c =
     number_below c.args.shape.now c.args.plan.now c.args.offset c.from-then-offset-first.result c.from-then-offset-first.ensures (omega arith) (omega arith)

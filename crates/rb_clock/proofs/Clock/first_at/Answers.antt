@@ -15,7 +15,6 @@ loop-next-preserved c =
       before = inr (omega arith);
     }
 
--- where the walk stopped
 ends : (c : goal.After-div_ceil) → Ends c.args.self.now c.args.time c.loop-next.from c.loop-next.length
     (drop c.loop-next.next-index (take (length c.as_slice.result.now - 1) (drop 1 c.as_slice.result.now)))
 ends c =

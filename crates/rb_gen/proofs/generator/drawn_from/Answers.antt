@@ -5,7 +5,6 @@ use Rattle.rb_gen.specs.Draws.{next_state, number_of, state_after}
 use Rattle.rb_gen.proofs.Lists.{filled_more}
 use Rattle.rb_gen.proofs.generator.drawn_from.Goals as goal
 
--- the state after one more draw than `draws`
 one_more : (draws seed : ℕ) → next_state (state_after draws seed) ≡ state_after (draws + 1) seed
 unfolding state_after
 one_more draws seed = let same : suc draws ≡ draws + 1 = omega arith in ap (λ n. state_after n seed) same

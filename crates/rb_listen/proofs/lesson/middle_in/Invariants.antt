@@ -4,7 +4,7 @@ use Rattle.rb_rules.specs.Sense.{stamp_in}
 use Rattle.rb_listen.specs.Lessons.{recorded_of}
 use Rattle.rb_listen.proofs.lesson.middle_in.Given as goal
 
--- the stamps of the RMUs so far
+-- the stamps so far are those of the RMUs before `j`
 abbrev pub invariant-loop-j : goal.invariant-loop-j
 invariant-loop-j l = record {
   all : length l.taken ≡ 16;

@@ -40,7 +40,7 @@ returns-clause-most_good c = lit< tt
 pub returns-clause-clock : goal.returns-clause-clock
 returns-clause-clock c = record { start = lit≤ tt; rising = refl; within = refl }
 
--- there is one node of each kind
+-- each kind has one node
 one-each : (me : Side) (i : ℕ) → is_good smallest_bus me i 0 4 ≡ true → i < 1
 one-each Biu i good = ltb-true i 1 (and_first (nat_lt i 1) (is_before (get_or smallest_bus.biu_onsets i None) 0 4) good)
 one-each Rmu i good = ltb-true i 1 (and_first (nat_lt i 1) (is_before (get_or smallest_bus.rmu_onsets i None) 0 4) good)

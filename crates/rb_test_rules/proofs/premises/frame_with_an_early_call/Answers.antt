@@ -31,7 +31,7 @@ unfolding set_of set_below
 eligible Biu j h = good-cases (λ j. is_eligible (first_state two_and_three Biu).far j ≡ true) refl refl j h
 eligible Rmu j h = good-cases (λ j. is_eligible (first_state two_and_three Rmu).far j ≡ true) refl refl j h
 
--- the ticks of the calls
+-- the calls have these ticks
 calls-at : (q : ℕ) → q < 3 → (kind : Side) (j : ℕ) → nat_lt j 2 ≡ true → listens (other kind) Sync (q + 1) ≡ true
     → call_tick_of two_and_three plan (state_through early_call q kind j) (q + 1) ≡ Some (if q == 0 then 366 else (if q == 1 then 382 else 401))
 unfolding set_of set_below state_through close_sync sync_outcome_of
@@ -72,7 +72,7 @@ brings (suc (suc zero)) small Rmu i j here good h =
 brings (suc (suc zero)) small Biu i j here good h = absurd (cc)
 brings (suc (suc (suc q))) small me i j here good h = absurd (omega (arith, small))
 
--- in the other stages nothing comes
+-- nothing comes to a kind in a stage in which it does not listen
 quiet : (q : ℕ) → q < 3 → (me : Side) (i j : ℕ) → nat_lt j 2 ≡ true → listens me Sync (q + 1) ≡ false → early_call.came (q + 1) me i j ≡ Silent
 quiet zero small Biu i j good h = good-cases (λ j. early_call.came 1 Biu i j ≡ Silent) refl refl j good
 quiet zero small Rmu i j good h = absurd (cc)
@@ -139,7 +139,7 @@ most (suc (suc zero)) Rmu i small h good =
 most (suc (suc zero)) Biu i small h good = absurd (cc)
 most (suc (suc (suc q))) me i small h good = absurd (omega (arith, small))
 
--- of a silent source nothing is taken
+-- nothing is taken from a silent source
 nothing : (s : Standing) (expected : ℕ → Bool) (sense : ℕ → Sense) (j : ℕ) → sense j ≡ Silent → taken_of stamp_in s expected sense j ≡ None
 nothing s expected sense j silent = ap (λ x. if expected j && is_eligible s j then stamp_in x else None) silent ∙ go (expected j && is_eligible s j)
   where

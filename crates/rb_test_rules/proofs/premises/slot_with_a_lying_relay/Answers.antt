@@ -84,7 +84,7 @@ most (suc (suc zero)) Biu i late small good = good-cases (λ i. GoodOutnumber (�
 most (suc (suc zero)) Rmu i late small good = good-cases (λ i. GoodOutnumber (λ j. nat_lt j 2) (takes_after lying_relay 2 Rmu i)) (lit< tt) (lit< tt) i good
 most (suc (suc (suc q))) me i late small good = absurd (omega arith)
 
--- of a silent source nothing is taken
+-- nothing is taken from a silent source
 nothing : (s : Standing) (expected : ℕ → Bool) (sense : ℕ → Sense) (j : ℕ) → sense j ≡ Silent → taken_of value_in s expected sense j ≡ None
 nothing s expected sense j silent = ap (λ x. if expected j && is_eligible s j then value_in x else None) silent ∙ go (expected j && is_eligible s j)
   where

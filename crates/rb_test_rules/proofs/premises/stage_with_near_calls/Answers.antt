@@ -51,7 +51,7 @@ late = record {
   most = lit< tt;
 }
 
--- of a silent source nothing is taken
+-- nothing is taken from a silent source
 nothing : (s : Standing) (expected : ℕ → Bool) (sense : ℕ → Sense) (j : ℕ) → sense j ≡ Silent → taken_of stamp_in s expected sense j ≡ None
 nothing s expected sense j silent = ap (λ x. if expected j && is_eligible s j then stamp_in x else None) silent ∙ go (expected j && is_eligible s j)
   where

@@ -34,7 +34,7 @@ returns-then-bytes-le-MOST_BYTES-clause-stamps g c = λ n most up_to.
     (up_to_first n kept c.index-source.result c.args.at c.sole_of.result c.index-source.ensures.range c.self.invariant.all c.sole_of.ensures.at most
     (rw (← c.self.view_is) at up_to))
 
--- any other one
+-- any other arrival spoils its source
 with_spoilt : (g : _) (c : goal.After-insert-else-not-again g) (received : List Received) → HoldsArrivals c.args.self.now received
     → HoldsArrivals (record { came = c.insert.new.self; spoilt = c.insert-else-not-again.new.self; soles = c.self.inside.soles })
     (received ++ record { source = c.args.from; arrival = record { stamp = c.args.at; bytes = c.args.bytes.now } } ∷ [])

@@ -3,7 +3,7 @@ use Rattle.rb_node.specs.Cores.{IsCore, Running}
 use Rattle.rb_listen.proofs.Waking.{passes, passing-is, runs-on}
 use Rattle.rb_listen.proofs.follower.Follower.pass.Goals as goal
 
--- they pass up to the tick that is kept at most
+-- the ticks pass at most up to the tick that is kept
 up-to : (c : goal.After-self) → c.self.inside.had + c.args.ticks ≤ c.self.inside.ahead.tick
 up-to c =
     let n : Running = record { seat = c.self.inside.engine; had = c.self.inside.had; inbox = c.self.inside.inbox; shown = c.self.inside.shown } in

@@ -4,7 +4,7 @@ use Rattle.rb_node.proofs.Between.{passing-is, runs-on}
 use Rattle.rb_node.proofs.Cores.{passes}
 use Rattle.rb_node.proofs.node.Node.pass.Goals as goal
 
--- they pass up to the tick that is kept at most
+-- the ticks pass at most up to the tick that is kept
 up-to : (g : _) (c : goal.After-self g) → c.self.inside.had + c.args.ticks ≤ c.self.inside.ahead.busy.tick
 up-to g c =
     let n : Running = record { seat = c.self.inside.engine; had = c.self.inside.had; inbox = c.self.inside.inbox; shown = c.self.inside.shown } in

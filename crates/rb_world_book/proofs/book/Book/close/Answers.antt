@@ -6,7 +6,7 @@ use Rattle.rb_world_book.specs.Changing.{changed_at, number_in, row_shown, side_
 use Rattle.rb_world_book.proofs.Noting.{same-shown, shows-same}
 use Rattle.rb_world_book.proofs.book.Book.close.Goals as goal
 
--- of the tail nothing is told
+-- nothing is told of the tail
 tail-same : (stage : ℕ) (row : Row) (s : Site) → (stage == 4) ≡ true → with_row stage row s ≡ s
 tail-same stage row s e = ap (λ b. elim b as (λ _. Site) [ true ↦ s | false ↦ record s { row = Some row } ]) e
 
