@@ -11,10 +11,10 @@ from robus import arguments
 from robus.model import BIU, RMU, model
 from robus.tool import Parser
 
-HELP = """Runs COUNT random buses on the second model. Their faulty nodes send anything, at any time, to
-anybody; some choose it as the run goes on, from the states of all nodes. Up to the first breach of
-the fault premise the run is to keep the promise of the bus (docs/PROMISES.md). Prints what was
-tried, or the first run that breaks the promise, with status 1.
+HELP = """Runs COUNT random buses on the second model. Their faulty nodes send anything, at any
+time, to anybody. Some choose it as the run goes on, from the states of all nodes. Up to the first
+breach of the fault premise a run must keep the promise of the bus (docs/PROMISES.md). The tool
+prints what was tried, or the first run that breaks the promise, with status 1.
 
     tools/adversary 1000 7"""
 MOST_RUNS = 10**6
@@ -85,8 +85,8 @@ class Watched(model.World):
 
     def check_deliveries(self, place: tuple[int, int, int], good: list[Node],
                          lines: list[str]) -> None:
-        """All good BIUs deliver the same word of one owner, or none of them delivers; a good owner's
-        word is the one that it offered."""
+        """All good BIUs deliver the same word of one owner, or none of them delivers. A good
+        owner's word is the one that it offered."""
         frame, slot, _ = place
         told = [line.split()[4:] for line in lines if line.startswith("d ")]
         bius = [number for kind, number in good if kind == BIU]

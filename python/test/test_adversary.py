@@ -1,5 +1,5 @@
-"""The second model against adversaries that do anything: the promise holds up to the first breach of
-the fault premise, and the checks find runs in which it does not hold."""
+"""The second model against adversaries that do anything: the promise holds up to the first breach
+of the fault premise, and the checks find runs in which it does not hold."""
 import unittest
 from unittest import mock
 
