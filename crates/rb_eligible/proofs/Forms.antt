@@ -87,7 +87,7 @@ read_twelve : (bus low high : ℕ) → has_form (Two bus) (spelled low high 12) 
 unfolding message_in spelled
 read_twelve bus low high form = ap (λ b. if b then fields_read low high else None) form
 
--- is what is read of bytes that have the form
+-- bytes with the form of a message are read as its fields
 pub message_from : (version : Version) (low high len : ℕ) → len ≤ 12 → has_form version (spelled low high len) ≡ true → message_in version (spelled low high len) ≡ fields_read low high
 message_from One low high len short form =
     let is : len ≡ 11 = sym (length_spelled low high len short) ∙ eqb-true (length (spelled low high len)) 11 (and_first _ _ form) in

@@ -127,7 +127,7 @@ kind_begun kind stages before after good trusted eps begins by_none is = record 
   taken = λ j h. begins.taken_is j h ∙ is.taken j h;
 }
 
--- a stage that is told whole
+-- a kind that knows the earlier stages knows one more that is told whole
 pub kind_passed : {K : Type 0} (kind : Side) (stages : List JudgedStage) (before after : KeptKind) (sets : StageSets K) (s : JudgedStage)
     → Begins before after sets.good sets.trusted sets.taken sets.unlike → AreSetsOf kind sets s
     → KnowsKind kind stages before → KnowsKind kind (s ∷ stages) after

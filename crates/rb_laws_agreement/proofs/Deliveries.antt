@@ -100,7 +100,7 @@ pub line-closed : (sc : Scenario) (m : Moment) (slot stage : ℕ) (ws : Windows 
 unfolding close_on row_of
 line-closed sc m slot stage ws me i st = refl
 
--- what a node's window makes it tell
+-- the row that a node tells of its window
 abbrev pub row_after : Scenario → Moment → Side → ℕ → NodeState → Option Row
 row_after sc m me i st = (go_through sc m (sent_in sc m) me i st (window_in sc m me st)).row
 

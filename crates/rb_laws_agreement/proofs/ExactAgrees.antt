@@ -76,7 +76,7 @@ holds_exact sc hands n m s t slot q c fits none same me i now h owners =
           (sym (good_here sc hands n m s slot q c me i) ∙ from.was.good) holds.knows);
     }
 
--- the owners that it holds
+-- a good node holds the owners that its votes give
 owners-are : (sc : Scenario) (hands : List HandIn) (n : ℕ) (m : Moment) (s : Shared) (slot q : ℕ) (c : Setting sc hands n m s slot q) (me : Side) (i : ℕ) (st now : NodeState)
     → IsGoodNode sc m me i st → after sc m me i st ≡ now → now.owners ≡ owners_after sc.sizes me st slot (q + 1) now.votes
 owners-are sc hands n m s slot q c me i st now here is =
@@ -146,7 +146,7 @@ agree_2 sc hands n m s slot c is =
 
 -- The window of stage 3.
 
--- what all hold after the slot
+-- what all good nodes share after the slot with this value
 pub with_value : Scenario → Shared → ℕ → Heard → Shared
 with_value sc s slot value =
     let values : ℕ → Heard = λ t. if t == slot then value else s.values t in

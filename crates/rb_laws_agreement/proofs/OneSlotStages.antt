@@ -76,7 +76,7 @@ sense-of : (source : NodeState) (slot stage : ℕ) (what : Option Heard) (sense 
 sense-of source slot stage None sense b = b
 sense-of source slot stage (Some value) sense b = record { stamp = b.0; is = b.1 }
 
--- what it says is taken, and is no wrong
+-- a good node takes what a good source says, and finds no wrong in it
 pub record HearsGood (x : Exchange) (q : ℕ) (me : Side) (i j : ℕ) : Type 0 where
   pub takes : takes_after x q me i j ≡ said x q (other me) j
   pub right : does_wrong (expected_at x.sizes me (state_after x q me i) x.slot (q + 1) j) (x.came (q + 1) me i j) ≡ false

@@ -73,7 +73,7 @@ with-state-at (suc k) state (suc i) (p ∷ ps) d h =
 abbrev after_hand : Bool → HandIn → List PortState → List PortState
 after_hand b h ports = if b then with_state h.biu h.state ports else ports
 
--- the states for a BIU with this one, if it is among them
+-- the states in `xs` for BIU `i`, with that of `x` if it is among them
 abbrev more_states : ℕ → ℕ → Bool → HandIn → List HandIn → List ℕ
 more_states i frame b x xs =
     map (λ h. h.state) (cond b (x ∷ filter (λ h. (h.frame == frame) && (h.biu == i)) xs) (filter (λ h. (h.frame == frame) && (h.biu == i)) xs))

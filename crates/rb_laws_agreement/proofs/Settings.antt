@@ -151,7 +151,7 @@ NoneUnlike sc hands n m s slot q c =
     (closing_at sc.sizes me st slot (q + 1) (sense_in sc m slot (q + 1) (windows sc hands n m s slot q c) me i st)) ≡ Some value
     → is_unlike value (taken sc hands n m s slot q c me i st j) ≡ false
 
--- node j is not accused in this state
+-- node `j` is accused neither directly nor by mismatch in this state
 pub record SparesNode (st : NodeState) (j : ℕ) : Type 0 where
   pub direct : has st.far.direct j ≡ false
   pub mismatch : has st.far.mismatch j ≡ false

@@ -131,7 +131,7 @@ book_sync sc m q small at =
     ap (λ k. book_after sc m.frame (slice_get (windows_of_frame sc.sizes sc.plan) k) (rows_of sc m) m.book) at
     ∙ ap (λ w. book_after sc m.frame w (rows_of sc m) m.book) (sync-there sc.sizes sc.plan q ∙ sync_window sc.sizes sc.plan q small)
 
--- the tail leaves it
+-- the tail leaves the book as it is
 pub book_tail : (sc : Scenario) (m : Moment) → m.window ≡ 3 * sync_slot_of sc.sizes + 3 → (next sc m).book ≡ m.book
 unfolding after_window
 book_tail sc m at =

@@ -1,5 +1,5 @@
--- The windows of the sync slot, the tail with them: whoever is good calls where it is expected, and
--- is not accused.
+-- The windows of the sync slot, the tail with them: a good node calls when it is expected, and is
+-- not accused.
 use Rattle.std.proofs.Common.{◌≡◌, ℕ, zero, suc, ◌+◌, ◌-◌, ◌*◌, ◌<◌, ◌≤◌, ◌%◌, ◌==◌, ◌&&◌, nat_le, Bool, true, false, Option, Some, None, is_some, option_map, slice_get, if◌then◌else◌, refl, sym, ◌∙◌, ap, subst, arith, inl, inr}
 use Rattle.std.proofs.lemmas.Bool.{leb-true, lt-ltb}
 use Rattle.rb_base.specs.Nodes.{Side, other, has}

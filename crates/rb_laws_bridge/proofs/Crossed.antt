@@ -79,7 +79,7 @@ all-in P x [] inside all = absurd inside
 all-in P x (y ∷ ys) (inl same) all = subst P same (All-head P y ys all)
 all-in P x (y ∷ ys) (inr later) all = all-in P x ys later (All-tail P y ys all)
 
--- what is known where words cross
+-- what is known if words cross
 record IsCrossing (b : Bridge) (bank : Bank) (frame : ℕ) (owner : ℕ → Option ℕ) : Type 0 where
   pub bridge : IsBridge b
   pub unbroken : AreUnbroken b (frame + 1)

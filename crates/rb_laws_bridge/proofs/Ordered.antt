@@ -27,8 +27,8 @@ use Rattle.rb_laws_bridge.proofs.Later.{past_frame, told-after}
 
 -- What a step adds.
 
--- the second book has this record more, of a frame that is at most this one, and after each earlier
--- one of the run
+-- the second book has one more record, `r`, of a frame that is at most `frame`, and after each
+-- earlier one of the run
 record HasOneMore (sc : Scenario) (frame : ℕ) (a b : Book) (r : Record) : Type 0 where
   pub given : b.given ≡ a.given ++ r ∷ []
   pub upper : frame_told sc.frames r ≤ frame

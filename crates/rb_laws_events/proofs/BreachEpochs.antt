@@ -1,4 +1,4 @@
--- For the law that events are rounds where the premise on faults is broken in a sync slot: whatever
+-- For the law that events are rounds if the premise on faults is broken in a sync slot: whatever
 -- the verdict on the last stage, each good node begins the next frame after all stages of this one.
 use Rattle.std.proofs.Common.{◌≡◌, ℕ, zero, suc, ◌+◌, ◌*◌, ◌<◌, ◌≤◌, nat_le, cond, Bool, true, false, List, [], ◌∷◌, map, filter_map, refl, ap, sym, ◌∙◌, subst, arith, inl, inr, Option, Some, None, option_map, unwrap_or, lit<}
 use Rattle.std.proofs.lemmas.Bool.{cases_lt}

@@ -1,4 +1,4 @@
--- For the law that events are rounds where the premise on faults is broken in a sync slot: whatever
+-- For the law that events are rounds if the premise on faults is broken in a sync slot: whatever
 -- the verdict on a stage of the sync slot, each good node's next frame, as far as it knows when,
 -- begins after all stages of this one.
 use Rattle.std.proofs.Common.{◌≡◌, ℕ, zero, suc, ◌+◌, ◌*◌, ◌<◌, ◌≤◌, true, List, ◌∷◌, [], ap, sym, ◌∙◌, arith, Option, Some, option_map, unwrap_or, lit<}

@@ -1,6 +1,6 @@
--- For the law that events are rounds where the premise on faults is broken in a sync slot: what
--- good nodes send in a stage of the sync slot has come everywhere before any of them closes it,
--- whatever the verdict on it.
+-- For the law that events are rounds if the premise on faults is broken in a sync slot: what good
+-- nodes send in a stage of the sync slot has come everywhere before any of them closes it, whatever
+-- the verdict on it.
 use Rattle.std.proofs.Common.{◌≡◌, ℕ, zero, suc, ◌+◌, ◌*◌, ◌<◌, ◌≤◌, true, false, List, refl, ap, sym, ◌∙◌, subst, arith, Some, slice_get, lit<}
 use Rattle.rb_base.specs.Nodes.{Side, other}
 use Rattle.rb_base.specs.Nodes.Side.{Biu, Rmu}

@@ -1,7 +1,7 @@
--- For the law that events are rounds where the premise on faults is broken in a sync slot: if the
--- run breaks off messages reach only nodes that do not listen in the stage, or have closed it; a
--- node that has told its row of it, and is of the kind heard in it, says nothing up to the last
--- tick of the next window.
+-- For the law that events are rounds if the premise on faults is broken in a sync slot: if the run
+-- breaks off messages reach only nodes that do not listen in the stage, or have closed it; a node
+-- that has told its row of it, and is of the kind heard in it, says nothing up to the last tick of
+-- the next window.
 use Rattle.std.proofs.Common.{◌≡◌, ℕ, ◌+◌, ◌*◌, ◌<◌, ◌≤◌, ◌&&◌, ◌++◌, ◌∷◌, [], ◌⊎◌, Bool, true, false, List, refl, ap, sym, ◌∙◌, subst, arith, inl, inr, Option, Some, None}
 use Rattle.rb_base.specs.Nodes.{Side, other}
 use Rattle.rb_base.specs.Sizes.{Sizes, sync_slot_of}

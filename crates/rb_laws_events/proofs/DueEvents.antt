@@ -93,7 +93,7 @@ least-of (x ∷ xs) t e = by (least-of xs) (least xs) refl e
 
 -- What is ready at a node.
 
--- what it is that this may be taken at a node at time t, if nothing is pending there before it
+-- the event may be taken at the node at time `t`, if nothing is pending there before
 abbrev pub IsReady : ℕ → Site → Pending → Type 0
 IsReady t s (Tick k) = (a : Timed) × ((s.ahead ≡ Some a) × ((a.tick ≡ k) × ((a.time ≡ t) × Every (λ c. t < c.time) s.coming)))
 IsReady t s (Arrival n c) = StandsAt n c s.coming × (c.time ≡ t)
@@ -264,7 +264,7 @@ all-due sc w known = due-by sc w known (w.book.ended || needs_no_event sc w.book
 pub due-is : (sc : Scenario) (w : World) (i : ℕ) (d : Due) → ComesFromNodes sc w → slice_get (due_of sc w) i ≡ Some d → IsDue w d
 due-is sc w i d known e = every-at (IsDue w) (due_of sc w) i d e (all-due sc w known)
 
--- Something is due where something is pending.
+-- Something is due if something is pending.
 
 -- the least of times above t is above t
 least-above : (t u : ℕ) (xs : List ℕ) → Every (λ v. t < v) xs → least xs ≡ Some u → t < u

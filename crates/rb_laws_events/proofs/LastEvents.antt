@@ -1,7 +1,7 @@
--- For the law that events are rounds where the premise on faults is broken in a sync slot: a due
--- tick of a node of a world in which the run breaks off with the last stage of the sync slot. After
--- it the node has told its row, and what it says comes to those that listen in the stage after
--- their last tick of it.
+-- For the law that events are rounds if the premise on faults is broken in a sync slot: a due tick
+-- of a node of a world in which the run breaks off with the last stage of the sync slot. After it
+-- the node has told its row, and what it says comes to those that listen in the stage after their
+-- last tick of it.
 use Rattle.std.proofs.Common.{◌≡◌, ℕ, ◌+◌, ◌*◌, ◌-◌, ◌<◌, ◌≤◌, ◌==◌, Bool, true, false, List, refl, ap, sym, ◌∙◌, subst, arith, inl, inr, Option, Some, None, slice_get, lit<}
 use Rattle.std.proofs.lemmas.Bool.{cases_lt, true≢false}
 use Rattle.std.proofs.lemmas.Bool.Decides.{nat_tests}

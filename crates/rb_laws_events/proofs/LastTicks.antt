@@ -1,6 +1,6 @@
--- For the law that events are rounds where the premise on faults is broken in a sync slot: a tick
--- of a node that has told its row of the last stage of the sync slot, and the tick with which a
--- node tells it.
+-- For the law that events are rounds if the premise on faults is broken in a sync slot: a tick of a
+-- node that has told its row of the last stage of the sync slot, and the tick with which a node
+-- tells it.
 use Rattle.std.proofs.Common.{◌≡◌, ℕ, zero, suc, ◌+◌, ◌-◌, ◌^◌, ◌<◌, ◌≤◌, ◌==◌, ◌⊎◌, Bool, true, false, List, [], refl, ap, sym, ◌∙◌, subst, arith, Option, Some, None, option_map}
 use Rattle.rb_base.specs.Nodes.{Side}
 use Rattle.rb_base.specs.Sizes.{Sizes}

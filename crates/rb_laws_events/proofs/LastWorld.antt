@@ -1,6 +1,6 @@
--- For the law that events are rounds where the premise on faults is broken in a sync slot: a due
--- event keeps all nodes of a world in which the run breaks off with the last stage of the sync
--- slot: they wait for its last tick, or have told their rows.
+-- For the law that events are rounds if the premise on faults is broken in a sync slot: a due event
+-- keeps all nodes of a world in which the run breaks off with the last stage of the sync slot: they
+-- wait for its last tick, or have told their rows.
 use Rattle.std.proofs.Common.{◌≡◌, ℕ, ◌+◌, ◌*◌, ◌<◌, ◌≤◌, ◌⊎◌, Bool, true, false, List, [], append-nil, refl, sym, ◌∙◌, subst, arith, inl, inr, Option, Some, None, slice_get, lit<}
 use Rattle.rb_base.specs.Nodes.{Side}
 use Rattle.rb_base.specs.Sizes.{sync_slot_of}

@@ -208,7 +208,7 @@ says-given sc ports me i st n word c room stands below words =
     (sym (given-is sc ports me i c (state_in sc.sizes sc.plan me i st n word c.had) below stands.now))
     (says-so sc ports me i st n word c.had room stands.window stands.keeps stands.at words)
 
--- a tick that is not the window's last
+-- a tick that is not the window's last leaves the window open
 pub acts-open : (sc : Scenario) (ports : List PortState) (me : Side) (i : ℕ) (st : NodeState) (n word : ℕ) (c : Core) → HasRoom sc.plan
     → IsInWindow sc.sizes sc.plan me i st n word c.had c.state → c.had < 2 ^ 31 → HasWord sc ports me i st n word
     → c.had < st.epoch + last_of sc.sizes sc.plan me st n

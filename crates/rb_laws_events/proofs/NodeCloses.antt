@@ -1,5 +1,5 @@
 -- For the law that events are rounds: at the last tick of its window a node does what the rounds do
--- with it, and goes on in the next window, or stops where it is not good any more.
+-- with it, and goes on in the next window, or stops if it is not good any more.
 use Rattle.std.proofs.Common.{◌≡◌, ℕ, ◌+◌, ◌<◌, ◌≤◌, ◌==◌, ◌&&◌, ◌⊎◌, nat_le, nat_lt, Bool, true, false, cond, List, [], ◌∷◌, ◌++◌, filter, length, refl, ap, sym, ◌∙◌, subst, arith, inl, inr, Option, Some, None, option_map, option_to_list}
 use Rattle.std.proofs.lemmas.Bool.Decides.{nat_tests}
 use Rattle.std.proofs.lemmas.List.{append-nil}
@@ -119,7 +119,7 @@ after-close sc ports me i x c span good s closed begins is =
     ∙ ap (λ o. enter sc me i o s3) begins
     ∙ ap (λ b. elim b as (λ _. Site) [ true ↦ await sc me i (says_in sc me i span) s3 | false ↦ stop s3 ]) is
 
--- the span that starts where the node stands
+-- the span that begins at the first tick of a window is that of the window
 pub span-begins : (sizes : Sizes) (plan : Plan) (me : Side) (c st : NodeState) (n k : ℕ) → state_at sizes plan me c k ≡ st
     → window_here sizes plan me st k ≡ window_numbered sizes plan me st n → k ≡ st.epoch + first_of sizes plan me st n
     → span_from sizes plan me c k ≡ Some (span_of st (window_numbered sizes plan me st n))

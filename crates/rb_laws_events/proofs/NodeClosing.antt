@@ -71,7 +71,7 @@ pub record KnownInRounds (sc : Scenario) (hands : List HandIn) (me : Side) (i p 
   pub knows : Knows sc.sizes me (moment sc hands p).window st
   pub lengths : HasLengths (shortest_of sc.plan) (longest_of sc.plan) (clock_of sc me i)
 
--- the node after it, in the moment where it stands then
+-- after the close the node stands in its next moment, `q`
 pub record GoesOn (sc : Scenario) (hands : List HandIn) (sent : Side → ℕ → ℕ → Bool) (t : ℕ) (me : Side) (i q : ℕ) (s : Site) : Type 0 where
   pub st : NodeState
   pub a : Timed

@@ -142,7 +142,7 @@ no-span sizes plan me i st n word k c room stands after =
     below : (a b : ℕ) → a < b → (a == b) ≡ false
     below a b h = grind (arith, nat_tests)
 
--- a node after a tick that is not the last of its window
+-- after a tick that is not the last of its window a node stays in the window
 pub record StaysOpen (sc : Scenario) (hands : List HandIn) (sent : Side → ℕ → ℕ → Bool) (t : ℕ) (ports : List PortState) (me : Side) (i p : ℕ) (s : Site) (st : NodeState) (k : ℕ) (x : Act) : Type 0 where
   pub a : Timed
   pub site : after_act sc ports me i x s ≡ record s { core = x.core; ahead = Some a; coming = s.coming; begun = begun_after sc ports me i x.epoch s.begun }

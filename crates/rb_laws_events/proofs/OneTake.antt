@@ -113,7 +113,7 @@ is-paced sc now at w h = record {
     not-complete true b e h = cc
     not-complete false b e h = h
 
--- what waits in a world, where the next record needs an event
+-- what waits in a world if the next record needs an event
 pub world-waits : (sc : Scenario) (now : ℕ) (at : Side → ℕ → ℕ) (w : World) → WorldInRounds sc now at w → w.book.ended ≡ false → needs_no_event sc w.book.upcoming ≡ false
     → (n : ℕ) × WaitsAt sc w.hands at w.sites w.book n
 world-waits sc now at w h going needs =

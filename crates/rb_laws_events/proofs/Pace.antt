@@ -43,7 +43,7 @@ IsWithin sizes (Begin frame) p = p ≤ number_of sizes (Begin frame)
 IsWithin sizes (Stage place) p = p ≤ number_of sizes (after_stage sizes place)
 IsWithin sizes End p = ⊤
 
--- what comes after a stage
+-- the milestone after a stage
 abbrev pub then_stage : Sizes → Place → Bool → Bool → Milestone
 then_stage sizes place early last =
     if early then Stage (record place { stage = place.stage + 1 })

@@ -140,7 +140,7 @@ none-now j t (c ∷ cs) e =
     let go : (b : Bool) → (c.from == j) ≡ b → is_now j t c ≡ false = λ b. elim b as (λ b. (c.from == j) ≡ b → is_now j t c ≡ false) [ true ↦ λ e. rw (e, no) refl | false ↦ λ e. rw e refl ] in
     ap (λ b. cond b (c ∷ filter (is_now j t) cs) (filter (is_now j t) cs)) (go (c.from == j) refl) ∙ none-now j t cs e.1
 
--- the core's inbox takes the arrival with the same stamp, where that is the number of its next tick
+-- the core's inbox takes the arrival with the same stamp if that is the number of its next tick
 map-last : (f : Coming → ℕ × Arrival) (xs : List Coming) (x : Coming) → map f (xs ++ x ∷ []) ≡ map f xs ++ f x ∷ []
 map-last f [] x = refl
 map-last f (y ∷ ys) x = ap (λ l. f y ∷ l) (map-last f ys x)

@@ -97,7 +97,7 @@ differs a b (inr h) = grind (arith, nat_tests)
 other-than : (a b : ℕ) → (a == b) ≡ false → (a < b) ⊎ (b < a)
 other-than a b h = elim (cases_lt a b) [ inl lt ↦ inl lt | inr ge ↦ inr (grind (arith, nat_tests)) ]
 
--- what has been sent in an earlier moment, in this one, in a later one
+-- whether a node has sent what it sends in an earlier moment, in this one, in a later one
 pub sent-earlier : (o : Option Sending) (s : Sending) (q p : ℕ) (a : Option Timed) → o ≡ Some s → p < q → has_sent o q a p ≡ true
 sent-earlier None s q p a e h = cc
 sent-earlier (Some x) s q p a e h = ap (λ b. b || ((p == q) && is_past x.tick a)) (lt-ltb p q h)

@@ -306,7 +306,7 @@ next-hands sc way w = by (comes_so sc way w.book.upcoming && is_complete sc w.si
     by true = refl
     by false = refl
 
--- whatever is settled
+-- whatever is settled, the book is one of a moment
 pub all-settled : (sc : Scenario) (way : Way) (n : ℕ) (w : World) (hands : List HandIn) (sites : Each Site) → HasTicks sc.plan → w.hands ≡ hands → w.sites ≡ sites
     → TellRounds sc hands sites → IsOfMoment sc hands w.book → IsOfMoment sc hands (settle sc way n w).book
 all-settled sc way zero w hands sites ticks hands_are sites_are tell is = is

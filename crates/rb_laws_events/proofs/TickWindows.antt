@@ -193,7 +193,7 @@ here-is sizes plan me st n k ticks h in_it =
           tail-here sizes plan me st k ticks from ∙ ap (window_numbered sizes plan me st) e
     ]
 
--- a tick of a window is the last that the core counts to it, if it is its last
+-- a tick of a window is the last that the core counts to it if and only if it is the window's last
 pub last-is : (sizes : Sizes) (plan : Plan) (me : Side) (st : NodeState) (n k : ℕ) → HasTicks plan → n ≤ stages_in sizes → IsTickIn sizes plan me st n k
     → is_last sizes plan me st k ≡ (k == st.epoch + last_of sizes plan me st n)
 last-is sizes plan me st n k ticks h in_it = ap (λ (w : Window). k == st.epoch + w.last) (here-is sizes plan me st n k ticks h in_it)

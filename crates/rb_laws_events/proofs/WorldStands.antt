@@ -32,7 +32,7 @@ ahead_in sites j = option_and_then (λ (s : Site). s.ahead) (slice_get sites j)
 abbrev pub sent_by : Scenario → List HandIn → (Side → ℕ → ℕ) → Each Site → Side → ℕ → ℕ → Bool
 sent_by sc hands at sites side j p = has_sent (sending_of sc (moment sc hands p) side j) (at side j) (ahead_in (of_kind side sites) j) p
 
--- a node that runs
+-- the node runs and stands in moment `p`
 pub record IsUp (sc : Scenario) (hands : List HandIn) (sent : Side → ℕ → ℕ → Bool) (now : ℕ) (me : Side) (i p : ℕ) (s : Site) : Type 0 where
   pub st : NodeState
   pub a : Timed

@@ -37,7 +37,7 @@ use Rattle.rb_laws_listener_follows.proofs.EpochKnown.{AmongThem, among}
 use Rattle.rb_laws_listener_follows.proofs.EpochsRise.{AtTick, WaitsFirst, at_tick, none_earlier, quiet_before}
 use Rattle.rb_laws_listener_follows.proofs.FollowerRuns.{acts_by}
 
--- what is delivered is of a slot and its stage 2
+-- the delivery is of this frame and slot, and the stage is 2
 record IsOfSlot (st : NodeState) (slot stage : ℕ) (d : Delivery) : Type 0 where
   pub frame : d.frame ≡ st.frame
   pub slot_is : d.slot ≡ slot

@@ -67,7 +67,7 @@ pub record BeginsFirst (sc : Scenario) (hands : List HandIn) (ear : Ear) (n epoc
   pub unknown : new_epoch_of sc.plan Biu st ≡ None
   pub tracks : Tracks sc (moment sc hands n) st
 
--- what it senses in the window, and what it makes of it
+-- what the listener senses in the first window of its first frame
 abbrev pub sense_first : Scenario → Ear → ℕ → NodeState → ℕ → Sense
 sense_first sc ear epoch st j = sense_of (expect_of sc.sizes sc.plan.version st 0 1) (of_source (collected sc.sizes ear.heard (suc epoch) (sc.plan.l - 1)) j)
 

@@ -494,7 +494,7 @@ not_faulty sc hands ear n epoch low s b below c good faulty k stamp in_it =
 
 -- ---- nothing else
 
--- what comes of an RMU that stays good is what it sends in this window
+-- what comes is what a good RMU sends in this window
 pub record IsOwn (sc : Scenario) (hands : List HandIn) (ear : Ear) (n : ℕ) (c : Coming) : Type 0 where
   pub good : IsOfGood sc hands ear c
   pub here : good.n ≡ n

@@ -52,7 +52,7 @@ pub record NextBegins (sc : Scenario) (hands : List HandIn) (ear : Ear) (frame n
       → IsGoodNode sc (moment sc hands n) me i st → IsBetween later (later + sc.plan.p) (time_of (clock_of sc me i) st.epoch)
   pub listener : IsBetween later (later + sc.plan.p) (time_of ear.clock next_epoch)
 
--- what is sent in it comes after the listener's first tick of it
+-- what is sent in the next frame comes after the listener's first tick of that frame
 sent_late : (later p f h u d least x t : ℕ) → p + d * (f + h) ≤ h * u + least → later + h * u + least ≤ x → x ≤ t → t < later + p → ⊥
 sent_late later p f h u d least x t c1 sent reached at = absurd (omega (arith, c1, sent, reached, at))
 

@@ -24,7 +24,7 @@ use Rattle.rb_laws_agreement.proofs.SyncAgrees.{SyncSetting, agree_sync, book_sy
 use Rattle.rb_laws_agreement.proofs.SyncWindows.{tail_keeps_epoch}
 use Rattle.rb_laws_synchrony.proofs.SyncSteps.{IsPassedStage, passed_stage}
 
--- a stage of the sync slot that passes
+-- moment `k` is before a stage of the sync slot that passes
 pub record StageIs (sc : Scenario) (hands : List HandIn) (k : ℕ) (s : Shared) (q : ℕ) : Type 0 where
   pub next_is : next sc (moment sc hands k) ≡ moment sc hands (suc k)
   pub through : IsPassed sc (record { frame = (moment sc hands k).frame; slot = sync_slot_of sc.sizes; stage = q + 1 }) (rows_of sc (moment sc hands k)) (moment sc hands k).book

@@ -54,7 +54,7 @@ use Rattle.rb_laws_listener_learns.proofs.Within.{IsExactAt}
 
 -- Moments of the learned frame.
 
--- the run comes to this moment, and it is of the frame
+-- the run comes to moment `n`, and it is of the frame
 pub record IsIn (sc : Scenario) (hands : List HandIn) (frame n : ℕ) : Type 0 where
   pub running : IsRunning (moment sc hands n)
   pub frame_is : (moment sc hands n).frame ≡ frame
@@ -135,7 +135,7 @@ told-sender Biu sizes i st h t =
 told-sender Rmu sizes i st h t =
     ap (sender_in (trusted_of Biu Rmu st) (trusted_of Rmu Rmu st) st.owners) (diagnosis-role sizes i h) ∙ ap (λ b. if b then Node i else Nobody) t
 
--- what an RMU says there
+-- RMU `j` says some value in the stage in which the trust in node `i` is heard
 pub record SaysSome (sizes : Sizes) (kind : Side) (i j : ℕ) (st : NodeState) (word : ℕ) : Type 0 where
   pub value : Heard
   pub is : says sizes Rmu j st (told_in kind sizes i) (told_stage kind + 1) word ≡ Some value
@@ -151,7 +151,7 @@ says-some sizes Rmu i j st word h t =
 
 -- What is known.
 
--- an RMU that is good in the whole run
+-- some RMU is good in the whole run
 pub record SomeGood (sc : Scenario) (hands : List HandIn) : Type 0 where
   pub j : ℕ
   pub good : is_always_good sc hands j ≡ true

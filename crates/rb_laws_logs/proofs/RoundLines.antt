@@ -157,7 +157,7 @@ pub record AreTold (sc : Scenario) (name : NodeName) (p : ℕ) : Type 0 where
   pub lines : lines_after name 0 (moment sc [] p).book.given ++ waiting sc name (moment sc [] p) ≡ told_up_to sc name p
   pub newest : newest_after 0 (moment sc [] p).book.given ≡ (moment sc [] p).frame
 
--- what a step adds to the records
+-- a step adds what the node tells to the records, or to what waits for one
 pub record Adds (sc : Scenario) (name : NodeName) (m next : Moment) : Type 0 where
   pub more : List Record
   pub given : next.book.given ≡ m.book.given ++ more
@@ -237,7 +237,7 @@ counts sizes n = record {
     and-true true = refl
     and-true false = refl
 
--- what a stage adds
+-- a stage adds what its window told
 stage-adds : (sc : Scenario) (name : NodeName) (p : ℕ) → HasState sc name (moment sc [] p) → (moment sc [] p).window < stages_in sc.sizes
     → (moment sc [] (suc p)).book.ended ≡ false → newest_after 0 (moment sc [] p).book.given ≡ (moment sc [] p).frame
     → Adds sc name (moment sc [] p) (moment sc [] (suc p))

@@ -89,7 +89,7 @@ begin-stays sizes me a b k h =
     ap (λ t. elim (t == k) as (λ _. Option Epoch) [ true ↦ Some (epoch_of sizes me b) | false ↦ None ]) h.epoch
     ∙ ap (λ e. elim (a.epoch == k) as (λ _. Option Epoch) [ true ↦ Some e | false ↦ None ]) (epoch-stays sizes me a b h)
 
--- no frame begins later
+-- no frame begins with a tick after the epoch
 none-begins : (sizes : Sizes) (me : Side) (st : NodeState) (k : ℕ) → st.epoch < k → epoch_at sizes me st k ≡ None
 none-begins sizes me st k h = ap (λ b. elim b as (λ _. Option Epoch) [ true ↦ Some (epoch_of sizes me st) | false ↦ None ]) (less-differs st.epoch k h)
 
@@ -274,7 +274,7 @@ from-last sc name p ticks good inside h =
     past-exact : (n s : ℕ) → 3 * s ≤ n → (nat_lt n (3 * s) && (n % 3 == 1)) ≡ false
     past-exact n s h = ap (λ b. b && (n % 3 == 1)) (le-ltb n (3 * s) h)
 
--- the place of one that has closed the window of moment p
+-- a node that has closed the window of moment `p` has its place in moment `q`
 closes-to : (sc : Scenario) (name : NodeName) (p q : ℕ) → HasTicks sc.plan → IsGoodThroughout sc name → (moment sc [] p).frame < sc.frames → (moment sc [] p).window ≤ stages_in sc.sizes
     → (q ≡ next_stage sc.sizes (moment sc [] p) p) ⊎ ((q ≡ suc p) × ((moment sc [] q).window ≡ stages_in sc.sizes)) → Place sc name p q
 closes-to sc name p q ticks good inside within (inr tail) =
@@ -301,7 +301,7 @@ closes-to sc name p q ticks good inside within (inl stage) =
       ]
     ]
 
--- the node is good there
+-- the node is good in its place
 good-there : (sc : Scenario) (name : NodeName) (p q : ℕ) → IsGoodThroughout sc name → (moment sc [] p).frame < sc.frames → Place sc name p q
     → is_good_at sc (moment sc [] q) (kind_of name) (index_of name) ≡ true
 good-there sc name p q good inside (Inside same some within told) = good-inside sc name q good (omega (arith, same, inside))
@@ -310,7 +310,7 @@ good-there sc name p q good inside (Next frame first told) =
     ap (λ w. is_good sc (kind_of name) (index_of name) (moment sc [] q).frame (slot_numbered sc.sizes w)) first
     ∙ ap (is_good sc (kind_of name) (index_of name) (moment sc [] q).frame) z ∙ good-begin sc name (moment sc [] q).frame good (omega (arith, frame, inside))
 
--- what it has told by then
+-- the text and the frame that begins are all that the node tells between moments `p` and `q`
 pub record ToldThere (sc : Scenario) (name : NodeName) (p q : ℕ) (text : List ℕ) (begins : Option Epoch) : Type 0 where
   pub told : told_up_to sc name p ++ (text ++ epoch_lines name begins) ≡ told_up_to sc name q
   pub count : (moment sc [] p).frame + frames_with begins ≡ (moment sc [] q).frame

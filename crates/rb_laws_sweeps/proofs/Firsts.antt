@@ -94,7 +94,7 @@ first-is (suc n) c (x ∷ xs) s all before =
     ap (λ o. Some (first_with x o)) (first-is n c xs s all.1 (λ m d lt at. before (suc m) d (omega (arith, lt)) at))
     ∙ ap (λ b. Some (pick x q b)) (before 0 x (omega arith) refl)
 
--- more that comes later changes nothing
+-- arrivals that come later leave the first one
 pub first-append : (cs more : List Coming) (p : Placed) → first_of cs ≡ Some p → Every (λ d. p.coming.time < d.time) more → first_of (cs ++ more) ≡ Some p
 unfolding first_of
 first-append [] more p e later = cc

@@ -34,7 +34,7 @@ use Rattle.rb_laws_synchrony.proofs.TakenCalls.{is_set}
 use Rattle.rb_laws_synchrony.proofs.TimelyWindows.{good_here}
 use Rattle.rb_laws_synchrony.proofs.Times.{Steady, lawful_fits, plan_fits}
 
--- ---- numbers: the next frame's first ticks come from `least + z * u + min (c * u) dmin` on, where
+-- ---- numbers: the next frame's first ticks come from `least + z * u + min (c * u) dmin` on, if
 -- the calls of stage 3 do from `least` on
 
 -- a BIU begins it z + c ticks after the call

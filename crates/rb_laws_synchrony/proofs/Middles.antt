@@ -13,7 +13,7 @@ use Rattle.rb_rules.proofs.Votes.{length_present}
 
 -- ---- counts
 
--- what is there passes
+-- there is a number, and it passes
 abbrev pub passes : (ℕ → Bool) → Option ℕ → Bool
 passes p None = false
 passes p (Some x) = p x
@@ -47,7 +47,7 @@ pub record HasStamp (low high : ℕ) (o : Option ℕ) : Type 0 where
 not_passed : (p : ℕ → Bool) (low high : ℕ) (o : Option ℕ) → ((y : ℕ) → IsBetween low high y → p y ≡ true → ⊥) → HasStamp low high o → passes p o ≡ true → ⊥
 not_passed p low high o fails has pass = fails has.stamp has.between (sym (ap (passes p) has.is) ∙ pass)
 
--- fewer than half can be up to a number below all good ones
+-- only sources that are not good can have a number below those of all good ones
 few_up_to : (f : ℕ → Option ℕ) (good : ℕ → Bool) (low high m : ℕ) → ((j : ℕ) → good j ≡ true → HasStamp low high (f j)) → m < low → (js : List ℕ)
     → count_if (λ j. passes (λ x. nat_le x m) (f j)) js ≤ count_if (λ j. not (good j) && is_some (f j)) js
 few_up_to f good low high m has less js =
@@ -148,7 +148,7 @@ last_or_before i n lt = elim (cases_lt i n) [ inl before ↦ inl before | inr ge
 Near : (ℕ → Bool) → (ℕ → ℕ) → ℕ → Type 0
 Near good time spread = (i j : ℕ) → good i ≡ true → good j ≡ true → time i ≤ time j + spread
 
--- the nth is good, and no later than the least so far
+-- if number `n` is good, and no later than all good ones before it, its time is the least
 new_least : (good : ℕ → Bool) (time : ℕ → ℕ) (spread n : ℕ) → Near good time spread → good n ≡ true
     → ((i : ℕ) → i < n → good i ≡ true → time n ≤ time i) → HasLeast good time spread (suc n)
 unfolding Near

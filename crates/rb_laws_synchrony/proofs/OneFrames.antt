@@ -54,7 +54,6 @@ to-3 x low = to-2 x low + x.plan.dmax + tick_of x.plan + x.plan.v * tick_of x.pl
 some-offset : (x : Frame) (low : ℕ) → IsFrame x low → 1 ≤ offset_of x
 some-offset x low is = f0-some x.sizes.bius x.sizes.rmus x.sizes.data_slots x.plan.l is.shape.some_biu is.plan.l.0
 
--- a number that is no more with a further one added
 less-of : (a b c : ℕ) → a + b ≤ c → a ≤ c
 less-of a b c h = omega arith
 

@@ -77,7 +77,7 @@ pub record IsSet (sc : Scenario) (m : Moment) (slot stage : ℕ) : Type 0 where
   pub slot_is : slot_numbered sc.sizes m.window ≡ slot
   pub frames : (me : Side) (i : ℕ) (st : NodeState) → IsGoodNode sc m me i st → st.frame ≡ m.frame
 
--- what good nodes send in it is sent at their own ticks of it, and between two times
+-- what good nodes send in the window is sent at their own ticks of it, and between two times
 pub record IsSentBetween (sc : Scenario) (m : Moment) (slot stage : ℕ) (ws : Windows sc m slot stage) (low high : ℕ) : Type 0 where
   pub own : (me : Side) (i : ℕ) (st : NodeState) → IsGoodNode sc m me i st → (s : Sending)
       → sending sc.sizes sc.plan me i st slot stage (word_at sc m slot i) ≡ Some s → IsTickOf (span_of st (own_window sc m slot stage ws me st)) s.tick

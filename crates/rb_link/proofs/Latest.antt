@@ -13,7 +13,7 @@ use Rattle.rb_link.specs.Pairs.{AreLatest, IsLatest, delay_or, is_between, recei
 use Rattle.rb_link.specs.Rows.{PlaceFits, latest_has, rule_has}
 use Rattle.rb_link.proofs.LastRules.{last_of_all}
 
--- the first that passes one test, and the other too, is the first that passes both
+-- if the first rule that passes the first test passes the second, it is the first that passes both
 find_both : (first second : Rule → Bool) (rules : List Rule) (r : Rule) → find first rules ≡ Some r → second r ≡ true
     → find (λ x. first x && second x) rules ≡ Some r
 find_both first second [] r is both = let never : None ≡ Some r = is in absurd cc

@@ -137,7 +137,7 @@ starts_at (suc n) k rules lt =
           ∙ ap (λ i. length (places_below i rules)) (sym last)
     ]
 
--- what stands between two parts
+-- the part between the first one and the rest is the middle one
 between : (first here rest : List ℕ) → slice_range (first ++ (here ++ rest)) (length first) (length (first ++ here)) ≡ here
 between first here rest =
     let many : length (first ++ here) - length first ≡ length here = omega (arith, length-append first here) in

@@ -78,7 +78,7 @@ arrive-following sizes plan st s n m from bytes l e sound cores at =
 
 -- Ticks.
 
--- what holds after a tick
+-- after the tick the listener is in the stage `st`, and it tells `h`
 pub record Heeds (sizes : Sizes) (plan : Plan) (l : Listening) (st : Stage) (s : Search) (n : Running) (h : Heed) : Type 0 where
   pub stands : IsListeningIn st s n (heed sizes plan l).listening
   pub heed : h ≡ (heed sizes plan l).heed

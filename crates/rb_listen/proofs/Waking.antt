@@ -216,7 +216,7 @@ turning-same v k h = by (is_tick (new_epoch_of v.plan Biu v.state) k) refl
         cc
     by false e = no-turn v Biu k e
 
--- an act by whether the window is closed and whether a frame begins
+-- an act that closes no window and begins no frame does nothing
 no-act : (sizes : Sizes) (plan : Plan) (c : Core) → (c.state.epoch == c.had) ≡ false → is_last sizes plan Biu c.state c.had ≡ false
     → act_on sizes plan Biu 16 c c.state None c.state ≡ nothing c
 unfolding act_on

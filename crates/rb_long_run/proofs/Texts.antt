@@ -17,12 +17,12 @@ use Rattle.rb_run.specs.Reports.{newest_after}
 use Rattle.rb_run.specs.Turns.{records_in}
 use Rattle.rb_run.proofs.Texts.{records-more}
 
--- the deliveries of one record more
+-- the lines of a record, if there is one
 abbrev lines-of : Option Record → List SlotLine
 lines-of None = []
 lines-of (Some r) = lines_in r
 
--- the text of records after others
+-- the text of two parts of the records is that of the first, and then that of the second
 pub text-of-parts : (n : ℕ) (past : List SlotLine) (xs ys : List Record)
     → letters_after n past (xs ++ ys) ≡ letters_after n past xs ++ letters_after (newest_after n xs) (past ++ deliveries_in xs) ys
 text-of-parts n past [] ys = ap (λ lines. letters_after n lines ys) (sym (append-nil past))

@@ -26,7 +26,7 @@ told-join before mid after xs ys bytes more a b = record {
 pub passes-none : (log : Tally) (v : List ℕ) (h : Option (List ℕ)) → PassesNext log log v v [] h h
 passes-none log v h = record { bytes = []; told = told-none log; passed = record { out = []; split = append-nil v; text = appends_none h } }
 
--- bytes behind others, which are cut elsewhere
+-- two parts of bytes that were cut at other places are one part
 shift : (v w u x y out more : List ℕ) → v ++ x ≡ out ++ w → w ++ y ≡ more ++ u → v ++ (x ++ y) ≡ (out ++ more) ++ u
 shift v w u x y out more first second =
     sym (append_assoc v x y) ∙ ap (λ zs. zs ++ y) first ∙ append_assoc out w y ∙ ap (λ zs. out ++ zs) second ∙ sym (append_assoc out more u)
@@ -44,7 +44,7 @@ passes-join log mid later v w u xs ys h i j first second = record {
   };
 }
 
--- a write failed at those that came later
+-- if a write failed at the later events, all events were passed on in part
 pub passes-then-part : (log mid : Tally) (v w : List ℕ) (xs ys : List Event) (h i j : Option (List ℕ)) → PassesNext log mid v w xs h i → PassesPartOf mid w ys i j
     → PassesPartOf log v (xs ++ ys) h j
 passes-then-part log mid v w xs ys h i j first part others =

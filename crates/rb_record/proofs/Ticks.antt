@@ -61,7 +61,7 @@ sent-core sc me side j frame x i s = by (same_side side (other me) && s.runs)
     by true = refl
     by false = refl
 
--- what a site was before an event that gives its node this many ticks
+-- before the event the site had `more` ticks fewer
 pub record WasBefore (sites : Each Site) (me : Side) (i more : ℕ) (z : Site) : Type 0 where
   pub s : Site
   pub there : slice_get (of_kind me sites) i ≡ Some s

@@ -15,7 +15,7 @@ use Rattle.rb_report.specs.Report.{end_text}
 use Rattle.rb_laws_logs.specs.Replays.{act_lines, frames_in, frames_with}
 use Rattle.rb_replay.specs.Replaying.{text_after}
 
--- the text of an act comes first
+-- the text of an act comes before that of the acts behind it
 pub text-step : (name : NodeName) (frames : ℕ) (x : Act) (xs : List Act)
     → text_after name frames (x ∷ xs) ≡ act_lines name x ++ text_after name (frames + frames_with x.epoch) xs
 text-step name frames x xs =

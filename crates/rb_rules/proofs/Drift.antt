@@ -29,7 +29,7 @@ pub times_rise_to : (clock : Timeline) (tick later : ℕ) → tick ≤ later →
 times_rise_to clock tick later le =
     let e : tick + (later - tick) ≡ later = omega arith in rw e at (times_rise clock tick (later - tick))
 
--- if each tick takes some time, they are later
+-- later ticks of a clock that moves are later in time
 pub times_rise_strictly : (clock : Timeline) → Moves clock → (tick later : ℕ) → tick < later → time_of clock tick < time_of clock later
 times_rise_strictly clock moves tick later lt =
     let e : suc tick + (later - suc tick) ≡ later = omega arith in

@@ -50,7 +50,7 @@ same_on_range f g from (suc n) same =
 pub same_each_node : {X : Type 0} (f g : ℕ → X) → ((j : ℕ) → j < 16 → f j ≡ g j) → each_node f ≡ each_node g
 same_each_node f g same = same_on_range f g 0 16 (λ j h. same j (omega arith))
 
--- what is taken and voted
+-- two tests that agree below 16 give the same close
 pub same_closing : (s : Standing) (p q : ℕ → Bool) (sense : ℕ → Sense) → ((j : ℕ) → j < 16 → p j ≡ q j)
     → closing_of s p sense ≡ closing_of s q sense
 same_closing s p q sense same =

@@ -42,7 +42,7 @@ not_later : (f : Bool) (frame e : ℕ) → (f ≡ true → e ≡ frame) → (f �
 not_later true frame e now earlier = omega (arith, now refl)
 not_later false frame e now earlier = omega (arith, earlier refl)
 
--- the count reaches the probation just where the accusation has lapsed by its frames
+-- the count reaches the probation if and only if the accusation has lapsed by its frames
 reaches : (q n frame e : ℕ) → q ≤ 4096 → e < frame + 1 → n ≡ min (frame + 1 - (e + 1)) 4096
     → (nat_le 1 q && nat_le q n) ≡ has_lapsed q e (frame + 1)
 reaches q n frame e most past is = ap (λ b. nat_le 1 q && b) (rw is (grind (arith, nat_tests)))
@@ -62,7 +62,7 @@ both true true c d = refl
 both true false c d = refl
 both false b c d = refl
 
--- who stays accused has not lapsed
+-- an accusation that stays was there, and has not lapsed
 stays_accused : (d l : Bool) → (d && not l) ≡ true → (d ≡ true) × (l ≡ false)
 stays_accused true true h = let no : false ≡ true = h in cc
 stays_accused true false h = (refl, refl)
@@ -103,7 +103,8 @@ lapses_by_frames q frame newest s most is = record {
     count_is j below accused =
         counted (has s.fresh j) frame (newest j) (slice_index s.calm j) (is j below accused).fresh (is j below accused).calm (is j below accused).earlier
 
--- whom a node trusts has no part in it, so convictions at the end of the same frame change nothing
+-- whom a node trusts does not matter to what lapses, so convictions at the end of the same frame
+-- change nothing
 pub lapses_beside_convictions : (q frame trusted : ℕ) (newest : ℕ → ℕ) (s : Standing) → q ≤ 4096 → HasNewest s frame newest
     → LapsesByFrames q (frame + 1) newest s (standing_at_end q (record s { trusted = trusted }))
 lapses_beside_convictions q frame trusted newest s most is =

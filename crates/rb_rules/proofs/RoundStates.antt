@@ -45,7 +45,7 @@ unfolding begin_frame
 state-turned sc hands m me i st h =
     get-each (λ me i st. turn_if_known sc.sizes sc.plan me st) m.nodes me i ∙ ap (option_map (λ st. turn_if_known sc.sizes sc.plan me st)) h
 
--- what no window changes
+-- the frame, the epoch and the trusted nodes are the same in both states
 pub record Stays (a b : NodeState) : Type 0 where
   pub frame : b.frame ≡ a.frame
   pub epoch : b.epoch ≡ a.epoch
@@ -116,7 +116,7 @@ early sizes me stage n h =
 late : (sizes : Sizes) (me : Side) (stage n : ℕ) → 3 * sync_slot_of sizes + stage - 1 < n → knows sizes me stage n ≡ knows sizes me stage (n + 1)
 late sizes me stage n h = ap (λ b. listens me Sync stage && b) (lt-both (3 * sync_slot_of sizes + stage - 1) n (n + 1) h (omega arith))
 
--- a stage in which the node does not listen gives nothing
+-- a stage in which a node does not listen gives the node no middle
 deaf : (sizes : Sizes) (me : Side) (stage n : ℕ) → listens me Sync stage ≡ false → knows sizes me stage n ≡ knows sizes me stage (n + 1)
 deaf sizes me stage n h = ap (λ b. b && nat_lt (3 * sync_slot_of sizes + stage - 1) n) h ∙ sym (ap (λ b. b && nat_lt (3 * sync_slot_of sizes + stage - 1) (n + 1)) h)
 
@@ -128,7 +128,7 @@ and-none false x = refl
 pub knows-none : (sizes : Sizes) (me : Side) (stage : ℕ) → knows sizes me stage 0 ≡ false
 knows-none sizes me stage = and-none (listens me Sync stage) (3 * sync_slot_of sizes + stage - 1)
 
--- a state with the same middles, where the next window adds none
+-- a state with the same middles knows the same after a window that adds none
 same-knows : (sizes : Sizes) (me : Side) (n : ℕ) (a b : NodeState) → b.k1 ≡ a.k1 → b.k2 ≡ a.k2 → b.k3 ≡ a.k3
     → ((stage : ℕ) → 1 ≤ stage → stage ≤ 3 → knows sizes me stage n ≡ knows sizes me stage (n + 1)) → Knows sizes me n a → Knows sizes me (n + 1) b
 same-knows sizes me n a b e1 e2 e3 same h = record {

@@ -63,7 +63,7 @@ tag_case true byte k here tag others same is_k later is =
     ap tag_byte (sym found) ∙ is_k ∙ sym (eqb-true byte k same)
 tag_case false byte k here tag others same is_k later is = later is
 
--- a tag that is read has that byte
+-- a tag that is read from a byte has that byte
 tag_so : (byte : ℕ) (tag : Tag) → tag_in byte ≡ Some tag → tag_byte tag ≡ byte
 tag_so byte tag is =
     tag_case (byte == 1) byte 1 Word tag _ refl refl
@@ -168,7 +168,7 @@ abbrev items_from : ℕ → ℕ → List ℕ → List ℕ
 items_from i zero xs = []
 items_from i (suc n) xs = slice_index xs i ∷ items_from (suc i) n xs
 
--- the list from place i on, where n items are left
+-- the list from place i on if n items are left
 drop_is : (n i : ℕ) (xs : List ℕ) → length xs ≡ i + n → drop i xs ≡ items_from i n xs
 drop_is zero i xs h = drop_all i xs (omega arith)
 drop_is (suc n) i xs h =

@@ -21,7 +21,7 @@ decimal_two_digits i low high =
     let ones : 48 + i % 10 ≡ 38 + i = omega arith in
     rw (decimal_step i low (omega arith), tens, decimal_digit 1 (omega arith), ones) refl
 
--- what digits that spell an index below 16 are
+-- `digits` is the one digit of an index below 10
 pub record IsOneDigit (digits : List ℕ) (i : ℕ) : Type 0 where
   pub long : length digits ≡ 1
   pub ones : get_or digits 0 0 ≡ 48 + i

@@ -64,7 +64,7 @@ act-same sc w me i k x =
 
 -- Nodes.
 
--- a node to which a message comes
+-- a kept node stands for its site when a message is on its way to it
 sent-node : (sc : Scenario) (me : Side) (j frame : ℕ) (m : Sending) (side : Side) (n : ℕ) (k : KeptSite) (s : Site) → IsNode sc side n k s
     → IsNode sc side n k (sent_to sc me j frame m side n s)
 sent-node sc me j frame m side n k s is = by (same_side side (other me)) s.runs refl

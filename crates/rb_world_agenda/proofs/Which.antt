@@ -138,7 +138,7 @@ of-rmu sc w lanes i p place holds times h is ready before =
           ∙ ap (λ m. Some (due_with Rmu m got.site got.event)) f;
     }
 
--- what stands at the first time is due in the world
+-- an event that is due by the lanes is due in the world
 pub is-due : (sc : Scenario) (w : World) (lanes : Each Held) (i : ℕ) (name : NodeName) (place : ℕ) → HoldsSites sc.sizes lanes w.sites → AreTimes (in_order lanes)
     → StandsAt lanes (first_time lanes) i name place → IsDue sc w lanes i name place
 is-due sc w lanes i name place holds times at =

@@ -32,7 +32,7 @@ use Rattle.rb_world_book.proofs.Noting.{none-seen, other-kind, row-noted, sees-k
 
 -- Of which sources it counts what was seen.
 
--- who lasts does so in the frame of the upcoming stage
+-- a node that lasts does so in the frame of the upcoming stage
 last-there : (m : Milestone) (place : Place) (lasting j : ℕ) → is_at m place ≡ true → has lasting j ≡ true → Lasts m place.frame lasting j
 last-there (Begin f) place lasting j here member = absurd (cc)
 last-there End place lasting j here member = absurd (cc)

@@ -54,7 +54,7 @@ unlike-form : (sc : Scenario) (place : Place) (rows : Each (Option Row)) (kind :
 unfolding some_node
 unlike-form sc place rows kind j = refl
 
--- what is kept of receivers of which nobody is awaited
+-- if nobody is awaited, what is kept of the receivers is what they saw
 have-seen : {R : Type 0} (sc : Scenario) (place : Place) (kind : Side) (o : Group R) (sites : Each Site) (j : ℕ) → count_of (other kind) sc.sizes ≤ 16
     → (holds : HoldsKind sc (other kind) (Stage place) o sites) → o.waiting ≡ 0
     → HaveSeen holds.saw (is_good sc kind j place.frame (sync_slot_of sc.sizes)) place (count_of kind sc.sizes) (count_of (other kind) sc.sizes) o.good o.told j

@@ -15,7 +15,7 @@ use Rattle.rb_judge.proofs.SomeNode.{some_same}
 use Rattle.rb_world_book.specs.Waiting.{some_good}
 use Rattle.rb_world_book.proofs.Popped.{is_below, joined, left-before, same_or_not, stays}
 
--- what those of these receivers saw that are not left
+-- what receiver `i` saw, if it is one of these and is not left
 abbrev pub seen_so_far : ℕ → ℕ → (ℕ → See) → ℕ → See
 seen_so_far among left sight i = if has among i && not (has left i) then sight i else Nothing
 

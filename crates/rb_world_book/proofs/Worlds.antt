@@ -39,7 +39,7 @@ row-is me i st heard c times has =
     one t u (Value v) same = refl
     one t u (Time stamp) same = ap Time (same stamp refl)
 
--- two changes of a site of which it shows the same
+-- Two changes of a site after which it shows the same.
 
 alike : {Y : Type 0} (h : Site → Y) (k : ℕ) (b : ℕ → Bool) (f g : Site → Site) (xs : List Site)
     → ((j : ℕ) (s : Site) → slice_get xs j ≡ Some s → b (k + j) ≡ true → h (f s) ≡ h (g s))

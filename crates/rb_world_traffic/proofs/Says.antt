@@ -42,7 +42,7 @@ map-cond : (f : Say → Coming) (b : Bool) (x : Say) (xs : List Say) → map f (
 map-cond f true x xs = refl
 map-cond f false x xs = refl
 
--- the entries between the two, if it is known whether the sender is good
+-- if the sender is not good, the entries between the two nodes bring what it says
 one-said : (sc : Scenario) (me : Side) (i j : ℕ) (span : Span) (says : List Say) → is_good sc (other me) j span.place.frame span.place.slot ≡ false
     → map (coming_said sc.plan.version (clock_of sc me i) j span) (filter (is_said me i j span) says)
     ≡ all_brought sc (clock_of sc me i) span (filter (is_between (name_of (other me) j) (name_of me i)) says)
@@ -138,7 +138,7 @@ entries-one-more : (says : List Say) (places : List ℕ) (i : ℕ) → i < lengt
 entries-one-more says places i within =
     ap (entries_at says) (take_more places i 0 within) ∙ filter_map-append (slice_get says) (take i places) (get_or places i 0 ∷ [])
 
--- what is gathered of all so far
+-- what is gathered goes on with the entry of the next place
 pub fold-more : (f : ℕ → Say → ℕ) (a : ℕ) (says : List Say) (places : List ℕ) (i : ℕ) → i < length places
     → fold f a (entries_at says (take (i + 1) places)) ≡ fold f (fold f a (entries_at says (take i places))) (entries_at says (get_or places i 0 ∷ []))
 fold-more f a says places i within =
