@@ -22,7 +22,7 @@ xor_same x = grind (arith, common_steps)
 xor_none : (x y : ℕ) → bit_xor x y ≡ 0 → y ≡ x
 xor_none x y none = sym (from_zero y) ∙ ap (λ z. bit_xor z y) (sym none) ∙ xor_assoc x y y ∙ ap (bit_xor x) (xor_same y) ∙ xor_with_0 x
 
--- the check at the end is right where the exclusive or of all is 0
+-- the check at the end is right if and only if its exclusive or with the other bytes' is 0
 check_right : (x y : ℕ) → (bit_xor x y == 0) ≡ (y == x)
 check_right x y = go (y == x) refl (bit_xor x y == 0) refl
   where

@@ -22,7 +22,7 @@ pub good_shown : (judge : KeptJudge) (stages : List JudgedStage) (kind : Side) (
 good_shown judge stages Biu i is = ap (λ s. has s i) is.bius.good
 good_shown judge stages Rmu i is = ap (λ s. has s i) is.rmus.good
 
--- who is good stays so from note to note
+-- a note leaves the good nodes of a kind as they are
 pub good_stays : (kind : Side) (receiver : NodeName) (from : ℕ) (see : See) (stages : List JudgedStage)
     → good_now kind (with_newest_sight receiver from see stages) ≡ good_now kind stages
 good_stays kind receiver from see [] = refl

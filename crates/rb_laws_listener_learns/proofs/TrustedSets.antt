@@ -169,7 +169,7 @@ trusts-true : (kind : Side) (sizes : Sizes) (records : List Sense) (i : ℕ) →
 trusts-true Biu sizes records i h most = and_from (nat_lt i sizes.bius) (are_most sizes (ones_in records i)) (lt-ltb i sizes.bius h) most
 trusts-true Rmu sizes records i h most = and_from (nat_lt i sizes.rmus) (are_most sizes (ones_in records (first_diagnosis_of Rmu sizes + i))) (lt-ltb i sizes.rmus h) most
 
--- whom the bus trusts the listener does
+-- the listener trusts each node that the bus trusts
 pub trusts-all : (sc : Scenario) (hands : List HandIn) → IsLawful sc → (ear : Ear) → are_most sc.sizes (set_of (is_always_good sc hands)) ≡ true → (learned : ℕ) (records : List Sense)
     → RecordsAreWhole sc hands ear learned records → IsRunning (before_stage sc hands learned (sync_slot_of sc.sizes) 2) → (n j : ℕ) (st : NodeState) → IsIn sc hands learned n → is_always_good sc hands j ≡ true
     → IsGoodNode sc (moment sc hands n) Rmu j st → (kind : Side) (i : ℕ) → has (trusted_of kind Rmu st) i ≡ true → trusts_of kind sc.sizes records i ≡ true
@@ -227,7 +227,7 @@ trusted-there sc hands law learned slot q below small few number is n j st here 
 
 -- Sets as numbers.
 
--- whom a good node trusts in a frame after the first is a set of nodes
+-- a good RMU's mask of trusted nodes has 16 bits in each frame after the first
 trusted-lt : (sc : Scenario) (hands : List HandIn) → IsLawful sc → (f n j : ℕ) (st : NodeState) → IsComplete sc hands f (sync_slot_of sc.sizes) → suc f * (windows_in sc.sizes + 1) ≤ n → IsIn sc hands (suc f) n
     → is_always_good sc hands j ≡ true → IsGoodNode sc (moment sc hands n) Rmu j st → (kind : Side) → trusted_of kind Rmu st < 2 ^ 16
 trusted-lt sc hands law f n j st complete le here good node kind =

@@ -153,7 +153,7 @@ silent-window sc m name st there silent =
 
 -- A frame.
 
--- of all that is told of the start of a frame the node's own part is taken
+-- the part of the named node is taken of all that is told of the start of a frame
 pub of-one : (sc : Scenario) (frame : ℕ) (ports : List PortState) (nodes : Each NodeState) (name : NodeName) (st : NodeState) (take : Begun → List ℕ)
     → slice_get (of_kind (kind_of name) nodes) (index_of name) ≡ Some st → is_good sc (kind_of name) (index_of name) frame 0 ≡ true
     → ((side : Side) (k : ℕ) (z : NodeState) → is_node (kind_of name) (index_of name) side k ≡ false → take (begun_of sc ports side k (epoch_of sc.sizes side z)) ≡ [])

@@ -162,7 +162,7 @@ delivered-text sc name p sent ports s st a x there frame closes =
 
 -- After a tick.
 
--- where a node stands after a tick, and what it has told by then
+-- after the tick the node stands in moment `q`, and with the tick it has told all up to there
 pub record AfterTick (sc : Scenario) (name : NodeName) (p : ℕ) (st : NodeState) (a : Timed) (x : Act) (z : Site) : Type 0 where
   pub q : ℕ
   pub then_st : NodeState
@@ -223,8 +223,8 @@ frame-step sc name p h =
     ap (λ l. told_up_to sc name p ++ l) (cond-false (nat_lt (moment sc [] p).window (windows_in sc.sizes)) (window_text sc name (moment sc [] p)) (block_text sc name (moment sc [] (suc p)))
     (le-ltb (moment sc [] p).window (windows_in sc.sizes) h))
 
--- where a node stands after it has closed a window: in the next window of the frame, or at the
--- start of the next frame
+-- a node that has closed a window is in the next window of the frame, or at the start of the next
+-- frame
 pub data Place (sc : Scenario) (name : NodeName) (p q : ℕ) : Type 0 where
   Inside : (same : (moment sc [] q).frame ≡ (moment sc [] p).frame) (some : 1 ≤ (moment sc [] q).window) (within : (moment sc [] q).window ≤ stages_in sc.sizes)
       (told : told_up_to sc name q ≡ told_up_to sc name p ++ window_text sc name (moment sc [] p)) → Place sc name p q

@@ -51,7 +51,7 @@ wrong-unstamped false Silent = refl
 wrong-unstamped false (One stamp m) = refl
 wrong-unstamped false Bad = refl
 
--- the same was sensed from each source, apart from stamps
+-- from each source both sense the same, apart from stamps
 abbrev SenseAlike : (ℕ → Sense) → (ℕ → Sense) → Type 0
 SenseAlike f g = (j : ℕ) → unstamped (f j) ≡ unstamped (g j)
 
@@ -106,7 +106,7 @@ sense-is-by e (a ∷ (b ∷ others)) = refl
 abbrev pub bytes_from : List (ℕ × Arrival) → ℕ → List (List ℕ)
 bytes_from inbox j = map (λ a. a.bytes) (of_source inbox j)
 
--- the same bytes came from each source
+-- both inboxes have the same bytes from each source
 abbrev pub BytesAlike : List (ℕ × Arrival) → List (ℕ × Arrival) → Type 0
 BytesAlike inbox other = (j : ℕ) → bytes_from inbox j ≡ bytes_from other j
 

@@ -459,7 +459,7 @@ timely-stage x low q me first ticks from to s i j here good =
     number : (slot q : ℕ) → 3 * slot + q - 3 * slot ≡ q
     number slot q = omega arith
 
--- who listens in such a window
+-- a node that listens in a window of the sync slot listens in its stage
 listens-in : (x : Frame) (q : ℕ) (me : Side) (i first ticks : ℕ) → window_in x (sync_window x q) me i ≡ window_of (sync_slot_of x.sizes) (q + 1) first ticks
     → listens me (role_of x.sizes (window_in x (sync_window x q) me i).slot) (window_in x (sync_window x q) me i).stage ≡ true → listens me Sync (q + 1) ≡ true
 listens-in x q me i first ticks e listening =

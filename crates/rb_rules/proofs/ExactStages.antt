@@ -59,7 +59,7 @@ same_closing s p q sense same =
     (λ j h. ap (λ b. if b && is_eligible s j then value_in (sense j) else None) (same j h)) in
     ap (λ taken. record { taken = taken; voted = majority_of (present taken) }) taken
 
--- whom the evidence accuses
+-- two tests that agree below 16 give the same evidence
 pub same_evidence : (s : Standing) (p q : ℕ → Bool) (sense : ℕ → Sense) → ((j : ℕ) → j < 16 → p j ≡ q j)
     → with_evidence (has_evidence s p sense) s ≡ with_evidence (has_evidence s q sense) s
 same_evidence s p q sense same =

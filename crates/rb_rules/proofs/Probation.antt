@@ -103,8 +103,7 @@ lapses_by_frames q frame newest s most is = record {
     count_is j below accused =
         counted (has s.fresh j) frame (newest j) (slice_index s.calm j) (is j below accused).fresh (is j below accused).calm (is j below accused).earlier
 
--- whom a node trusts does not matter to what lapses, so convictions at the end of the same frame
--- change nothing
+-- convictions at the end of the same frame do not matter to which accusations lapse
 pub lapses_beside_convictions : (q frame trusted : ℕ) (newest : ℕ → ℕ) (s : Standing) → q ≤ 4096 → HasNewest s frame newest
     → LapsesByFrames q (frame + 1) newest s (standing_at_end q (record s { trusted = trusted }))
 lapses_beside_convictions q frame trusted newest s most is =

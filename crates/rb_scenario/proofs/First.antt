@@ -25,7 +25,8 @@ bus_in-none t h =
       | false ↦ λ e. e
     ] in go (has_bus t) refl
 
--- which of the rules on keys, forms and ranges are kept
+-- the rules on keys, names and forms are kept one after the other: each record has one more than
+-- the record before it
 pub record KeysKept (t : Members) : Type 0 where
   pub keys : lacks_key t ≡ false
 

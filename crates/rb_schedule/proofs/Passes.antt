@@ -129,7 +129,7 @@ asks_earlier : (t : Bool) (k j r : ℕ) → k ≤ j → (t && nat_lt j r) ≡ tr
 asks_earlier true k j r h e = grind (arith, nat_tests)
 asks_earlier false k j r h e = e
 
--- who asks in a later pass asks in an earlier one
+-- if nobody asks in a pass, nobody asks in a later one
 pub nobody_later : (sizes : Sizes) (trusted : ℕ) (requests : List Heard) (k j : ℕ) → k ≤ j → owners_in_pass sizes trusted requests k ≡ []
     → owners_in_pass sizes trusted requests j ≡ []
 nobody_later sizes trusted requests k j h none =
