@@ -81,7 +81,7 @@ frame-begins terms turns t before ports empty values advance nothing note going 
         now.frame_is ∙ reached_more terms.frames rs (record_of t) ∙ ap (λ o. max (reached terms.frames rs) (frame_or terms.frames (reached terms.frames rs) o)) some.1 in
         omega (arith, this, was, is)
 
--- With which turn.
+-- The turn with which the next frame begins.
 
 begun-frame : (frames f : ℕ) (r : Record) → frame_in (Some r) ≡ Some f → frame_of frames r ≡ f
 begun-frame frames f (Frame g nodes ports) at = cc

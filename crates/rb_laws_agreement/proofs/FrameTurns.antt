@@ -56,7 +56,7 @@ pub role-sender : (trusted : Side → ℕ) (owners : List ℕ) (kind : Side) (i 
 role-sender trusted owners Biu i t = rw t refl
 role-sender trusted owners Rmu i t = rw t refl
 
--- the vector slot of a trusted node has a value
+-- the vector slot of a trusted node is finished, and its value is a vector if the node is good
 pub record VectorOf (sc : Scenario) (hands : List HandIn) (m : Moment) (s : Shared) (kind : Side) (i : ℕ) : Type 0 where
   pub finished : IsFinished sc hands m s (vector_slot sc.sizes kind i) (s.values (vector_slot sc.sizes kind i))
   pub kind_is : kind_in sc.sizes (vector_slot sc.sizes kind i) ≡ kind

@@ -37,7 +37,7 @@ port-after sc rows ports i within =
     get-some (ports_after rows ports) i fresh (port_after (line_in (get_or rows i None)) (get_or ports i fresh))
     (get-each (make_after rows) (as_each ports) Biu i ∙ ap (option_map (make_after rows Biu i)) (slice_get-get_or ports i fresh within))
 
--- As a frame begins.
+-- The start of a frame.
 
 pub with-state-long : (k state : ℕ) (ports : List PortState) → length (with_state k state ports) ≡ length ports
 with-state-long k state [] = refl

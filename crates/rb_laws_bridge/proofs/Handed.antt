@@ -24,7 +24,7 @@ use Rattle.rb_laws_bridge.specs.Laws.{FramesGoByTheEarlier, HandInsAreCarried}
 use Rattle.rb_laws_bridge.proofs.Breaks.{breaks-alike}
 use Rattle.rb_laws_bridge.proofs.Later.{AreLater, deliveries-alike}
 
--- For which frame.
+-- The frame of a hand-in.
 
 -- each hand-in is for this frame
 abbrev AreFor : ℕ → List HandIn → Type 0

@@ -249,7 +249,7 @@ good-tell sc hands law frame slot below complete i good =
     last : (a slot : ℕ) → a + 3 * slot + 3 ≡ a + 3 * slot + 4 - 1
     last a slot = omega arith
 
--- Its word has four bytes.
+-- The word of a slot has four bytes.
 
 fits-one : (value : Heard) → IsCarried value → word_of (Some value) < 2 ^ 32
 fits-one (Word w) carried = carried

@@ -38,7 +38,7 @@ use Rattle.rb_laws_events.proofs.WorldStands.{AllPend, IsDown, IsUp, sent_by}
 abbrev pub SitesLast : Scenario → List HandIn → (Side → ℕ → ℕ → Bool) → ℕ → Each Site → Type 0
 SitesLast sc hands sent p sites = (side : Side) (j : ℕ) (z : Site) → slice_get (of_kind side sites) j ≡ Some z → SiteLast sc hands sent p side j z
 
--- It begins.
+-- The first close.
 
 nothing-more : (sc : Scenario) (hands : List HandIn) (sent : Side → ℕ → ℕ → Bool) (now : ℕ) (me : Side) (i p : ℕ) (s : Site) → WaitsHearing sc hands sent now me i p s → WaitsAhead sc hands sent me i p s
 nothing-more sc hands sent now me i p s h =

@@ -33,7 +33,7 @@ use Rattle.rb_laws_groups.proofs.Added.{step-tells, told-more, told_in}
 use Rattle.rb_laws_groups.proofs.Alike.{no-lines}
 use Rattle.rb_laws_groups.proofs.Served.{IsServed, no-owner, one-delivery, served}
 
--- If nothing of a frame is told.
+-- A frame of which nothing is told.
 
 -- steps with which no data slot of the frame is complete tell nothing of it
 abbrev pub IsQuiet : Scenario → List HandIn → ℕ → ℕ → Type 0

@@ -197,7 +197,7 @@ follows_window sc ear before st first n w s (suc i) k e le =
     subst (λ k. listening_at sc ear k ≡ now.Following (core_in sc.sizes ear before st first (suc i) k)) next
     (follows_next sc ear before st first n i w le (follows_window sc ear before st first n w s i (first + i) refl (omega arith)))
 
--- With the last tick it closes the window on all that came in it.
+-- With the last tick of a window a listener closes it on all that came in it.
 
 abbrev pub closing : Scenario → Ear → NodeState → ℕ → ℕ → Outcome
 closing sc ear st first n = close_window sc.sizes sc.plan Biu 16 st (window_here sc.sizes sc.plan Biu st (first + n)) (of_source (collected sc.sizes ear.heard first (n + 1)))

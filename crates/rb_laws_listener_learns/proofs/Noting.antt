@@ -67,7 +67,7 @@ begun-noted sc ear since k n lesson none before j below slot few =
     subst (IsNotedBy sc ear since k n lesson.frame slot j) (sym (ap (λ (r : List Sense). record_of r slot j) none ∙ nothing-there slot j))
     (λ at i m span placed. omega (arith, span.0, before at i span.1))
 
--- It goes on.
+-- A lesson goes on.
 
 -- what is noted stays right if the places that are earlier now were so before
 pub on-noted : (sc : Scenario) (ear : Ear) (since k n l o frame slot j : ℕ) → ((at i : ℕ) → IsEarlier at i k n → IsEarlier at i l o)

@@ -64,7 +64,7 @@ pub record TakesCalls (sc : Scenario) (m : Moment) (s : Shared) (clock : Timelin
 abbrev pub MostGood : Scenario → Moment → Type 0
 MostGood sc m = sc.sizes.rmus < 2 * how_many (is_good_now sc m Rmu)
 
--- if more than half of the numbers below `n` are good, fewer of them are not
+-- if more than half of the numbers below `n` are good, the others among them are fewer
 pub others_fewer : (n : ℕ) (good some : ℕ → Bool) → n ≤ 16 → ((j : ℕ) → j < 16 → good j ≡ true → j < n) → ((j : ℕ) → j < 16 → some j ≡ true → j < n) → n < 2 * how_many good
     → count_if (λ j. not (good j) && some j) (numbers 16) < count_if good (numbers 16)
 others_fewer n good some few below_good below_some most =

@@ -55,7 +55,7 @@ rooms-had sc q hands b sent sites h me i s there =
     let long = length-append (had_of sc.sizes me s) s.coming in
     omega (arith, room, long)
 
--- It begins.
+-- The first close.
 
 begins-had : (sc : Scenario) (q : ℕ) (hands : List HandIn) (b now : ℕ) (at : Side → ℕ → ℕ) (sites : Each Site) (t : ℕ) → FirstCloses sc hands now at sites b t → HadOff sc q hands b sites
 begins-had sc q hands b now at sites t h = record {

@@ -192,7 +192,7 @@ empty_row base rules sender place i delay at = let never : None ≡ Some delay =
 
 pub ruleset row_found = (empty_row)
 
--- the row of the sender has sixteen delays
+-- the row of a sender has sixteen delays if all its latest rules have the place, and else none
 pub sixteen_there : (base : ℕ) (rules : List Rule) (shared : List Ranges) (flat row : List ℕ) (sender : ℕ) (place : Place) (ranges : Ranges)
     → AreRows base rules shared flat → PlaceFits place → sender < 32 → Some ranges ≡ slice_get shared sender
     → covers ranges.frames ranges.slots ranges.stages place ≡ true → row ≡ slice_range flat (16 * sender) (16 * sender + 16)

@@ -95,7 +95,7 @@ soonest-is v w had b1 b2 b3 ticks epoch is s1 s2 s3 =
       here = λ k lo hi. here k lo hi ∙ is;
     }
 
--- It is found.
+-- The next waking tick is found.
 
 finds : (v : Seated) (others had k : ℕ) → had ≤ k → k < had + others → ((m : ℕ) → had ≤ m → m < k → wakes_at v m ≡ false)
     → wakes_at v k ≡ true → wake_among v.sizes v.plan v.state others had ≡ Some k
@@ -153,7 +153,7 @@ passing-is n k next =
           ap (λ o. unwrap_or o (2 ^ 31)) (among-none n.seat n.had k next end) ∙ e
     ]
 
--- Up to it what is kept stays what it is.
+-- What is kept stays as it is up to the next waking tick.
 
 next-on : (v : Seated) (had m k : ℕ) → IsNextWake v had k → had ≤ m → m ≤ k → IsNextWake v m k
 next-on v had m k n lo hi = record {

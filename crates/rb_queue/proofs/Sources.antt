@@ -169,7 +169,7 @@ left_here time arrivals i first left s place is low high none at =
       stands = at.stands;
     }
 
--- Of one source.
+-- The arrivals of one source.
 
 -- the arrivals from place `k` on that pass, each with its place
 abbrev pub passing_from : (Coming → Bool) → List Coming → ℕ → List (ℕ × Coming)

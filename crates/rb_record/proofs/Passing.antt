@@ -61,7 +61,7 @@ part-then-none log v xs ys h i part others = subst (λ es. AppendsPart h i (v ++
 pub part-after : (v w bytes : List ℕ) (h i j : Option (List ℕ)) → PassesOn v w bytes h i → AppendsPart i j w → AppendsPart h j (v ++ bytes)
 part-after v w bytes h i j passed part = subst (AppendsPart h j) (sym passed.split) (part_join h i j passed.out w passed.text part)
 
--- Of what waited then some was written
+-- what was passed on stays passed on when some of what waited is written
 pub passes-settled : (log later : Tally) (v w u : List ℕ) (events : List Event) (h i j : Option (List ℕ)) → PassesNext log later v w events h i → PassesOn w u [] i j
     → PassesNext log later v u events h j
 passes-settled log later v w u events h i j next settled = record {

@@ -127,7 +127,7 @@ has-event sc w reached some =
           ∙ ap (option_map (λ (s : Site). event_of sc w.ports d.0.side d.0.node s.core d.0.pending)) due.there,
     )
 
--- Its node.
+-- The node of an event.
 
 kind-named : (me : Side) (i : ℕ) (name : NodeName) → same_node (name_of me i) name ≡ true → (me ≡ kind_of name) × (i ≡ index_of name)
 kind-named Biu i (node.Biu j) h = (refl, let same : i ≡ j = grind (arith, nat_tests) in same)

@@ -64,7 +64,7 @@ not-busy sizes plan me index st (suc others) had m lo hi =
     by true busy below rest = absurd (omega arith)
     by false quiet below rest = later (m == had) refl quiet below rest
 
--- the ticks up to the next busy one, or to the last that a core can have, are quiet
+-- the ticks before the next busy one are quiet, and so are all that a core can have if none is busy
 pub quiet-before : (sizes : Sizes) (plan : Plan) (me : Side) (index : ℕ) (st : NodeState) (had m : ℕ) → had ≤ 2 ^ 31 → had ≤ m
     → m < unwrap_or (busy_among sizes plan me index st (2 ^ 31 - had) had) (2 ^ 31) → IsQuiet sizes plan me index st m
 quiet-before sizes plan me index st had m room lo hi =

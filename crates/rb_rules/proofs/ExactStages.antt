@@ -39,7 +39,7 @@ pub vote_over_nothing : (s : Standing) (expected : ℕ → Bool) (sense : ℕ �
 vote_over_nothing s expected sense nobody =
     ap majority_of (none_present (taken_of value_in s expected sense) (λ j. unexpected_not_taken value_in s expected sense j (nobody j)) (numbers 16))
 
--- It is the nodes below 16 that count.
+-- Only the nodes below 16 count.
 
 same_on_range : {X : Type 0} (f g : ℕ → X) (from n : ℕ) → ((j : ℕ) → j < from + n → f j ≡ g j)
     → map f (range_with_len from n) ≡ map g (range_with_len from n)

@@ -45,7 +45,7 @@ want-is sc me i k site c sizes plan number next =
     ∙ ap (λ z. want_for sc.sizes (wants sc.sizes z me site.node.seat.index (pass_to k c))) plan
     ∙ ap (λ n. want_for sc.sizes (wants sc.sizes sc.plan me n (pass_to k c))) number
 
--- Around the node, when it has told what it has to tell.
+-- What surrounds the node when it has told what it has to tell.
 
 -- what a node tells by what is kept of it is what it tells by the definitions
 after_tick-alike : (sc : Scenario) (ports : List PortState) (me : Side) (i : ℕ) (x : Act) (c : Closed) (row : Row) (s : Site) → x.closed ≡ Some c

@@ -168,7 +168,7 @@ bare-few sc me i a most s all =
         by None = (let same = mapped s.coming in omega (arith, same), λ e. mapped s.coming)
         by (Some a) = (let same = mapped s.coming in omega (arith, same), λ e. absurd (let never : ◌≡◌ {A = Option Timed} (Some a) None = e in cc))
 
--- It may take the tick.
+-- The node may take the tick.
 
 pub ticks-there : (sc : Scenario) (kept : Each KeptSite) (scene : Scene) (until : Side → ℕ → ℕ) (w v : World) (me : Side) (i : ℕ) (a : Timed) → (h : BehindTick sc kept scene until w v me i a)
     → i < count_of me sc.sizes → TicksNow sc me i a (swept sc me i (a.time + 1) h.first.node)
@@ -232,7 +232,7 @@ may-tick-behind sc kept scene until w v me i a site lanes h sweeps =
       spans = spans-by sc me (pass_and_tick sc v.ports me i a.tick z.core).core (omega (arith, had, small));
     })
 
--- It has taken it.
+-- The node has taken the tick.
 
 pub set-again : {X : Type 0} (xs : List X) (i : ℕ) (x y : X) → slice_set (slice_set xs i x) i y ≡ slice_set xs i y
 set-again [] i x y = refl

@@ -125,7 +125,7 @@ before-surrounds sc scene room shape agenda bius rmus book ports biu rmu = recor
     within Biu n = no-more sc Biu scene.running_biu n biu
     within Rmu n = no-more sc Rmu scene.running_rmu n rmu
 
--- When they have begun.
+-- All nodes have begun.
 
 begun-rest : (sc : Scenario) (me : Side) (n : ℕ) (w : World) → with_begun sc me n w ≡ record w { sites = (with_begun sc me n w).sites }
 unfolding with_begun

@@ -38,7 +38,7 @@ use Rattle.rb_world.proofs.Ready.{next-due}
 use Rattle.rb_world.proofs.Sites.{at-same, at-twice, holds-one, was-there}
 use Rattle.rb_world.proofs.Spans.{spans-by}
 
--- It may take the tick with another core, if that does at the tick what its own does.
+-- A node may take the tick with another core, if that does at the tick what its own does.
 
 -- the node has been swept up to its tick, but for its core
 pub record Readied (sc : Scenario) (scene : Scene) (v : World) (me : Side) (i : ℕ) (a : Timed) (s : Site) (core : Core) (site : KeptSite) (lanes : Each Held) : Type 0 where

@@ -82,7 +82,7 @@ due-in sizes t me i (k ∷ ls) (s ∷ ss) holds n (suc p) l place at is before h
           ∙ ap (λ m. Some (due_with me m more.site more.event)) e;
     }
 
--- Of all lanes.
+-- All lanes.
 
 the-lane : (ls : List Held) (p : ℕ) → p < length ls → slice_get ls p ≡ Some (unwrap_or (slice_get ls p) (empty_lane 0))
 the-lane ls p h = let c = has-item ls p h in c.is ∙ ap (λ o. Some (unwrap_or o (empty_lane 0))) (sym c.is)

@@ -50,7 +50,7 @@ each-next before after k P takes here so_far j h out = elim (same_or_not j k) [
 pub left-before : (before after k j : ℕ) → j < 16 → TakesFirst before after k → has after j ≡ true → has before j ≡ true
 left-before before after k j h takes is = (and_parts _ _ (sym (has-is after j (λ i. has before i && not (i == k)) takes.rest h) ∙ is)).0
 
--- Until a member passes.
+-- Walks until a member passes.
 
 -- what is left is of `these`, and none of `these` that is gone passed
 pub record NonePassed (these : ℕ → Bool) (left : ℕ) (passes : ℕ → Bool) : Type 0 where

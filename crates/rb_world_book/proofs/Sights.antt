@@ -64,7 +64,7 @@ one_noted eps among before after r x sight kept more few so_far takes hr seen st
       | inr apart ↦ same i apart ∙ sym (ap (λ b. if b then x else seen_so_far among before sight i) apart)
     ]
 
--- If none is left.
+-- No receiver is left.
 
 seen_all : (among left : ℕ) (sight : ℕ → See) (i : ℕ) → left ≡ 0 → has among i ≡ true → seen_so_far among left sight i ≡ sight i
 seen_all among left sight i none e =

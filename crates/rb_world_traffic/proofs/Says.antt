@@ -29,7 +29,7 @@ brought-append sc clock span xs ys =
     ap (map (brought sc.plan.version clock span)) (filter-append (is_said_in sc span) xs ys)
     ∙ map-append (brought sc.plan.version clock span) (filter (is_said_in sc span) xs) (filter (is_said_in sc span) ys)
 
--- Of one sender.
+-- One sender.
 pub good-of : (sc : Scenario) (side : Side) (j frame slot : ℕ) → is_node_good sc (name_of side j) frame slot ≡ is_good sc side j frame slot
 good-of sc Biu j frame slot = refl
 good-of sc Rmu j frame slot = refl
@@ -104,7 +104,7 @@ by-sender : (sc : Scenario) (me : Side) (i j : ℕ) (span : Span) (g : Bool) →
 by-sender sc me i j span true e = sym (none-said sc me i j (clock_of sc me i) span sc.says e)
 by-sender sc me i j span false e = one-said sc me i j span sc.says e
 
--- Of all senders.
+-- All senders.
 by-senders : (sc : Scenario) (me : Side) (i a n : ℕ) (span : Span)
     → flat_map (λ j. elim (is_good sc (other me) j span.place.frame span.place.slot) as (λ _. List Coming) [ true ↦ [] | false ↦ said_by sc me i span j ]) (range_with_len a n)
     ≡ all_brought sc (clock_of sc me i) span (flat_map (λ j. filter (is_between (name_of (other me) j) (name_of me i)) sc.says) (range_with_len a n))
