@@ -241,7 +241,7 @@ Finishes is_plain mid since s =
     (sc : Scenario) (handed : List HandIn) (told : Option (List Turn)) (turns : List Turn)
     → IsUnderWay sc handed is_plain told mid s.world turns (is_last (record_of s.turn)) → RunsOut sc handed is_plain told since
 
--- a drive was asked for them
+-- the drive gives all turns once it was asked for those that are left
 all-given : (b : Bridge) (bank : Bank) (frame : ℕ) (both now_plain is_plain : Bool) (told mid since : Option (List Turn)) (s : Side) → frame ≡ b.left.frames → now_plain ≡ is_plain
     → BeforeFrame b bank frame both (drive_of is_plain told mid) s → Finishes now_plain mid since s → GivesAll b bank frame both (drive_of is_plain told since)
 all-given b bank frame both now_plain is_plain told mid since s all e is finish =

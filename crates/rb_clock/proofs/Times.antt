@@ -80,7 +80,7 @@ time_to clock now from ticks tick left at stays le =
 pub stays_on : (ticks until i : ℕ) (segments : List (ℕ × ℕ)) → length segments ≤ i → Stays ticks until (drop i segments)
 stays_on ticks until i segments past tick h = rw (drop_all i segments past) refl
 
--- the next segment does not begin before this tick
+-- the length stays up to a tick before which the next segment does not begin
 pub stays_to : (clock : Timeline) (now from ticks until : ℕ) (left rest : List (ℕ × ℕ)) (s : ℕ × ℕ) → left ≡ s ∷ rest
     → IsAt clock now from ticks left → until ≤ s.0 → Stays ticks until left
 stays_to clock now from ticks until left rest s e at le tick h =

@@ -61,7 +61,7 @@ no_port members frame slot line told groups past hold = record { many = hold.man
         let many = hold.many in
         absurd (omega (arith, is, below, many, past))
 
--- a line of one port, whose group hears it
+-- the group of a port hears the line of that port
 pub line_heard : (members frame slot : ℕ) (line : SlotLine) (told : ℕ → List Delivery) (groups : List KeptGroup) (before after : KeptGroup)
     → HoldPortions members told groups → HoldsPortion members (told line.receiver) before
     → ((ds : List Delivery) → HasHeard before ds → HasHeard after (ds ++ delivery_of frame slot line ∷ [])) → after.members ≡ before.members

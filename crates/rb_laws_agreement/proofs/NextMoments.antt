@@ -59,7 +59,7 @@ counts_after sc m me =
 
 -- The book.
 
--- the window of a number, if it is one of a slot below the sync slot
+-- window `n` of a frame, if it is below the sync slot, is the exact window `n`
 exact-there : (sizes : Sizes) (plan : Plan) (n : ℕ) → n < 3 * sync_slot_of sizes → slice_get (windows_of_frame sizes plan) n ≡ Some (exact_window plan n)
 exact-there sizes plan n h =
     let front : List Window = map (exact_window plan) (numbers (3 * sync_slot_of sizes)) in

@@ -31,7 +31,7 @@ use Rattle.rb_laws_agreement.proofs.ExactWindows.{IsSingle, expects_who_speaks, 
 use Rattle.rb_laws_agreement.proofs.Exchanges.{trusted-either, far-trusted, eligible}
 use Rattle.rb_laws_agreement.proofs.JudgedWindows.{stays-trusted}
 
--- what node j of a kind says in the stage after these, and the vote of a node's close of it
+-- what node `j` of kind `me` says in stage q + 1, and the vote of a node's close of that stage
 abbrev pub said : Exchange → ℕ → Side → ℕ → Option Heard
 said x q me j = says x.sizes me j (state_after x q me j) x.slot (q + 1) (x.word j)
 

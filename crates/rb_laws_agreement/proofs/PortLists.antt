@@ -53,7 +53,7 @@ handed-long frame (h ∷ hs) ports =
     go true = with-state-long h.biu h.state ports
     go false = refl
 
--- the port whose state it is
+-- a state that is handed in changes the port at its place alone
 with-state-at : (k state i : ℕ) (ports : List PortState) (d : PortState) → i < length ports
     → get_or (with_state k state ports) i d ≡ (if k == i then record (get_or ports i d) { state = state } else get_or ports i d)
 with-state-at k state i [] d h = absurd (omega arith)

@@ -12,7 +12,7 @@ use Rattle.rb_rules.specs.Owners.{request_in, owners_in_pass, owners_of}
 use Rattle.rb_rules.specs.Slots.{role_of, sender_in}
 use Rattle.rb_rules.proofs.Slots.{schedule_role}
 
--- each item of a list is so
+-- `P` holds for each item of the list
 abbrev pub AllIn : (ℕ → Type 0) → List ℕ → Type 0
 AllIn P xs = (k p : ℕ) → slice_get xs k ≡ Some p → P p
 

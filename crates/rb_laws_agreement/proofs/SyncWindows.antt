@@ -143,7 +143,8 @@ sync_right sc m s stage ws me i j st source shape ticks here there is good t =
 
 -- What a close makes.
 
--- what a window of the sync slot leaves of a node, and whom it accuses
+-- a window of the sync slot leaves votes, owners and mismatches, and accuses only nodes that did
+-- wrong
 pub record IsAfterSync (st now : NodeState) (wrong : ℕ → Bool) : Type 0 where
   pub votes : now.votes ≡ st.votes
   pub owners : now.owners ≡ st.owners

@@ -193,7 +193,7 @@ trusts-then sc hands law frame slot lt complete e p me i st there good =
     stay : HasStayed sc hands n k me i st
     stay = stays_on sc hands n k me i st (ap (λ m. m.book.ended) reached ∙ end-runs sc hands law frame complete) (within (before_slot sc hands frame slot).window p.window_is) there
 
--- a good node's vector names whom it accused then, and trusts still
+-- a good node's vector names the nodes that it accused when the slot began and still trusts
 vector-names : (sc : Scenario) (hands : List HandIn) → IsLawful sc → (frame : ℕ) → IsComplete sc hands frame (sync_slot_of sc.sizes) → (e : IsEnd sc hands frame)
     → (accused : Side) (j : ℕ) → has (e.shared.trusted accused) j ≡ true → IsAccusedByAll sc hands frame accused j
     → (i : ℕ) → has (e.shared.trusted (other accused)) i ≡ true

@@ -109,7 +109,7 @@ word-small b bank frame owner c =
     word-fits near (hands_on (across bank) (hands_of b)) (c.bridge.lawful (across bank)) frame slot inside
     (earlier-complete near (hands_on (across bank) (hands_of b)) frame slot (omega (arith, inside)) (c.unbroken (across bank)))
 
--- a sound pair offers it on the far bus
+-- a sound pair offers the word of the near bus on the far bus
 sound-offers : (b : Bridge) (bank : Bank) (frame : ℕ) (owner : ℕ → Option ℕ) → IsCrossing b bank frame owner → (pair : Pair) → IsIn pair b.pairs → is_sound b bank owner frame pair ≡ true
     → offer_of (bus_on b bank) (hands_on bank (hands_of b)) (frame + 1) owner (biu_on bank pair) ≡ Some (word_on b (across bank) frame)
 sound-offers b bank frame owner c pair inside sound =

@@ -129,8 +129,7 @@ value_by sc hands frame slot i n = value_in slot (told_in frame i (moment sc han
 abbrev completed : Scenario → ℕ → ℕ → ℕ
 completed sc frame slot = frame * (windows_in sc.sizes + 1) + 3 * slot + 3
 
--- a step with which another slot is complete, or this one if the BIU is not good in it, adds no
--- value
+-- the BIU is not good in the slot if the step completes the slot
 abbrev pub AddsNoValue : Scenario → ℕ → ℕ → ℕ → ℕ → Type 0
 AddsNoValue sc frame slot i p = suc p ≡ completed sc frame slot → is_good sc Biu i frame slot ≡ false
 

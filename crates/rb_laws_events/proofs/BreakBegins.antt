@@ -25,8 +25,8 @@ use Rattle.rb_laws_events.proofs.NodeActs.{HasRoom}
 use Rattle.rb_laws_events.proofs.NodeEvents.{tick-after}
 use Rattle.rb_laws_events.proofs.WorldStands.{AllPend, IsDown, IsUp, SitesStand, ahead_in, sent_by}
 
--- the first close of the stage at moment p: all that run stand there, one of them at its last tick,
--- and nothing pends before
+-- moment `p` has the first close of a stage: all nodes that run are in it, one of them at its last
+-- tick, and nothing pends before
 pub record FirstCloses (sc : Scenario) (hands : List HandIn) (now : ℕ) (at : Side → ℕ → ℕ) (sites : Each Site) (p t : ℕ) : Type 0 where
   pub stand : SitesStand sc hands now at sites
   pub together : (side : Side) (j : ℕ) (z : Site) → slice_get (of_kind side sites) j ≡ Some z → z.runs ≡ true → at side j ≡ p

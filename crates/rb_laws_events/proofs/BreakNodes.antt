@@ -38,7 +38,7 @@ pub record WaitsLast (sc : Scenario) (hands : List HandIn) (b : ℕ) (me : Side)
   pub state : slice_get (of_kind me (moment sc hands b).nodes) i ≡ Some st
   pub time : a.time ≡ time_of (clock_of sc me i) (last_tick sc (moment sc hands b) me st)
 
--- a node that has told its row of it, which is that of the rounds
+-- the node has told its row of the stage, and the row is that of the rounds
 pub record TellsStage (sc : Scenario) (hands : List HandIn) (b : ℕ) (me : Side) (i : ℕ) (s : Site) : Type 0 where
   pub row : Row
   pub is : s.row ≡ Some row
@@ -71,8 +71,8 @@ pub record KeepsNodes (sc : Scenario) (q : ℕ) (N : List HandIn → ℕ → (Si
   pub arrival : (hands : List HandIn) (b : ℕ) → BreaksAt sc hands b q → (sent : Side → ℕ → ℕ → Bool) (sites : Each Site) → N hands b sent sites
       → (me : Side) (i n : ℕ) (c : Coming) (s : Site) → (is_good_at sc (moment sc hands b) me i ≡ true → Moves (clock_of sc me i)) → slice_get (of_kind me sites) i ≡ Some s → StandsAt n c s.coming
       → ((a : Timed) → s.ahead ≡ Some a → ArrivesNow n c s a) → FirstOf sc hands b c.time → N hands b sent (at_node me i (after_arrival sc me i n c) sites)
-  -- a node at which something may happen was good then, and its next tick comes after those that it
-  -- has had
+  -- a node at which something may happen was good in moment `b`, and its next tick comes after
+  -- those that it has had
   pub goes : (hands : List HandIn) (b : ℕ) → BreaksAt sc hands b q → (sent : Side → ℕ → ℕ → Bool) (sites : Each Site) → N hands b sent sites → (me : Side) (i : ℕ) (s : Site)
       → slice_get (of_kind me sites) i ≡ Some s → HasStopped s ⊎ (is_good_at sc (moment sc hands b) me i ≡ true)
   pub ahead : (hands : List HandIn) (b : ℕ) → BreaksAt sc hands b q → (sent : Side → ℕ → ℕ → Bool) (sites : Each Site) → N hands b sent sites → (me : Side) (i : ℕ) (s : Site)

@@ -247,7 +247,7 @@ arrival-had sc me i n c s =
     let same = arrive-same sc.sizes me (pass_to (stamp_of (clock_of sc me i) c.time) s.core) c.from c.bytes in
     omega (arith, same.1)
 
--- an event keeps the ports so
+-- an event leaves the ports as they are in a run that breaks off
 pub ports-off : (sc : Scenario) (N : ℕ → List HandIn → ℕ → (Side → ℕ → ℕ → Bool) → Each Site → Type 0) (b q : ℕ) (sent : Side → ℕ → ℕ → Bool) (w : World) (me : Side) (i t : ℕ) (s : Site) (p : Pending)
     → IsLawful sc → KeepsNodes sc q (N q) → BreaksAt sc w.hands b q → NodesOff sc N w.hands b q sent w.sites → slice_get (of_kind me w.sites) i ≡ Some s
     → IsReady t s p → FirstOf sc w.hands b t → PortsOff sc w.hands b w.ports w.sites

@@ -24,7 +24,7 @@ use Rattle.rb_laws_events.proofs.NodeActs.{HasRoom}
 use Rattle.rb_laws_events.proofs.StageOrder.{last_of, last-same}
 use Rattle.rb_laws_events.proofs.TickWindows.{IsTickIn, ends-before-later, first_of}
 
--- what the node may call in the sync slot has gone out before this tick
+-- each call of the node in the sync slot has gone out before tick `had`
 abbrev pub HasSpoken : Sizes → Plan → Side → NodeState → ℕ → Type 0
 HasSpoken sizes plan me st had = (stage t : ℕ) → listens (other me) Sync stage ≡ true → call_tick_of sizes plan st stage ≡ Some t → t < had
 

@@ -109,7 +109,7 @@ comes-later sc hands lawful p running at n yours there2 good2 i st there good x 
 
 -- A due tick.
 
--- a node that has told its row ends no stage with it
+-- a node that has told its row ends no stage with its tick
 pub before-end : (sc : Scenario) (hands : List HandIn) (sent : Side → ℕ → ℕ → Bool) → IsLawful sc → (ports : List PortState) (p : ℕ) → IsRunning (moment sc hands p) → (moment sc hands p).window ≡ 3 * sync_slot_of sc.sizes + 2
     → (me : Side) (i : ℕ) (s : Site) (a : Timed) → TickBreaks sc hands sent ports p me i s a → (h : HasToldLast sc hands me i p s) → a.tick + 1 < h.x + sc.plan.l
 before-end sc hands sent lawful ports p running at me i s a t h =

@@ -72,7 +72,7 @@ every-left : (P : Coming → Type 0) (xs ys : List Coming) → Every P (xs ++ ys
 every-left P [] ys e = tt
 every-left P (x ∷ xs) ys e = (e.0, every-left P xs ys e.1)
 
--- what comes by a time is not among what comes after it
+-- an item that comes by time `t` is not among those that come after it
 stands-left : (n : ℕ) (c : Coming) (t : ℕ) (xs ys : List Coming) → Every (λ y. t < y.time) ys → c.time ≤ t → StandsAt n c (xs ++ ys) → StandsAt n c xs × (remove (xs ++ ys) n ≡ remove xs n ++ ys)
 stands-left n c t [] ys all le s = let after : t < c.time = every-stands (λ y. t < y.time) n c ys s all in absurd (omega (arith, after, le))
 stands-left zero c t (x ∷ xs) ys all le s = (s, refl)

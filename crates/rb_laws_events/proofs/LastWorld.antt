@@ -87,7 +87,7 @@ last-arrival sc hands sent p sites h me i n c s moves there stands due =
 
 -- What is told.
 
--- the row of a node that has told it is the rounds' of this stage
+-- a node that has told its row has told the row of this stage in the rounds
 pub last-row : (sc : Scenario) (hands : List HandIn) → IsLawful sc → (p : ℕ) → (moment sc hands p).window ≡ 3 * sync_slot_of sc.sizes + 2 → (me : Side) (i : ℕ) (s : Site)
     → (h : HasToldLast sc hands me i p s) → (h.row.place ≡ place_at sc.sizes (moment sc hands p)) × RowOfRounds sc hands me i h.row
 last-row sc hands lawful p at me i s h =

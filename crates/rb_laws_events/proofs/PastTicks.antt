@@ -58,7 +58,7 @@ turns-later sizes plan me c n k ticks next le at =
               past-tail sizes plan me c k x ticks low (subst (λ n. IsTickIn sizes plan me c n k) same at) e
         ]
 
--- what it says changes neither its frame nor its windows
+-- what a core says changes neither its frame nor its windows
 kept-like : (sizes : Sizes) (plan : Plan) (me : Side) (i : ℕ) (c : NodeState) (word : ℕ) (m : Option Message) → Like sizes plan me i c (state_kept sizes me i c word m) × ((state_kept sizes me i c word m).frame ≡ c.frame)
 kept-like sizes plan me i c word None = (like-itself sizes plan me i c, refl)
 kept-like sizes plan me i c word (Some m) =

@@ -69,8 +69,7 @@ abbrev pub past : Option Sending → Option Timed → Bool
 past None a = false
 past (Some s) a = is_past s.tick a
 
--- a node that stood in moment q with tick k pending stands in moment r with this tick pending, if
--- any
+-- a node with tick `k` pending in moment `q` then has tick `b` pending in moment `r`, if any
 pub record Steps (so : ℕ → Option Sending) (q k r : ℕ) (b : Option Timed) : Type 0 where
   pub how : ((r ≡ q) × (gone (so q) (k + 1) ≡ past (so q) b)) ⊎ ((q < r) × (past (so r) b ≡ false))
   pub between : (p : ℕ) → q < p → p < r → so p ≡ None

@@ -215,7 +215,7 @@ next-left had f its (Some k) later =
     let same : (f k).tick ≡ k = its k in
     omega (arith, le, same)
 
--- a node that goes on has fewer ticks left, and only so much more on its way to it
+-- a node that goes on has fewer ticks left, and at most what is said to it more on its way
 pub record LeavesFew (sc : Scenario) (had : ℕ) (s z : Site) : Type 0 where
   pub ticks : ticks_left z.ahead ≤ 2 ^ 31 - had
   pub coming : length z.coming ≤ length s.coming + nodes_of sc.sizes * length sc.says

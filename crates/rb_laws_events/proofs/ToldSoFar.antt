@@ -67,7 +67,7 @@ begun-stays sc ports me i k y b frame = by (y.epoch == k)
     by true = (begun_of sc ports me i (epoch_of sc.sizes me y), (refl, frame))
     by false = (b, (refl, refl))
 
--- the frame's first tick tells of it
+-- the first tick of a frame tells of its start
 begun-now : (sc : Scenario) (ports : List PortState) (me : Side) (i k : ℕ) (y : NodeState) (o : Option Begun) → y.epoch ≡ k
     → (c : Begun) × ((begun_after sc ports me i (epoch_at sc.sizes me y k) o ≡ Some c) × (c.frame ≡ y.frame))
 begun-now sc ports me i k y o at = (

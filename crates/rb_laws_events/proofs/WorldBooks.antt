@@ -124,7 +124,7 @@ pub happens-book : (sc : Scenario) (w : World) (d : Due) → (happens sc w d).bo
 unfolding happens
 happens-book sc w d = happens-by sc w d _
 
--- the turn tells whether a record came after these: it is that record
+-- the turn is the record that came after `before`, if one came
 abbrev pub IsTurn : List Record → World → Type 0
 IsTurn before w =
     ((w.book.given ≡ before) × (w.turn ≡ None)) ⊎ ((r : Record) × ((w.book.given ≡ before ++ r ∷ []) × (w.turn ≡ Some r)))

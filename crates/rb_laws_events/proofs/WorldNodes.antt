@@ -142,7 +142,7 @@ at-known : (sc : Scenario) (me : Side) (i : ℕ) (change : Site → Site) (sites
 at-known sc me i change sites go h =
     each-known sc (λ side n s. elim (same_side side me && (n == i)) as (λ _. Site) [ true ↦ change s | false ↦ s ]) sites (λ side n s e k. changed-at sc.sizes me side change s (n == i) (go s) k) h
 
--- a message goes out from a node that there is
+-- a message goes out from a node of the bus
 sent-at : (sc : Scenario) (me side : Side) (j frame : ℕ) (x : Sending) (i : ℕ) (s : Site) → j < count_of me sc.sizes → Known sc.sizes side s.coming
     → Known sc.sizes side (sent_to sc me j frame x side i s).coming
 sent-at sc Biu Biu j frame x i s h k = k

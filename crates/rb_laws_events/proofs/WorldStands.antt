@@ -38,8 +38,7 @@ pub record IsUp (sc : Scenario) (hands : List HandIn) (sent : Side → ℕ → �
   pub a : Timed
   pub stands : NodeStands sc hands sent now me i p s st a
 
--- a node that has stopped in moment p, in which it is not good; nor is it in the slot in which its
--- core stands
+-- the node has stopped in moment `p`, in which it is not good, and nothing is pending at it
 pub record IsDown (sc : Scenario) (hands : List HandIn) (me : Side) (i p : ℕ) (s : Site) : Type 0 where
   pub not_good : is_good_at sc (moment sc hands p) me i ≡ false
   pub stopped : StandsWhereNotGood sc me i s.core
@@ -54,7 +53,7 @@ pub record SitesStand (sc : Scenario) (hands : List HandIn) (now : ℕ) (at : Si
 
 -- One node changes.
 
--- whether this is the node
+-- node `n` of kind `side` is node `i` of kind `me`
 abbrev pub is_node : Side → ℕ → Side → ℕ → Bool
 is_node me i side n = same_side side me && (n == i)
 

@@ -147,7 +147,8 @@ unfolding sent_then
 same-kind-on sc hands at sites me i r b j p =
     ap (λ d. elim d as (λ _. Bool) [ true ↦ has_sent (sending_of sc (moment sc hands p) me i) r b p | false ↦ sent_by sc hands at sites (other me) j p ]) (not-other me i j)
 
--- what the others of the node's kind have sent is the same, and what it has sent itself is known
+-- the other nodes of its kind have sent what they had sent, and what the node itself has sent is
+-- known
 sent-then-own : (sc : Scenario) (hands : List HandIn) (at : Side → ℕ → ℕ) (sites : Each Site) (me : Side) (i r : ℕ) (b : Option Timed) (p : ℕ)
     → sent_then sc hands at sites me i r b me i p ≡ has_sent (sending_of sc (moment sc hands p) me i) r b p
 unfolding sent_then

@@ -35,7 +35,7 @@ use Rattle.rb_laws_groups.proofs.Served.{IsServed, no-owner, one-delivery, serve
 
 -- A frame of which nothing is told.
 
--- steps with which no data slot of the frame is complete tell nothing of it
+-- step `p` completes no data slot of the frame
 abbrev pub IsQuiet : Scenario → List HandIn → ℕ → ℕ → Type 0
 IsQuiet sc hands frame p =
     (slot : ℕ) → suc p ≡ frame * (windows_in sc.sizes + 1) + 3 * slot + 3 → (slot < sc.sizes.bius) ⊎ (sc.sizes.bius + sc.sizes.data_slots ≤ slot)

@@ -108,7 +108,7 @@ abbrev word_at : Option Heard → Option ℕ
 word_at None = None
 word_at (Some value) = word_in value
 
--- the words among values, by those who gave one
+-- the words among some values are those of the numbers that gave one
 words-are : (f : ℕ → Option Heard) (js : List ℕ)
     → words_in (present (map f js)) ≡ map (λ j. word_or_0 (word_at (f j))) (filter (λ j. is_some (word_at (f j))) js)
 words-are f [] = refl

@@ -151,7 +151,7 @@ adds-step sc hands m = adds-stepped sc hands m (m.frame == sc.frames) (nat_lt m.
 
 -- All records.
 
--- the slot is complete, and its record, with these lines, is the last that is given with it
+-- the slot is complete, and its record with these lines is the last that is given with it
 pub record IsRecorded (sc : Scenario) (hands : List HandIn) (frame slot : ℕ) (lines : List SlotLine) : Type 0 where
   pub below : slot < sync_slot_of sc.sizes
   pub complete : IsComplete sc hands frame slot

@@ -21,7 +21,7 @@ use Rattle.rb_laws_listener_follows.proofs.ExactSteps.{Abides, GoesThrough, outc
 use Rattle.rb_laws_listener_follows.proofs.FollowerRuns.{Stands}
 use Rattle.rb_laws_listener_follows.proofs.HeardExact.{Beside}
 
--- the run goes on over this window
+-- the run goes on over the window of moment `n`
 pub record GoesOn (sc : Scenario) (hands : List HandIn) (n : ℕ) : Type 0 where
   pub next_is : next sc (moment sc hands n) ≡ moment sc hands (suc n)
   pub open_on : (next sc (moment sc hands n)).book.ended ≡ false

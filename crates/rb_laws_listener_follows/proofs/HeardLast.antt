@@ -60,7 +60,7 @@ said_late : (later p f h l u d least most skew x t c : ℕ) → least ≤ most �
     → t < later + p → ⊥
 said_late later p f h l u d least most skew x t c delays fits c2 sent reached at last = absurd (omega (arith, delays, fits, c2, sent, reached, at, last))
 
--- a node that is good in a later frame, when it began the next one
+-- some tick from time `later` on is at most `epoch`
 record BegunAt (sc : Scenario) (me : Side) (i later epoch : ℕ) : Type 0 where
   pub first : ℕ
   pub time : later ≤ time_of (clock_of sc me i) first

@@ -244,7 +244,7 @@ at_of (Some c) = c.at
 abbrev pub is_missing : Scenario → List HandIn → List (Option Call) → ℕ → ℕ → Bool
 is_missing sc hands newest q j = is_always_good sc hands j && not (is_of q (get_or newest j None))
 
--- the newest call of an RMU is one of this frame
+-- the newest call of RMU `j` is one of frame `q`
 pub record HasCalled (newest : List (Option Call)) (q j : ℕ) : Type 0 where
   pub call : Call
   pub there : get_or newest j None ≡ Some call

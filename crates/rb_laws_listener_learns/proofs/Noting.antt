@@ -16,7 +16,7 @@ use Rattle.rb_laws_listener_learns.specs.Ears.{Ear}
 use Rattle.rb_laws_listener_learns.proofs.Latest.{earlier-by, earlier-split, whole-earlier}
 use Rattle.rb_laws_listener_learns.proofs.Recorded.{IsEarlier, nothing-there, same-place}
 
--- message i of a stamp is of RMU j and has a place in this slot of the lesson on a frame
+-- message `i` of stamp `at` is from RMU `j`, and has a place in this slot of the lesson on a frame
 pub record IsPlacedAt (sc : Scenario) (ear : Ear) (frame slot j at i : ℕ) (m : Message) : Type 0 where
   pub coming : Coming
   pub there : slice_get (ear.heard at) i ≡ Some coming

@@ -58,7 +58,7 @@ stage_is sc hands law k s q agree small at running =
               (agree_sync sc hands k (moment sc hands k) s q (sync_windows_are sc (moment sc hands k) q passes.stage.small passes.stage.at) set next_is);
         }
 
--- the node was good at moment k, and begins its next frame when it knew it then
+-- the node was good at moment `k`, and begins its next frame with the epoch that it knew then
 pub record TurnsAt (sc : Scenario) (hands : List HandIn) (k : ℕ) (me : Side) (i : ℕ) (now : NodeState) : Type 0 where
   pub st : NodeState
   pub was : IsGoodNode sc (moment sc hands k) me i st

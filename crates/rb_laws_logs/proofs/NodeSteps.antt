@@ -93,7 +93,7 @@ ticked sc w at me i s a x h = record {
 
 -- A tick of its own.
 
--- the lines of the tick come after those before it
+-- with the lines of the tick behind `lines` the node has told all up to moment `q`
 record ToldBy (sc : Scenario) (name : NodeName) (lines : List ℕ) (frames q : ℕ) (begins : Option Epoch) (x : Act) : Type 0 where
   told : (lines ++ act_lines name x) ++ epoch_lines name begins ≡ told_up_to sc name q
   count : frames + frames_with x.epoch + frames_with begins ≡ (moment sc [] q).frame
@@ -383,7 +383,7 @@ node-step sc name n lawful none good node = by (step-sites sc n)
           ];
         }
 
-    -- the event of a node that is done is not given to it any more
+    -- an event is not given to a node that is done
     when-done : (d : Due) → slice_get (due_of sc w) 0 ≡ Some d → (first_run sc (suc n)).sites ≡ (happens sc w d).sites → IsDone sc name n s → NodeAt sc name (suc n)
     when-done d first is over =
         let due : IsDue w d = first-due sc n d first in

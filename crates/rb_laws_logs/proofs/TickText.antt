@@ -63,7 +63,7 @@ plus-none n = omega arith
 
 -- Begins.
 
--- what a node says of its frame does not change within it
+-- what a node says of the convicted nodes does not change within a frame
 convicted-stay : (sizes : Sizes) (side me : Side) (a b : NodeState) → Stays a b → convicted_of sizes side me b ≡ convicted_of sizes side me a
 convicted-stay sizes Biu Biu a b h = rw (h.near) refl
 convicted-stay sizes Rmu Rmu a b h = rw (h.near) refl
@@ -96,8 +96,7 @@ none-begins sizes me st k h = ap (λ b. elim b as (λ _. Option Epoch) [ true �
 pub now-begins : (sizes : Sizes) (me : Side) (st : NodeState) (k : ℕ) → st.epoch ≡ k → epoch_at sizes me st k ≡ Some (epoch_of sizes me st)
 now-begins sizes me st k h = ap (λ b. elim b as (λ _. Option Epoch) [ true ↦ Some (epoch_of sizes me st) | false ↦ None ]) (eq-eqb st.epoch k h)
 
--- a node that is not in a frame yet whose moment it is in turns with its pending tick, which is the
--- frame's first
+-- moment `p` is the first window of the frame, and the pending tick is the node's epoch
 pub record Turns (sc : Scenario) (p frame : ℕ) (st : NodeState) (a : Timed) : Type 0 where
   pub first : st.epoch ≡ a.tick
   pub window : (moment sc [] p).window ≡ 0

@@ -29,7 +29,7 @@ other-first a b e = grind (arith, nat_tests)
 
 -- The first.
 
--- the first of c and what comes after it, by the test
+-- arrival `c` if `b` holds, and else the first of the others
 abbrev pub pick : Coming → Placed → Bool → Placed
 pick c q b = if b then (record { place = 0; coming = c }) else (record { place = suc q.place; coming = q.coming })
 

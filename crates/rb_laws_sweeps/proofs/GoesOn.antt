@@ -218,7 +218,7 @@ goes-on sc lawful choices until w is event me i a first le = record { leads = le
     acted : Later a.time (act z)
     acted = act-later sc lawful w.ports me i a z ticks (all-every (λ c. a.time + 1 ≤ c.time) z.coming (sweeps-keep sc me i (a.time + 1) first.node).left)
 
-    -- the world behind, in which this node alone is swept
+    -- the world behind, in which the node of the tick alone is swept
     alone : World
     alone = record w { sites = at_node me i sweep w.sites }
 

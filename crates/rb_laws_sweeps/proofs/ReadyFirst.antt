@@ -151,7 +151,7 @@ ready-first sizes t me i s known late = elim (which-first (t + 1) s.coming) [
 
 -- Among nodes.
 
--- the first node for which something is made: for those before it nothing is
+-- `d` is made first of the first item of which anything is made
 pub record FirstMade {X Y : Type 0} (k : ℕ) (make : ℕ → X → List Y) (xs : List X) (d : Y) : Type 0 where
   pub n : ℕ
   pub x : X

@@ -27,7 +27,7 @@ counted_present : (p : ℕ → Bool) (f : ℕ → Option ℕ) (js : List ℕ) �
 counted_present p f [] = refl
 counted_present p f (j ∷ js) = one_more p (f j) (present (map f js)) ∙ ap (λ n. cond (passes p (f j)) 1 0 + n) (counted_present p f js)
 
--- good sources and others together are no more than all of which something is there
+-- good sources and others that have something are together at most all that have something
 parts_within : (good some : ℕ → Bool) → ((j : ℕ) → good j ≡ true → some j ≡ true) → (js : List ℕ)
     → count_if good js + count_if (λ j. not (good j) && some j) js ≤ count_if some js
 parts_within good some has [] = omega arith
@@ -135,8 +135,8 @@ middle_times_near e x y f g m n rises_x rises_y near is_m is_n =
 
 -- ---- the least of times that are near
 
--- a time of a good one, from which on all lie, and no more than so much later; or there is no good
--- one
+-- `least` is the least time of the good ones, all of whose times are at most `spread` later, or
+-- there is no good one
 pub record HasLeast (good : ℕ → Bool) (time : ℕ → ℕ) (spread n : ℕ) : Type 0 where
   pub least : ℕ
   pub at : (i : ℕ) → i < n → good i ≡ true → IsBetween least (least + spread) (time i)

@@ -112,7 +112,7 @@ some_more f v h = omega arith
 
 -- ---- stage 1
 
--- the stage as the RMUs hear it
+-- the RMUs listen in stage 1 of the sync slot
 heard-first : (sc : Scenario) (hands : List HandIn) (n : ℕ) (m : Moment) (s : Shared) → IsPassedStage sc hands n m s 0 → IsHeardStage sc hands n m s 0 Rmu
 heard-first sc hands n m s c = record { stage = c.stage; listening = refl; premise = c.premise }
 

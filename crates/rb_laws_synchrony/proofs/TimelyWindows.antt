@@ -84,7 +84,7 @@ pub record IsSentBetween (sc : Scenario) (m : Moment) (slot stage : ℕ) (ws : W
   pub between : (me : Side) (i : ℕ) (st : NodeState) → IsGoodNode sc m me i st → (s : Sending)
       → sending sc.sizes sc.plan me i st slot stage (word_at sc m slot i) ≡ Some s → IsBetween low high (time_of (clock_of sc me i) s.tick)
 
--- the windows of all good nodes lie about these times and the delays
+-- the windows of all good nodes lie about the times from `low` to `high` with the delays
 pub record LieAbout (sc : Scenario) (m : Moment) (slot stage : ℕ) (ws : Windows sc m slot stage) (low high : ℕ) : Type 0 where
   pub early : (me : Side) (i : ℕ) (st : NodeState) → IsGoodNode sc m me i st → time_of (clock_of sc me i) (st.epoch + ws.first me st) ≤ low + sc.plan.dmin
   pub late : (me : Side) (i : ℕ) (st : NodeState) → IsGoodNode sc m me i st → high + sc.plan.dmax ≤ time_of (clock_of sc me i) (st.epoch + ws.last me st)

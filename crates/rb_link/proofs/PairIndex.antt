@@ -97,7 +97,7 @@ one_more before all p xs i d passes lt is by =
     ∙ ap (λ b. before ++ (places_from 0 p (take i xs) ++ cond b (i ∷ []) [])) by
     ∙ ap (λ l. before ++ l) (sym (places_from-more p xs i d lt))
 
--- the places below a pair are the first of those below a later one
+-- the places of the first `n` pairs are the first of those of more pairs
 rest_below : (n more : ℕ) (rules : List Rule) → (rest : List ℕ) × (places_below (n + more) rules ≡ places_below n rules ++ rest)
 unfolding places_below
 rest_below n zero rules =

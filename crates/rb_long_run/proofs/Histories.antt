@@ -9,7 +9,7 @@ use Rattle.rb_long.specs.Reading.{OpenLetter, open_after, with_value}
 use Rattle.rb_long_run.specs.Hearing.{Open, letter_of, lines_text, read_of, with_line, with_lines}
 use Rattle.rb_long_run.specs.Reports.{given_text, slot_text}
 
--- each receiver holds of each sender the letter that is open after these deliveries
+-- each receiver holds of each sender the letter that is open after the deliveries `past`
 pub record Hears (all : Open) (past : List SlotLine) : Type 0 where
   pub many : length all ≡ 16
   pub each : (r : ℕ) → r < 16 → length (get_or all r []) ≡ 16

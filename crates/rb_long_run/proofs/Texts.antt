@@ -34,7 +34,7 @@ text-of-parts n past (Slot frame slot lines ∷ xs) ys =
 text-of-parts n past (Ended ∷ xs) ys = ap (λ t. end_text n ++ t) (text-of-parts n past xs ys) ∙ sym (append_assoc (end_text n) _ _)
 text-of-parts n past (Breach place cause ∷ xs) ys = ap (λ t. breach_text place cause ++ t) (text-of-parts n past xs ys) ∙ sym (append_assoc (breach_text place cause) _ _)
 
--- a turn says what its record says after those deliveries
+-- a turn says what its record says after the deliveries `past`
 turn-same : (n : ℕ) (all : Open) (past : List SlotLine) (o : Option Record) → Hears all past → turn_text n all o ≡ letters_after n past (option_to_list o)
 turn-same n all past None is = refl
 turn-same n all past (Some (Frame frame nodes ports)) is = refl

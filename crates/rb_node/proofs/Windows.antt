@@ -83,7 +83,7 @@ in-sync sizes plan offset ticks from to =
       ]
     ]
 
--- an offset has a window, or all from it on have none
+-- an offset has a window, or no offset from it on has one
 pub window-or-tail : (sizes : Sizes) (plan : Plan) (offset : ℕ) → HasTicks plan
     → HasWindow sizes plan offset ⊎ ((p : ℕ) → offset ≤ p → window_at sizes plan p ≡ None)
 window-or-tail sizes plan offset ticks =

@@ -93,7 +93,7 @@ at-before me j many change sites s side i z there had e =
 
 -- An event of a run.
 
--- the event that is due first in a world: it happens at this site
+-- `e` is the event that is due first in the world, at the site of its node
 pub record IsEvent (sc : Scenario) (w : World) (e : Event) : Type 0 where
   pub d : Due
   pub found : slice_get (due_of sc w) 0 ≡ Some d

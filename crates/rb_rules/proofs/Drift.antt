@@ -49,7 +49,7 @@ stamp_between clock time stamp first last is after before = (
   stamp_le clock time stamp last is before,
 )
 
--- a length that stands after some segments lies within their bounds and those of the length before
+-- a length after some segments is within the bounds of their lengths and of the one before
 pub length_within : (shortest longest before : ℕ) (segments : List (ℕ × ℕ)) (tick : ℕ) → shortest ≤ before → before ≤ longest
     → are_within shortest longest segments ≡ true → (shortest ≤ length_after before segments tick) × (length_after before segments tick ≤ longest)
 length_within shortest longest before [] tick low high within = (low, high)

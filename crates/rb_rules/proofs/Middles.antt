@@ -18,7 +18,7 @@ use Rattle.rb_rules.proofs.Ranks.{IsAtRank, up_to-below, length-ascending, rank_
 middle_at_rank : (m : ℕ) (stamps : List ℕ) → 0 < length stamps → IsAtRank ((length stamps - 1) / 2) m stamps → IsMiddle m stamps
 middle_at_rank m stamps some is = record { few_below = omega (arith, is.few_below); half_up_to = omega (arith, is.enough_up_to) }
 
--- the ascending list has it there
+-- the stamp at the middle place of the ascending list is the middle
 middle_at_place : (stamps : List ℕ) → 0 < length stamps → IsMiddle (get_or (ascending stamps) ((length stamps - 1) / 2) 0) stamps
 middle_at_place stamps some = middle_at_rank _ stamps some (rank_in_ascending stamps ((length stamps - 1) / 2) (omega arith))
 
@@ -195,7 +195,7 @@ middles_near e xs ys m n near is_m is_n = record {
   under = near_above e ys xs n m (near-swap e xs ys near) is_n is_m;
 }
 
--- two stamps of each source make such lists
+-- the lists of two near stamps of each source are near
 pub near_stamps : {X : Type 0} (e : ℕ) (x_of y_of : X → ℕ) (heard : List X) → All (λ h. AreNear e (x_of h) (y_of h)) heard → AllZip (AreNear e) (map x_of heard) (map y_of heard)
 near_stamps e x_of y_of [] near = tt
 near_stamps e x_of y_of (h ∷ hs) near =

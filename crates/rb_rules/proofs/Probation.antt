@@ -13,7 +13,7 @@ use Rattle.rb_rules.specs.Standing.{Standing, calm_after, first_standing, lapses
 pub nobody_is_accused : (count : ℕ) (newest : ℕ → ℕ) → HasNewest (first_standing count) 0 newest
 nobody_is_accused count newest j below accused = let none : false ≡ true = sym (has_none j) ∙ accused in cc
 
--- evidence is of the frame in which it comes
+-- new evidence is of the frame in which it comes
 pub evidence_is_newest : (evidence : ℕ → Bool) (s : Standing) (frame : ℕ) (newest : ℕ → ℕ) → HasNewest s frame newest
     → HasNewest (with_evidence evidence s) frame (newest_with evidence frame newest)
 evidence_is_newest evidence s frame newest is j below accused =

@@ -208,7 +208,7 @@ keeping-knows : (sizes : Sizes) (me : Side) (i : ℕ) (n : ℕ) (st : NodeState)
 keeping-knows sizes me i n st slot stage word =
     kept-knows sizes me n st (says sizes me i st slot stage word) ((stage == 1) && is_some (says sizes me i st slot stage word))
 
--- a node that passes a window over, or closes it
+-- the result of a node that closes a window if `b` holds, and else passes it over
 gone : Bool → NodeState → Result → Result
 gone b st x = elim b [ true ↦ x | false ↦ record { state = st; row = None } ]
 
@@ -237,7 +237,7 @@ through-stays sc m sent me i st w =
     (gone-stays (is_good sc me i m.frame w.slot && nat_le w.first w.last) st x
     (stays-trans st kept x.state (keeping-stays sc.sizes me i st w.slot w.stage (word_for_window sc m i w)) (on-stays sc me i kept w (heard_at sc me i st w sent))))
 
--- a close of any window, by whether it is one of the sync slot
+-- the close of a window, which is one of the sync slot if `in_sync` holds
 closed : Sizes → Side → ℕ → NodeState → ℕ → ℕ → ℕ → (ℕ → Sense) → Bool → Outcome
 closed sizes me i st slot stage first sense in_sync =
     elim in_sync [ true ↦ close_sync sizes me st stage (st.epoch + first) sense | false ↦ close_exact sizes me i st slot stage sense ]
@@ -257,7 +257,7 @@ gone-knows sc me n true true st x e closing over = closing refl
 gone-knows sc me n true false st x e closing over = over refl
 gone-knows sc me n false tick st x e closing over = cc
 
--- the next window of a node that is good in it
+-- `Knows` goes on through the window of a node that is good in it
 through-knows : (sc : Scenario) (m : Moment) (sent : Each (Option Sending)) (me : Side) (i n : ℕ) (st : NodeState) (w : Window) (in_sync : Bool)
     → (w.slot == sync_slot_of sc.sizes) ≡ in_sync → is_good sc me i m.frame w.slot ≡ true → Knows sc.sizes me n st
     → ((kept : NodeState) (sense : ℕ → Sense) → Knows sc.sizes me n kept → Knows sc.sizes me (n + 1) (closed sc.sizes me i kept w.slot w.stage w.first sense in_sync).state)

@@ -57,7 +57,7 @@ value_is_message sender slot stage (heard.Word word) s some most fits =
 value_is_message sender slot stage heard.Fault s some most fits =
     record { frame = omega arith; slot = s; some_stage = some; most_stages = most; value = refl }
 
--- what it says below the sync slot is heard as said, by a node in the same frame on the same bus
+-- a node's value below the sync slot is heard as said, by a node in the same frame on the same bus
 pub value_is_heard : (sizes : Sizes) (version : Version) (sender receiver : NodeState) (slot stage stamp : ℕ) (value : Heard)
     → sender.frame ≡ receiver.frame → (slot == sync_slot_of sizes) ≡ false → slot < 2 ^ 16 → 1 ≤ stage → stage ≤ 3 → IsCarried value
     → sense_of (expect_of sizes version receiver slot stage)

@@ -65,7 +65,7 @@ none_lapses s j =
     ] in
     go (has s.direct j) (has s.fresh j) (nat_le 0 (calm_after s j))
 
--- if the probation is 0, a frame's end leaves those accused directly as they are
+-- if the probation is 0, the end of a frame leaves the direct accusations
 pub accused_stay : (s : Standing) → s.direct < 2 ^ 16 → (standing_at_end 0 s).direct ≡ s.direct
 accused_stay s fits =
     let and_true : (b : Bool) → b ≡ (b && true) = λ b. elim b as (λ b. b ≡ (b && true)) [ true ↦ refl | false ↦ refl ] in

@@ -68,7 +68,7 @@ find_some p a (suc n) i before here low high = elim (cases_lt a i) [
   | inr above ↦ let is : i ≡ a = omega arith in rw (subst (λ k. p k ≡ true) is here) (ap (λ k. Some k) (sym is))
 ]
 
--- the text is one name, and so no other
+-- the text of one name is that of no other
 differs : (letter i j : ℕ) (text : List ℕ) → text ≡ indexed letter i → i < 16 → j < i → bytes_eq text (indexed letter j) ≡ false
 differs letter i j text e small lt = false_from_ne_true _ (λ t.
     let same : letter ∷ decimal i ≡ letter ∷ decimal j = sym e ∙ (bytes_eq-Decides text (indexed letter j)).0 t in

@@ -100,7 +100,7 @@ window-sole sizes plan me index st w arrivals j stamp h e =
 
 -- A tick.
 
--- what a tick leaves of the arrivals, and of which it shows times
+-- a close leaves an empty inbox, and shows times only of sources with a sole arrival
 pub record Leaves (c : Core) (x : Act) : Type 0 where
   pub later : c.had ≤ x.core.had
   pub kept : x.closed ≡ None → x.core.inbox ≡ c.inbox

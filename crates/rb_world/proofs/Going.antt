@@ -212,7 +212,7 @@ await-none sc scene w me i there next ahead is =
     holds-site sc.sizes me lane s (await sc me i [] s) (append-nil s.coming)
     (ap (option_map (λ k. record { tick = k; time = time_of (clock_of sc me i) k })) (next s at) ∙ sym (ahead s at)) holds) is
 
--- what is said to a node in a window comes to it, and its next tick is pending
+-- what is said to a node in a window comes to the node, and its next tick is pending
 pub says-then : (sc : Scenario) (me : Side) (i : ℕ) (span : Span) (sites : Each Site)
     → at_node me i (await sc me i []) (at_node me i (λ s. record s { coming = s.coming ++ says_in sc me i span }) sites) ≡ at_node me i (await sc me i (says_in sc me i span)) sites
 says-then sc me i span sites =

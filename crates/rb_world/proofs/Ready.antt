@@ -169,7 +169,7 @@ tick-ready sc kept scene time name event w place d me i word wanted may shown na
       | inr le ↦ next-is sc.sizes sc.plan me i s.core k le e
     ]
 
--- the node of an event that is due is one of the bus, and something is kept of it
+-- the node of a due event is one of the bus, and it is kept
 pub node-there : (sc : Scenario) (kept : Each KeptSite) (scene : Scene) (time : ℕ) (name : NodeName) (event : Event) (w : World) (place : ℕ) (d : Due) (me : Side) (i : ℕ)
     → MayHappen sc kept scene time name event w place d → name ≡ name_of me i → (i < count_of me sc.sizes) × (i < length (of_kind me kept))
 node-there sc kept scene time name event w place d me i may named =

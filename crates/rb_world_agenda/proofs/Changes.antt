@@ -47,7 +47,7 @@ holds-list sizes me new change (l ∷ ls) (s ∷ ss) i (suc n) m at holds h step
     ap (λ b. elim b as (λ _. Site) [ true ↦ change s | false ↦ s ]) apart in
     (subst (HoldsSite sizes me l) (sym head) holds.0, holds-list sizes me new change ls ss (i + 1) n m (omega arith) holds.1 (omega arith) step)
 
--- the lane of a node changes, and with it the site: the lanes hold the sites afterwards
+-- if the lane and the site of a node change together, the lanes still hold the sites
 pub holds-at : (sizes : Sizes) (lanes : Each Held) (sites : Each Site) (me : Side) (n : ℕ) (new : Held) (change : Site → Site) → HoldsSites sizes lanes sites
     → HasLane lanes (name_of me n)
     → ((s : Site) → slice_get (of_kind me sites) n ≡ Some s → HoldsSite sizes me (lane_of lanes (name_of me n)) s → HoldsSite sizes me new (change s))

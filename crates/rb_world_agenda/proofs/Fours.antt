@@ -30,7 +30,7 @@ fours-put all leasts opened at place mark h is = record {
   there = h.there;
 }
 
--- the least of those that were open is kept, and others are open
+-- the least of the open four is kept, and another four is opened
 pub fours-turned : (all leasts after : List ℕ) (opened at own next place : ℕ) → AreFours all leasts opened at → own ≡ four_at all (opened * 4) → next < 8
     → after ≡ slice_set (slice_set leasts opened own) next 18446744073709551615 → (place < 32 → place / 4 ≡ next) → AreFours all after next place
 fours-turned all leasts after opened at own next place h is few new there =

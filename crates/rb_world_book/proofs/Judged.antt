@@ -114,7 +114,7 @@ sets-are sc place kind g o sites sets most most_others holds holds_others none g
           ∙ ap (λ b. saw_unlike eps (good_at sc (other kind) place.frame place.slot) b (of_kind (other kind) rows) j) (sym (lasts_is j)) ∙ sym (unlike-form sc place rows kind j);
     }
 
--- the trusted nodes are those of the rows that are found, whatever was seen
+-- The trusted nodes are those of the rows that are found, whatever was seen.
 
 abbrev fields : Row → ℕ × ℕ
 fields r = (r.biu, r.rmu)

@@ -21,7 +21,7 @@ use Rattle.rb_world_book.specs.Changing.{changed_at, number_in, row_shown, side_
 use Rattle.rb_world_book.specs.Holding.{Holds}
 use Rattle.rb_world_book.proofs.Noting.{at-kind, same-shown}
 
--- the times at hand are those of what came of each source that was seen with a stamp
+-- `times` has the time of the sole arrival from each source that was seen with a stamp
 pub record HasTimes (c : Closed) (heard : ℕ → List Coming) (times : List ℕ) : Type 0 where
   pub time : (j stamp : ℕ) → get_or c.sees j Nothing ≡ Time stamp → slice_index times j ≡ sole_time (heard j)
 

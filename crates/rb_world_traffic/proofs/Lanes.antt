@@ -98,7 +98,7 @@ gone-others before after k m fits takes apart = elim (cases_lt m 16) [
   | inr more ↦ has_above before m fits more ∙ sym (has_above after m (omega (arith, takes.less)) more)
 ]
 
--- the nodes that are left after a step were left before it
+-- a node that is left after a step was left before it
 pub left-before : (before after k m : ℕ) → before < 2 ^ 16 → TakesFirst before after k → k < 16 → has after m ≡ true → has before m ≡ true
 left-before before after k m fits takes within is = elim (cases_same m k) [
   | inl e ↦ let never : true ≡ false = sym is ∙ ap (has after) e ∙ first_gone before after k within takes in absurd cc
