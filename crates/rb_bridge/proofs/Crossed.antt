@@ -195,7 +195,7 @@ pub record IsCrossing (x : BridgeRun) (frame : ℕ) (l r : Side) (held after : O
   pub ready : AreReady x frame l r
   pub text : x.both ≡ true → IsWritten x.b frame held after
 
--- what a frame makes of them, where the drives are as plain as they were
+-- `Crosses` holds for the run if the drives are as plain as they were
 pub now-crosses : {E : Type 0} (b : Bridge) (pairs : List Pair) (frame : ℕ) (both now_lp now_rp lp rp : Bool) (ltold lmid lsince rtold rmid rsince : Option (List Turn)) (l r : Side) (sides : Side × Side)
     (mid after : Option (List ℕ)) (result : Result Bool E) → IsBridge b → b.pairs ≡ pairs → frame < b.left.frames → now_lp ≡ lp → now_rp ≡ rp
     → AreReady (run_with b both lp ltold lmid rp rtold rmid) frame l r → ArePlain both lp rp
@@ -241,7 +241,7 @@ Finishes is_plain mid since s =
     (sc : Scenario) (handed : List HandIn) (told : Option (List Turn)) (turns : List Turn)
     → IsUnderWay sc handed is_plain told mid s.world turns (is_last (record_of s.turn)) → RunsOut sc handed is_plain told since
 
--- a drive was asked for them
+-- the drive gives all turns once it was asked for those that are left
 all-given : (b : Bridge) (bank : Bank) (frame : ℕ) (both now_plain is_plain : Bool) (told mid since : Option (List Turn)) (s : Side) → frame ≡ b.left.frames → now_plain ≡ is_plain
     → BeforeFrame b bank frame both (drive_of is_plain told mid) s → Finishes now_plain mid since s → GivesAll b bank frame both (drive_of is_plain told since)
 all-given b bank frame both now_plain is_plain told mid since s all e is finish =

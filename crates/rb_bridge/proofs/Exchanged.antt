@@ -81,7 +81,7 @@ frame-begins terms turns t before ports empty values advance nothing note going 
         now.frame_is ∙ reached_more terms.frames rs (record_of t) ∙ ap (λ o. max (reached terms.frames rs) (frame_or terms.frames (reached terms.frames rs) o)) some.1 in
         omega (arith, this, was, is)
 
--- With which turn.
+-- The turn with which the next frame begins.
 
 begun-frame : (frames f : ℕ) (r : Record) → frame_in (Some r) ≡ Some f → frame_of frames r ≡ f
 begun-frame frames f (Frame g nodes ports) at = cc
@@ -235,7 +235,7 @@ exchanged b bank frame both is_plain is_plain' told since told' since' s o world
         breaks last lt (inr d) none =
             breaks-there bank (bus_on b bank).frames (frame + 1) some.0 d.last d.its (frames-on b bank (frame + 1) bridge.frames lt) (ap (break_by bank (frame + 1)) (sym some.1) ∙ none)
 
--- the words of these pairs are those of the bridge's
+-- the words that are handed over are those of the bridge's pairs
 pub hands-these : (bank : Bank) (sc : Scenario) (bridges pairs : List Pair) (values : List (Option Heard)) (before after : KeptWorld) → bridges ≡ pairs
     → ((told : ℕ → Option Heard) (w : World) → HoldValues told values → Stands before w → Stands after (with_words sc bank told pairs w))
     → (told : ℕ → Option Heard) (w : World) → HoldValues told values → Stands before w → Stands after (with_words sc bank told bridges w)

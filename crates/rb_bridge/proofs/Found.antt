@@ -18,7 +18,7 @@ use Rattle.rb_bridge.specs.declared.side.Side.{Side}
 use Rattle.rb_bridge.specs.declared.telling.Breach.{Breach}
 use Rattle.rb_bridge.specs.Crossing.{Finds, shown, told_text}
 
--- the lines of these values are those of the bridge
+-- the lines of what the receivers found are those of the bridge
 pub found-lines : (b : Bridge) (bank : Bank) (frame : ℕ) (s : Side) → (is : Finds b bank frame s)
     → receivers_by (bus_on b bank) frame bank (λ i. group_value Most (members_on b bank) (is.told i)) ≡ receivers_text b frame bank
 found-lines b bank frame s is =

@@ -29,7 +29,7 @@ pub next-handed : (sc now : Scenario) (bank : Bank) (told : ℕ → Option Heard
 next-handed sc now bank told k pairs d w after same below stands =
     subst (Stands after) (ap (λ s. with_words s bank told (get_or pairs k d ∷ []) (with_words sc bank told (take k pairs) w)) same ∙ words-more sc bank told k pairs d w below) stands
 
--- What a frame is handed, where its record was the last turn.
+-- What a frame is handed if its record was the last turn.
 
 -- the hand-in for a pair's BIU on `bank`: the word told for the BIU on the other side
 abbrev pub handed_for : Bank → (ℕ → Option Heard) → ℕ → Pair → HandIn

@@ -43,8 +43,8 @@ none-handed : (sc : Scenario) (bank : Bank) (told : ℕ → Option Heard) (pairs
 none-handed sc bank told [] w none = refl
 none-handed sc bank told (p ∷ ps) w none = ap (with_words sc bank told ps) (hand-none sc w (biu_on bank p) _ none) ∙ none-handed sc bank told ps w none
 
--- what the words of some pairs are, of which one is handed over where the last turn was the record
--- of a frame, and none if it was not
+-- `more` has a hand-in for each pair whose BIU is good if the last turn was the record of a frame,
+-- and none if it was not
 pub record AreHanded (sc : Scenario) (bank : Bank) (told : ℕ → Option Heard) (pairs : List Pair) (w : World) : Type 0 where
   pub more : List HandIn
   pub is : IsHanded w (with_words sc bank told pairs w) more
@@ -78,7 +78,7 @@ are-handed sc bank told pairs w = by (frame_in w.turn) refl
       none = λ gone. absurd (other-frame f (sym gone ∙ e));
     }
 
--- With what the next frame begins, where the drive is plain.
+-- With what the next frame begins if the drive is plain.
 
 pub frames-on : (b : Bridge) (bank : Bank) (n : ℕ) → b.left.frames ≡ b.right.frames → n < b.left.frames → n < (bus_on b bank).frames
 frames-on b Left n same lt = lt

@@ -77,7 +77,7 @@ break-last bank frame (Some (Slot f slot lines)) k e = absurd (cc)
 break-last bank frame (Some Ended) k e = absurd (cc)
 break-last bank frame (Some (Breach place cause)) k e = refl
 
--- all were, where the last one told a breach of the frame
+-- if the last turn told a breach of the frame, all turns were given
 pub all-after : (b : Bridge) (bank : Bank) (frame : ℕ) (both is_plain : Bool) (told since : Option (List Turn)) (s : Side) (k : Break) → frame < b.left.frames → (both ≡ true → is_plain ≡ true)
     → AfterFrame b bank frame both (drive_of is_plain told since) s → break_by bank frame (record_of s.turn) ≡ Some k → GivesAll b bank frame both (drive_of is_plain told since)
 all-after b bank frame both is_plain told since s k below plain is breaks = record {

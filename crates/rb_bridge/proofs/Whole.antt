@@ -196,8 +196,8 @@ reached-words sc bank told (p ∷ ps) w is =
     let word : ℕ = word_of (told (biu_on (across bank) p)) in
     reached-words sc bank told ps (hand sc w (biu_on bank p) word) (reached-more sc w (Hand (biu_on bank p) word) is)
 
--- what was given by the start of a frame was given whatever is then handed over, as what the bridge
--- carries is
+-- what was given by the start of a frame begins the records of the run with what is then handed
+-- over
 next-first : (b : Bridge) (bank : Bank) (frame : ℕ) (handed : List HandIn) (is_plain : Bool) (told since : Option (List Turn)) (k : KeptWorld) (turns : List Turn) (over : Bool) (r : Record)
     → (is : IsUnderWay (bus_on b bank) handed is_plain told since k turns over) → handed ≡ hands_on bank (hands_up_to b frame) → BeginsOrEnds (bus_on b bank) (frame + 1) r
     → frame_in is.world.turn ≡ frame_in (Some r) → IsPrefix is.world.book.given (records_on b (hands_up_to b (frame + 1)) bank)

@@ -81,7 +81,8 @@ some-record (Some r) is = (r, refl)
 same-record : (o : Option Record) (r s : Record) → o ≡ Some r → o ≡ Some s → r ≡ s
 same-record o r s a b = let both : Some r ≡ Some s = sym a ∙ b in cc
 
--- what a call of the world makes of it, with the bus after the call
+-- a call of the world gives turn `t` and the bus afterwards, and `begun` is the frame that the turn
+-- begins
 record IsCalled (b : Bus) (after : KeptWorld) (t : Turn) (begun : Option ℕ) : Type 0 where
   goes : (w : World) → Stands b.world w → GoesToNext First b.world after t w
   rounds : (w : World) → Stands b.world w → GoesInRounds b.world after t w

@@ -80,7 +80,7 @@ time_to clock now from ticks tick left at stays le =
 pub stays_on : (ticks until i : ℕ) (segments : List (ℕ × ℕ)) → length segments ≤ i → Stays ticks until (drop i segments)
 stays_on ticks until i segments past tick h = rw (drop_all i segments past) refl
 
--- the next segment does not begin before this tick
+-- the length stays up to a tick before which the next segment does not begin
 pub stays_to : (clock : Timeline) (now from ticks until : ℕ) (left rest : List (ℕ × ℕ)) (s : ℕ × ℕ) → left ≡ s ∷ rest
     → IsAt clock now from ticks left → until ≤ s.0 → Stays ticks until left
 stays_to clock now from ticks until left rest s e at le tick h =
@@ -126,7 +126,7 @@ at_length clock now from ticks left is at =
 pub product_bound : (n ticks : ℕ) → n ≤ 8589934592 → ticks ≤ 2000000 → n * ticks ≤ 17179869184000000
 product_bound n ticks few short = omega (arith, mul-le-mul_left n short)
 
--- what the walk adds fits, where it goes no further than a tick that may be asked for
+-- what the walk adds fits if it goes no further than a tick that may be asked for
 pub product_fits : (clock : Timeline) (now from ticks until tick : ℕ) (left : List (ℕ × ℕ)) → IsClock 1 2000000 clock → IsAt clock now from ticks left
     → until ≤ tick → tick ≤ 8589934592 → Fits w64 ((until - from) * ticks)
 product_fits clock now from ticks until tick left is at le few =
@@ -140,7 +140,7 @@ sum_fits clock now from ticks until tick left is at early le few =
 pub small_time : (clock : Timeline) (time tick : ℕ) → IsClock 1 2000000 clock → time ≡ time_of clock tick → tick ≤ 2147483648 → time < 9007199254740992
 small_time clock time tick is e few = omega (arith, time_bound clock tick is)
 
--- the walk begins so, by the first of the segments
+-- the walk begins with the length of the first segment
 pub begins : (clock : Timeline) (segments : List (ℕ × ℕ)) (ticks : ℕ) → IsClock 1 2000000 clock → clock.segments ≡ segments → 1 ≤ length segments
     → ticks ≡ (get_or segments 0 (0, 0)).1 → IsAt clock clock.start 0 ticks (drop 1 segments)
 begins clock [] ticks is e some first = absurd (omega arith)

@@ -47,7 +47,7 @@ count_same p q a (suc n) same =
     let here : one_if (p a) ≡ one_if (q a) = ap one_if (same a (omega arith) (omega arith)) in
     omega (arith, here, count_same p q (a + 1) n (λ i low high. same i (omega arith) (omega arith)))
 
--- the items that pass one test pass another one too or do not
+-- the items that pass `p` are those that pass `q` too and those that do not
 count_parts : (p q : ℕ → Bool) (xs : List ℕ) → count_if (λ i. p i && q i) xs + count_if (λ i. p i && not (q i)) xs ≡ count_if p xs
 count_parts p q [] = refl
 count_parts p q (x ∷ xs) =
@@ -76,7 +76,7 @@ most_is others senders vector j =
     count_parts (counts others senders vector) (λ i. names j (vector i)) (numbers 16) ∙ sym (size-set_of (counts others senders vector)) in
     ap (λ n. nat_lt (size valid) (2 * n)) named ∙ more_than_half (size valid) (naming others senders vector j) (sparing others senders vector j) all
 
--- what is left of a set of nodes where all that no sender names were taken out
+-- to leave out the nodes that no sender names changes nothing in whom most name
 pub suspects_is : (senders trusted named : ℕ) (vector : ℕ → Heard) (j : ℕ) → (has named j ≡ false → against senders vector j ≡ 0)
     → (has (bit_and trusted named) j && most_against senders vector j) ≡ (has trusted j && most_against senders vector j)
 suspects_is senders trusted named vector j unnamed =

@@ -6,11 +6,11 @@ use Rattle.rb_base.proofs.SetLoops.{passing_below, passing_more, passing_same}
 use Rattle.rb_rules.specs.Probation.{HasNewest, StandsForNewest, newest_with}
 use Rattle.rb_rules.specs.Standing.{Standing, with_evidence, with_mismatch}
 
--- what a set has in common with the nodes that pass
+-- `s & t` has the nodes of `s` that pass, if `t` has all nodes that pass
 pub common_of : (s t r : ℕ) (p : ℕ → Bool) → r ≡ set_of (λ i. has s i && has t i) → t ≡ set_of p → r ≡ set_of (λ i. has s i && p i)
 common_of s t r p is those_are = is ∙ same_set_of _ _ (λ j h. ap (λ b. has s j && b) (has-is t j p those_are h))
 
--- a set without them
+-- `s & !t` has the nodes of `s` that do not pass, if `t` has all nodes that pass
 pub without_those : (s t r : ℕ) (p : ℕ → Bool) → r ≡ set_of (λ i. has s i && not (has t i)) → t ≡ set_of p → r ≡ set_of (λ i. has s i && not (p i))
 without_those s t r p is those_are = is ∙ same_set_of _ _ (λ j h. ap (λ b. has s j && not b) (has-is t j p those_are h))
 

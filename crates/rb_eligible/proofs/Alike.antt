@@ -19,7 +19,7 @@ one_more v true (Some y) taken n is most =
     let counts : ◌≡◌ {A = ℕ} (cond (same_heard v y) 1 0) 1 = ap (λ z. cond (same_heard v z) 1 0) same ∙ ap (λ b. cond b 1 0) (same_heard_self v) in
     omega (arith, most, counts)
 
--- the nodes from k on whose value was accepted are no more than the values from there on
+-- at most as many nodes from `k` on pass as values `v` are present there
 times_held : (p : ℕ → Bool) (v : Heard) (taken : List (Option Heard)) (k : ℕ) → ((j i : ℕ) → j ≡ k + i → i < length taken → p j ≡ true → get_or taken i None ≡ Some v)
     → count_if p (range_with_len k (length taken)) ≤ times v (present taken)
 times_held p v [] k held = omega arith

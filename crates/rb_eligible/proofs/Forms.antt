@@ -22,7 +22,7 @@ xor_same x = grind (arith, common_steps)
 xor_none : (x y : ℕ) → bit_xor x y ≡ 0 → y ≡ x
 xor_none x y none = sym (from_zero y) ∙ ap (λ z. bit_xor z y) (sym none) ∙ xor_assoc x y y ∙ ap (bit_xor x) (xor_same y) ∙ xor_with_0 x
 
--- the check at the end is right where the exclusive or of all is 0
+-- the check at the end is right if and only if its exclusive or with the other bytes' is 0
 check_right : (x y : ℕ) → (bit_xor x y == 0) ≡ (y == x)
 check_right x y = go (y == x) refl (bit_xor x y == 0) refl
   where
@@ -87,7 +87,7 @@ read_twelve : (bus low high : ℕ) → has_form (Two bus) (spelled low high 12) 
 unfolding message_in spelled
 read_twelve bus low high form = ap (λ b. if b then fields_read low high else None) form
 
--- is what is read of bytes that have the form
+-- bytes with the form of a message are read as its fields
 pub message_from : (version : Version) (low high len : ℕ) → len ≤ 12 → has_form version (spelled low high len) ≡ true → message_in version (spelled low high len) ≡ fields_read low high
 message_from One low high len short form =
     let is : len ≡ 11 = sym (length_spelled low high len short) ∙ eqb-true (length (spelled low high len)) 11 (and_first _ _ form) in

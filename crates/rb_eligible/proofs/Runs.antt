@@ -65,7 +65,7 @@ run_fewer left rest k below inside gone within =
     ∙ rw (within i h here, eq_other i k (λ at. (let e : true ≡ false = sym here ∙ ap (has rest) at ∙ gone in absurd cc))) refl) in
     omega (arith, most, size_less left k below inside)
 
--- who spells alike says the same
+-- sources that spell alike say the same
 says_at : (e : Expect) (s t : Sole) (one : Bool) (value : Option Heard) → t.low ≡ s.low → t.tail ≡ s.tail → Says e (bytes_of s) one value → Says e (bytes_of t) one value
 says_at e s t one value low tail says =
     subst (λ (n : ℕ). Says e (spelled n (high_of t.tail) (len_of t.tail)) one value) (sym low)
@@ -109,7 +109,7 @@ poor_one true one poor = absurd cc
 poor_one false true poor = poor
 poor_one false false poor = refl
 
--- the group with a run of the same value
+-- a run of the same value joins the leading group
 pub with_led : (lead run all j : ℕ) (v value : Option Heard) → all ≡ set_of (λ i. has lead i || has run i) → v ≡ value → is_some v ≡ true → j < 16 → has all j ≡ true
     → ((has lead j ≡ true) × (v ≡ value)) ⊎ ((has run j ≡ true) × ((v ≡ v) × (is_some v ≡ true)))
 with_led lead run all j v value is same some h inside = go (has lead j) (has run j) refl refl (sym (has-is all j (λ i. has lead i || has run i) is h) ∙ inside)
@@ -123,7 +123,7 @@ pub some_value : (v : Option Heard) → is_some v ≡ true → (x : Heard) × (v
 some_value None some = absurd cc
 some_value (Some x) some = (x, refl)
 
--- a run more passed
+-- one more run was passed
 pub partial_next : (kept : KeptArrivals) (e : Expect) (due left rest ones ones' lead lead' : ℕ) (one : Bool) (v value value' : Option Heard) (sole : Sole) (taken taken' : List (Option Heard))
     → ((j : ℕ) → j < 16 → has due j ≡ true → is_sole kept j ≡ true) → Says e (bytes_of sole) one v → IsRun kept left rest sole v taken taken' → ones' < 2 ^ 16
     → ((j : ℕ) → j < 16 → has ones' j ≡ (has ones j || (one && (has left j && not (has rest j)))))
@@ -177,7 +177,7 @@ partial_next kept e due left rest ones ones' lead lead' one v value value' sole 
     says_of : (j : ℕ) → j < 16 → has left j ≡ true → has rest j ≡ false → Says e (bytes_of (sole_at kept.soles j)) one v
     says_of j h inside gone = let same = run.same j h inside gone in says_at e sole (sole_at kept.soles j) one v same.1 same.2 says
 
--- the ones, with the run if it is one
+-- the ones are those before, and the run if it is one
 pub more_ones : (left rest run ones ones' : ℕ) (one : Bool) → run ≡ set_of (λ j. has left j && not (has rest j)) → ones' ≡ (if one then set_of (λ j. has ones j || has run j) else ones)
     → (j : ℕ) → j < 16 → has ones' j ≡ (has ones j || (one && (has left j && not (has rest j))))
 more_ones left rest run ones ones' true run_is is j h =
@@ -220,7 +220,7 @@ pub partial_vote : (kept : KeptArrivals) (e : Expect) (due left ones lead : ℕ)
 partial_vote kept e due left ones lead value taken none all leads partial =
     leading_vote value ones lead taken all (λ j h inside. (partial.held j h inside).1) (λ j h poor. partial.blank j h (gone_all left j none) poor) leads
 
--- the run of a word with which the sources begin
+-- if the sources begin with a run of one word, that run leads
 pub word_begun : (kept : KeptArrivals) (e : Expect) (due rest run : ℕ) (x : Heard) (sole : Sole) (taken taken' : List (Option Heard))
     → ((j : ℕ) → j < 16 → has due j ≡ true → is_sole kept j ≡ true) → taken ≡ replicate 16 None → Says e (bytes_of sole) true (Some x) → IsRun kept due rest sole (Some x) taken taken'
     → run < 2 ^ 16 → ((j : ℕ) → j < 16 → has run j ≡ (has due j && not (has rest j))) → IsPartial kept e due rest run run (Some x) taken'
@@ -230,7 +230,7 @@ word_begun kept e due rest run x sole taken taken' soles blank says taking fits 
     (λ j h inside. inr (sym (is j h) ∙ inside, (refl, refl)))
     (partial_first kept e due due 0 0 None taken refl refl refl blank)
 
--- which is that of all
+-- if the run of one word has all sources, they all lead
 pub word_of_all : (kept : KeptArrivals) (e : Expect) (due rest : ℕ) (x : Heard) (sole : Sole) (taken taken' : List (Option Heard))
     → ((j : ℕ) → j < 16 → has due j ≡ true → is_sole kept j ≡ true) → taken ≡ replicate 16 None → Says e (bytes_of sole) true (Some x) → IsRun kept due rest sole (Some x) taken taken'
     → due < 2 ^ 16 → rest ≡ 0 → IsPartial kept e due rest due due (Some x) taken'

@@ -46,7 +46,7 @@ heard_one : (e : Expect) (stamp : ℕ) (m : Option Message) → not (is_silent (
 heard_one e stamp None = refl
 heard_one e stamp (Some m) = elim (suits e m) as (λ b. not (is_silent (if b then One stamp m else Bad)) ≡ true) [ true ↦ refl | false ↦ refl ]
 
--- something came of those of which something is kept
+-- something came from a source if and only if something is kept of it
 came_kept : (e : Expect) (came spoilt : Bool) (s : Sole) (arrivals : List Arrival) → IsKept came spoilt s arrivals → not (is_silent (sense_of e arrivals)) ≡ came
 came_kept e false false s arrivals kept = rw kept refl
 came_kept e false true s arrivals kept = absurd kept
@@ -56,7 +56,7 @@ came_kept e true true s arrivals kept = rw (spoilt_bad e arrivals kept) refl
 pub came_is : (e : Expect) (kept : KeptArrivals) (received : List Received) (j : ℕ) → HoldsArrivals kept received → j < 16 → has kept.came j ≡ not (is_silent (sense_in e received j))
 came_is e kept received j shown h = sym (came_kept e (has kept.came j) (has kept.spoilt j) (sole_at kept.soles j) (arrivals_of j received) (shown j h))
 
--- exactly one message came at most of those of which one arrival is kept
+-- a source of which no sole arrival is kept is not one
 none_kept : (e : Expect) (came spoilt : Bool) (s : Sole) (arrivals : List Arrival) → (came && not spoilt) ≡ false → IsKept came spoilt s arrivals → is_one (sense_of e arrivals) ≡ false
 none_kept e false false s arrivals poor kept = rw kept refl
 none_kept e false true s arrivals poor kept = absurd kept
@@ -76,7 +76,7 @@ pub sole_is : (e : Expect) (kept : KeptArrivals) (received : List Received) (j :
     → sense_in e received j ≡ sense_of_one e (sole_at kept.soles j).at (message_in e.version (bytes_of (sole_at kept.soles j)))
 sole_is e kept received j shown h good = sole_kept e (has kept.came j) (has kept.spoilt j) (sole_at kept.soles j) (arrivals_of j received) good (shown j h)
 
--- the stamp plays no part in whether it is one, and in its value
+-- the stamp matters neither to whether a sense is one nor to its value
 one_anytime : (e : Expect) (s t : ℕ) (m : Option Message) → is_one (sense_of_one e s m) ≡ is_one (sense_of_one e t m)
 one_anytime e s t None = refl
 one_anytime e s t (Some m) =
@@ -94,7 +94,7 @@ says_sense e stamp bytes sense one value is one_is value_is = record {
   value_is = value_is ∙ ap value_in is ∙ value_anytime e stamp 0 (message_in e.version bytes);
 }
 
--- a reading of a sole arrival is what came of the source
+-- what a sole arrival says is what came from its source
 pub read_one : (e : Expect) (kept : KeptArrivals) (received : List Received) (j : ℕ) (one : Bool) (value : Option Heard) → HoldsArrivals kept received → j < 16 → is_sole kept j ≡ true
     → Says e (bytes_of (sole_at kept.soles j)) one value → one ≡ is_one (sense_in e received j)
 read_one e kept received j one value shown h good says =
@@ -124,7 +124,7 @@ one_stamp e stamp (Some m) good =
       | false ↦ λ y. absurd cc
     ] good
 
--- the bytes from the numbers that they are kept as
+-- the two numbers of some bytes spell these bytes
 pub spelled_is : (bytes room : List ℕ) (low high : ℕ) → length room ≡ 12 → ((i : ℕ) → get_or room i 0 < 256) → low ≡ from_le_bytes w64 (take 8 room) → high ≡ from_le_bytes w32 (drop 8 room)
     → take (length bytes) room ≡ bytes → spelled low high (length bytes) ≡ bytes
 unfolding spelled
@@ -163,7 +163,7 @@ no_stamp Silent poor = refl
 no_stamp (One stamp m) poor = absurd cc
 no_stamp Bad poor = refl
 
--- the stamp that is taken of a source that is expected and eligible, and one
+-- the stamp that is taken is that of the sole arrival, if the source is expected, eligible and one
 pub stamp_taken : (e : Expect) (kept : KeptArrivals) (received : List Received) (takes : Bool) (j : ℕ) → HoldsArrivals kept received → j < 16
     → (if (takes && is_one (sense_in e received j)) && is_sole kept j then Some (sole_at kept.soles j).at else None) ≡ (if takes then stamp_in (sense_in e received j) else None)
 stamp_taken e kept received takes j shown h =

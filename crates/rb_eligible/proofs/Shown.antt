@@ -1,4 +1,4 @@
--- Of which arrivals an inbox is the record, as more come, and what the node makes of them.
+-- The arrivals of which an inbox is the record, as more come, and what the node makes of them.
 use Rattle.std.proofs.Common.{◌≡◌, ◌≢◌, ℕ, ◌+◌, ◌<◌, ◌≤◌, Bool, true, false, ◌||◌, ◌==◌, List, [], ◌∷◌, ◌++◌, length, map, filter, set, inl, inr, refl, sym, ◌∙◌, ap, arith, length-append}
 use Rattle.std.proofs.lemmas.Bool.{cases_eq}
 use Rattle.std.proofs.lemmas.List.{get_or-set_other, get_or-set_same, map-append}
@@ -52,7 +52,7 @@ kept_some : (spoilt : Bool) (s : Sole) (arrivals : List Arrival) → IsKept true
 kept_some false s arrivals kept = let n = ap length kept.1 in omega (arith, n)
 kept_some true s arrivals kept = elim kept [ inl one ↦ (let n = ap length one.1.0 in omega (arith, n)) | inr many ↦ omega (arith, many) ]
 
--- the set with one node more
+-- the set with node `k`
 abbrev pub with_node : ℕ → ℕ → ℕ
 with_node set k = set_of (λ i. has set i || (i == k))
 
@@ -84,7 +84,7 @@ shows_first kept received i at bytes s below all first at_is short bytes_are sho
           (with_other kept.came i j h apart) refl (get_or-set_other kept.soles i j s _ apart) (same_arrivals i j received a apart) (shown j h)
     ]
 
--- an arrival after which the source cannot be good
+-- an arrival after which its source cannot be good spoils the source
 pub shows_spoilt : (kept : KeptArrivals) (received : List Received) (i : ℕ) (a : Arrival) → i < 16
     → (has kept.came i ≡ false → 12 < length a.bytes) → HoldsArrivals kept received
     → HoldsArrivals (record { came = with_node kept.came i; spoilt = with_node kept.spoilt i; soles = kept.soles })

@@ -10,7 +10,7 @@ use Rattle.rb_rules.specs.Spelling.{check_of}
 all_of : ℕ → ℕ → ℕ → ℕ → ℕ
 all_of a b c d = bit_xor (bit_xor a b) (bit_xor c d)
 
--- the order of the inner two is free
+-- the two inner bytes may change places
 swap_two : (a b c d : ℕ) → all_of a b c d ≡ all_of a c b d
 unfolding all_of
 swap_two a b c d =

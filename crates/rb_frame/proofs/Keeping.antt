@@ -56,7 +56,7 @@ pub filled_begins : (bytes : List ℕ) → take (length bytes) (filled bytes) �
 unfolding filled
 filled_begins bytes = take-append_seam bytes (drop (length bytes) (replicate 32 0))
 
--- the numbers of 32 bytes have these
+-- the numbers of the first twelve bytes and the other bytes are all 32 bytes
 pub all_is : (all : List ℕ) (low high : ℕ) → length all ≡ 32 → ((i : ℕ) → get_or all i 0 < 256) → low ≡ from_le_bytes w64 (take 8 all) → high ≡ from_le_bytes w32 (take 4 (drop 8 all))
     → to_le_bytes w64 low ++ to_le_bytes w32 high ++ drop 12 all ≡ all
 all_is all low high whole small low_is high_is =

@@ -52,7 +52,7 @@ both_pass p q (x ∷ xs) hp hq =
 within : (low high n : ℕ) → low ≤ n → n ≤ high → (nat_le low n && nat_le n high) ≡ true
 within low high n least most = and_from (nat_le low n) (nat_le n high) (le-leb low n least) (le-leb n high most)
 
--- a rule that is kept leaves it to the next
+-- if a rule is kept and the next ones are, none is broken
 kept : (b : Bool) (why : Refusal) (next : Option Refusal) → b ≡ true → next ≡ None → or_else b why next ≡ None
 kept true why next h e = e
 kept false why next h e = absurd (false≢true h)

@@ -58,7 +58,7 @@ same_says : (drawn : List ℕ) (frames : ℕ) → says_of (bus_in frames) (table
 unfolding say_of content_in table_of scenario_of plan named digits
 same_says drawn frames = refl
 
--- a scenario by what is read part by part
+-- the scenario with these parts
 abbrev of_parts : ℕ → List ℕ → List ℕ → List ℕ → List Timeline → List Rule → List (Option (ℕ × ℕ)) → List (Option (ℕ × ℕ)) → List Say → Scenario
 of_parts frames requests words apps clocks rules biu rmu says = record {
   sizes = sizes;

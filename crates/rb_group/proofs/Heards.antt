@@ -14,7 +14,7 @@ use Rattle.rb_rules.specs.ExactStage.{present}
 use Rattle.rb_group.specs.Groups.{first_of, value_of, values_of}
 use Rattle.rb_group.specs.Keeping.{HasHeard, KeptGroup, with_first}
 
--- the first of two answers
+-- the first answer, or else the other
 abbrev pub or_else : {X : Type 0} → Option X → Option X → Option X
 or_else None other = other
 or_else (Some x) other = Some x

@@ -33,7 +33,7 @@ told_same members told also groups same hold = record {
   each = λ i g there. subst (λ ds. HoldsPortion members ds g) (same i) (hold.each i g there);
 }
 
--- what one of them holds
+-- each group holds the portion of its port
 pub portion_at : (members : ℕ) (told : ℕ → List Delivery) (groups : List KeptGroup) (i : ℕ) (g d : KeptGroup) → i < 16 → g ≡ get_or groups i d
     → HoldPortions members told groups → HoldsPortion members (told i) g
 portion_at members told groups i g d below is hold = hold.each i g (slice_get-get_or groups i d (omega (arith, below, hold.many)) ∙ ap Some (sym is))
@@ -61,7 +61,7 @@ no_port members frame slot line told groups past hold = record { many = hold.man
         let many = hold.many in
         absurd (omega (arith, is, below, many, past))
 
--- a line of one port, whose group hears it
+-- the group of a port hears the line of that port
 pub line_heard : (members frame slot : ℕ) (line : SlotLine) (told : ℕ → List Delivery) (groups : List KeptGroup) (before after : KeptGroup)
     → HoldPortions members told groups → HoldsPortion members (told line.receiver) before
     → ((ds : List Delivery) → HasHeard before ds → HasHeard after (ds ++ delivery_of frame slot line ∷ [])) → after.members ≡ before.members
@@ -126,7 +126,7 @@ reached_more frames (x ∷ rs) o = ap (max (frame_of frames x)) (reached_more fr
 
 -- A slot.
 
--- what a slot of this frame tells, and what one of another does not
+-- the record of a slot of the frame tells a port what the lines deliver to it
 pub slot_told : (frame i f slot : ℕ) (lines : List SlotLine) → f ≡ frame → deliveries_in f slot i lines ≡ told_of frame i (Slot f slot lines)
 slot_told frame i f slot lines same =
     ap (λ k. deliveries_in k slot i lines) same

@@ -1,5 +1,5 @@
--- For readers of the laws; no contract cites it yet: what a run says of a group, where its drive is
--- plain, is what the records of the rounds say.
+-- For readers of the laws; no contract cites it yet: if its drive is plain, what a run says of a
+-- group is what the records of the rounds say.
 use Rattle.std.proofs.Common.{◌≡◌, ℕ, true, Option, List, [], ◌∷◌, ◌++◌, refl, sym, ap, ◌∙◌, subst, append_assoc}
 use Rattle.std.proofs.lemmas.List.{append-nil}
 use Rattle.rb_rules.specs.Book.{Record}

@@ -42,7 +42,7 @@ pub none_written : (k : KeptWorld) (asked : Asked) (is_plain : Bool) (told : Opt
 none_written k asked is_plain told held ports begun frame =
     record { turns = []; given = begins k is_plain told begun; many = refl; text = appends_none held; frame = frame }
 
--- the ports after one more, where the scope is the scenario's
+-- the ports hold one more record, if the scope is that of the scenario
 pub frame_next : (sc : Scenario) (scope : Scope) (asked : Asked) (records : List Record) (o : Option Record) (ports next : Ports) → IsScopeOf sc scope → HoldsFrame sc.frames asked records ports
     → ((rs : List Record) → HoldsFrame scope.frames asked rs ports → HoldsFrame scope.frames asked (rs ++ option_to_list o) next)
     → HoldsFrame sc.frames asked (records ++ option_to_list o) next

@@ -16,13 +16,13 @@ use Rattle.rb_judge.proofs.Sides.{kind_knows}
 pub shows_knows : (judge : KeptJudge) (stages : List JudgedStage) → HoldsStages judge stages → Knows judge stages
 shows_knows judge stages is = record { bius = kind_knows Biu stages judge.bius is.bius; rmus = kind_knows Rmu stages judge.rmus is.rmus }
 
--- Condition `good`: a node is good in the newest stage where the stage says so.
+-- Condition `good`: a node is good in the newest stage if the stage says so.
 pub good_shown : (judge : KeptJudge) (stages : List JudgedStage) (kind : Side) (i : ℕ) → HoldsStages judge stages
     → is_good_now judge (name_of kind i) ≡ has (good_now kind stages) i
 good_shown judge stages Biu i is = ap (λ s. has s i) is.bius.good
 good_shown judge stages Rmu i is = ap (λ s. has s i) is.rmus.good
 
--- who is good stays so from note to note
+-- a note leaves the good nodes of a kind as they are
 pub good_stays : (kind : Side) (receiver : NodeName) (from : ℕ) (see : See) (stages : List JudgedStage)
     → good_now kind (with_newest_sight receiver from see stages) ≡ good_now kind stages
 good_stays kind receiver from see [] = refl

@@ -8,8 +8,7 @@ use Rattle.rb_base.proofs.Plain.{and-same}
 use Rattle.rb_base.proofs.Sets.{same_set_of}
 use Rattle.rb_rules.specs.Judging.{JudgedStage, cause_of, classes_of, good_now, is_asymmetric, is_benign, is_suspect, trusted_now, verdict_of, was_taken, was_unlike}
 
--- the stages have the same newest sets of this kind, and show the same of those that are trusted
--- and not good in the newest
+-- the newest stages have the same sets of the kind, and all stages show the same of its suspects
 pub record AgreeOnSuspects (kind : Side) (xs ys : List JudgedStage) : Type 0 where
   pub good : good_now kind xs ≡ good_now kind ys
   pub trusted : trusted_now kind xs ≡ trusted_now kind ys

@@ -76,7 +76,7 @@ was_taken_is : (kind : Side) (j : ℕ) (x : JudgedStage)
 unfolding some_node
 was_taken_is kind j x = refl
 
--- who saw something is good
+-- a source was heard if and only if some good receiver saw something of it
 pub heard_is : (eps good : ℕ) (sight : ℕ → See) (seen : SourceSights) → ShowsSource eps good sight seen
     → seen.heard ≡ some_node (λ i. has good i && is_something (sight i))
 heard_is eps good sight seen is =
@@ -127,7 +127,7 @@ kind_begun kind stages before after good trusted eps begins by_none is = record 
   taken = λ j h. begins.taken_is j h ∙ is.taken j h;
 }
 
--- a stage that is told whole
+-- a kind that knows the earlier stages knows one more that is told whole
 pub kind_passed : {K : Type 0} (kind : Side) (stages : List JudgedStage) (before after : KeptKind) (sets : StageSets K) (s : JudgedStage)
     → Begins before after sets.good sets.trusted sets.taken sets.unlike → AreSetsOf kind sets s
     → KnowsKind kind stages before → KnowsKind kind (s ∷ stages) after
@@ -206,7 +206,7 @@ pub eps_stays : (receiver : NodeName) (from : ℕ) (see : See) (stages : List Ju
 eps_stays receiver from see [] = refl
 eps_stays receiver from see (x ∷ earlier) = refl
 
--- who is in a set has a number below 16
+-- a node in a mask of 16 bits has a number below 16
 pub member_below : (s i : ℕ) → s < 2 ^ 16 → has s i ≡ true → i < 16
 member_below s i fits member =
     elim (cases_lt i 16) [ inl below ↦ below | inr above ↦ absurd (let e = has_above s i fits above in cc) ]

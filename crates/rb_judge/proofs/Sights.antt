@@ -125,12 +125,12 @@ old_stays before after r adds k below old = adds.grown k below ∙ or_left _ _ o
 r_joins : (before after r : ℕ) → Adds before after r → has after r ≡ true
 r_joins before after r adds = adds.grown r adds.below ∙ or_right _ _ (eq_self r)
 
--- who is in it now was in it, or is r
+-- a receiver in `after` was in `before`, or is `r`
 r_or_old : (before after r : ℕ) → Adds before after r → (k : ℕ) → k < 16 → has after k ≡ true → (has before k ≡ true) ⊎ (k ≡ r)
 r_or_old before after r adds k below now =
     elim (or_cases (has before k) (k == r) (sym (adds.grown k below) ∙ now)) [ inl old ↦ inl old | inr same ↦ inr (eqb-true k r same) ]
 
--- a receiver of old sees what it saw
+-- a receiver in `before` still sees what it saw
 old_sees : (before after r : ℕ) (x : See) (sight : ℕ → See) → Adds before after r → (k : ℕ) → has before k ≡ true → with_x r x sight k ≡ sight k
 old_sees before after r x sight adds k old = at_other r x sight k (old_is_other before after r adds k old)
 
@@ -174,7 +174,7 @@ one_more eps before after r x sight adds y =
           })
     ])
 
--- two that are unlike now
+-- two receivers saw unlike if two did before, or if one saw unlike `x`
 pair_more : (eps before after r : ℕ) (x : See) (sight : ℕ → See) → Adds before after r
     → some_unlike eps after (with_x r x sight) ≡ (some_unlike eps before sight || some_differs eps before sight x)
 pair_more eps before after r x sight adds =
@@ -361,7 +361,7 @@ kept_more eps before after r x sight false kept adds something some is = kept_fi
 
 -- ---- whether two good receivers saw unlike
 
--- a good receiver that saw nothing, where not all of them saw something
+-- if the receivers that saw something are not all good ones, some good receiver saw nothing
 left_out : (good by : ℕ) → good < 2 ^ 16 → by < 2 ^ 16 → ((i : ℕ) → i < 16 → has by i ≡ true → has good i ≡ true) → (by == good) ≡ false
     → some_node (λ i. has good i && not (has by i)) ≡ true
 left_out good by fits_good fits_by within apart =

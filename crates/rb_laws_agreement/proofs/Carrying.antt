@@ -51,7 +51,7 @@ raw-readable version bytes each m read =
     let are : AreBytes bytes = λ k. get-all (λ byte. byte < 2 ^ 8) bytes k (omega arith) each in
     (only_so version bytes m read are).0
 
--- what is said is so
+-- the bytes of a message in range are readable
 said-readable : (version : Version) (place : Place) (content : Content) → place.slot < 2 ^ 16 → 1 ≤ place.stage → IsContent content
     → IsReadable version (bytes_of version place content)
 said-readable version place (Word word) slot stage is =
@@ -62,7 +62,7 @@ said-readable version place Sync slot stage is =
     spelled-readable version (message_at place tag.Sync 0) (record { frame = omega arith; slot = slot; some_stage = omega arith; most_stages = omega arith; value = refl })
 said-readable version place (Raw bytes) slot stage is = raw-readable version bytes.items is.each
 
--- each of a list is so
+-- `P` holds for each item of the list
 abbrev Every : {X : Type 0} → (X → Type 0) → List X → Type 0
 Every P [] = Unit {0}
 Every P (x ∷ xs) = P x × Every P xs

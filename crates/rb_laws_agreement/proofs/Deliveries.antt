@@ -73,7 +73,7 @@ no-delivery Biu st slot (DiagRmu i) sender stage voted h = refl
 no-delivery Biu st slot Sync sender stage voted h = refl
 no-delivery Rmu st slot role sender stage voted h = refl
 
--- the owner, as a good node holds it
+-- the owner of a slot is the one that a good node holds
 pub owner-held : (sc : Scenario) (m : Moment) (s : Shared) (me : Side) (st : NodeState) (slot : ℕ) → Holds sc m s me st
     → owner_at sc.sizes st slot ≡ owner_sending (role_of sc.sizes slot) (sender_of sc.sizes s slot)
 owner-held sc m s me st slot h = go (role_of sc.sizes slot)
@@ -100,7 +100,7 @@ pub line-closed : (sc : Scenario) (m : Moment) (slot stage : ℕ) (ws : Windows 
 unfolding close_on row_of
 line-closed sc m slot stage ws me i st = refl
 
--- what a node's window makes it tell
+-- the row that a node tells of its window
 abbrev pub row_after : Scenario → Moment → Side → ℕ → NodeState → Option Row
 row_after sc m me i st = (go_through sc m (sent_in sc m) me i st (window_in sc m me st)).row
 

@@ -39,7 +39,7 @@ pub knows_next : (sc : Scenario) (m : Moment) (slot stage : ℕ) (ws : Windows s
 knows_next sc m slot stage ws me i st law below good knows =
     numbered-knows sc m (sent_in sc m) me i m.window st (has_ticks sc law) below (ap (λ w. is_good sc me i m.frame w.slot) (ws.are me st) ∙ good) knows
 
--- a node keeps as many votes as it has
+-- a window leaves a node as many votes as it had
 votes-long : (sc : Scenario) (hands : List HandIn) (n : ℕ) (m : Moment) (s : Shared) (slot q : ℕ) (c : Setting sc hands n m s slot q) (me : Side) (i : ℕ) (st now : NodeState)
     → IsGoodNode sc m me i st → after sc m me i st ≡ now → length now.votes ≡ length st.votes
 votes-long sc hands n m s slot q c me i st now here is =
@@ -76,7 +76,7 @@ holds_exact sc hands n m s t slot q c fits none same me i now h owners =
           (sym (good_here sc hands n m s slot q c me i) ∙ from.was.good) holds.knows);
     }
 
--- the owners that it holds
+-- a good node holds the owners that its votes give
 owners-are : (sc : Scenario) (hands : List HandIn) (n : ℕ) (m : Moment) (s : Shared) (slot q : ℕ) (c : Setting sc hands n m s slot q) (me : Side) (i : ℕ) (st now : NodeState)
     → IsGoodNode sc m me i st → after sc m me i st ≡ now → now.owners ≡ owners_after sc.sizes me st slot (q + 1) now.votes
 owners-are sc hands n m s slot q c me i st now here is =
@@ -146,7 +146,7 @@ agree_2 sc hands n m s slot c is =
 
 -- The window of stage 3.
 
--- what all hold after the slot
+-- what all good nodes share after the slot with this value
 pub with_value : Scenario → Shared → ℕ → Heard → Shared
 with_value sc s slot value =
     let values : ℕ → Heard = λ t. if t == slot then value else s.values t in
@@ -156,7 +156,7 @@ with_value sc s slot value =
       values = values;
     }
 
--- the senders of the slots so far are the same
+-- the value of a slot leaves the senders of the slots up to it
 same-sender : (sc : Scenario) (s : Shared) (slot : ℕ) (value : Heard) (t : ℕ) → t ≤ slot → sender_of sc.sizes s t ≡ sender_of sc.sizes (with_value sc s slot value) t
 unfolding with_value
 same-sender sc s slot value t before = go (slot + 1 == sc.sizes.bius) refl
@@ -190,7 +190,7 @@ pub value-before : (sc : Scenario) (s : Shared) (slot : ℕ) (value : Heard) (t 
 unfolding with_value
 value-before sc s slot value t before = let e : (t == slot) ≡ false = grind (arith, nat_tests) in ap (λ b. if b then value else s.values t) e
 
--- all slots so far are finished
+-- all slots up to this one are finished
 finished-all : (sc : Scenario) (hands : List HandIn) (n : ℕ) (m : Moment) (s : Shared) (slot : ℕ) (c : Setting sc hands n m s slot 2)
     → (t : ℕ) → t ≤ slot
     → IsFinished sc hands (next sc m) (with_value sc s slot (voted sc hands n m s slot c).value) t ((with_value sc s slot (voted sc hands n m s slot c).value).values t)

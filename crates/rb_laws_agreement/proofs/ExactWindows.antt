@@ -39,7 +39,7 @@ speaker_first me role = go me (sender_kind role)
     go Rmu Biu h = refl
     go Rmu Rmu h = cc
 
--- a node that listens expects a trusted source just where that one speaks
+-- a node that listens expects a trusted source if and only if that source speaks
 pub expects_who_speaks : (me : Side) (role : Role) (sender : Sender) (trusted j : ℕ) (source : NodeState) (slot q word : ℕ) → q < 3 → IsSingle sender → has trusted j ≡ true
     → expects me role sender trusted (q + 1) j ≡ is_some (says_of (other me) j source slot role sender (q + 1) word)
 expects_who_speaks me role Nobody trusted j source slot q word small single t =
@@ -84,7 +84,7 @@ abbrev pub IsSenseOf : Sense → NodeState → ℕ → ℕ → Option Heard → 
 IsSenseOf sense source slot stage None = sense ≡ Silent
 IsSenseOf sense source slot stage (Some value) = IsOne sense (message_of source slot stage value)
 
--- what is said is taken of an eligible source that is expected where it speaks
+-- what an eligible source says is taken, if the source is expected exactly when it speaks
 pub takes_what_is_said : (s : Standing) (expected : ℕ → Bool) (sense : ℕ → Sense) (source : NodeState) (slot stage j : ℕ) (said : Option Heard)
     → expected j ≡ is_some said → is_eligible s j ≡ true → IsSenseOf (sense j) source slot stage said → taken_of value_in s expected sense j ≡ said
 takes_what_is_said s expected sense source slot stage j None ex el is = unexpected_not_taken value_in s expected sense j ex
@@ -174,7 +174,7 @@ spares_right reference s expected sense j below right clear =
     ap (λ d. has d j) (compared-direct reference (closing_of s expected sense) (with_evidence (has_evidence s expected sense) s))
     ∙ others_stay (has_evidence s expected sense) s j below (right_is_no_evidence s expected sense j right) ∙ clear
 
--- a source of which nothing but the value was taken is not accused by mismatch
+-- a source from which nothing but the value was taken is not accused by mismatch
 pub spares_alike : (reference : Option Heard) (s : Standing) (expected : ℕ → Bool) (sense : ℕ → Sense) (j : ℕ) → j < 16
     → ((value : Heard) → reference ≡ Some value → is_unlike value (taken_of value_in s expected sense j) ≡ false) → has s.mismatch j ≡ false
     → has (compare_with reference (closing_of s expected sense) (with_evidence (has_evidence s expected sense) s)).mismatch j ≡ false

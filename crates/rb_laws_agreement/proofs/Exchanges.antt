@@ -81,7 +81,7 @@ sensed sc m slot q ws me i j st source (Some value) shape below small frame_i fr
     (value_is_message source slot (q + 1) value few (omega arith) (omega arith) fits)
     (value_suits sc.sizes sc.plan.version source (kept_in sc m slot (q + 1) me i st) slot (q + 1) value (frame_j ∙ sym frame_i ∙ sym (kept-frame sc m slot (q + 1) me i st)) away)
 
--- a good source at a good node: what it says is taken, and is no wrong
+-- a good node takes what a good source says, and finds no wrong in it
 pub record IsHeard (sc : Scenario) (m : Moment) (slot stage : ℕ) (ws : Windows sc m slot stage) (me : Side) (i j : ℕ) (st source : NodeState) : Type 0 where
   pub takes : take_at sc.sizes me st slot stage (sense_in sc m slot stage ws me i st) j ≡ says sc.sizes (other me) j source slot stage (word_at sc m slot j)
   pub right : does_wrong (expected_at sc.sizes me st slot stage j) (sense_in sc m slot stage ws me i st j) ≡ false

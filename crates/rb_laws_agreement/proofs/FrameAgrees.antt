@@ -84,7 +84,7 @@ turns sizes plan me st knows = turns-known sizes plan me st (new_epoch_of plan m
 
 -- The next frame.
 
--- what all hold then
+-- what all good nodes share in the next frame
 pub shared_next : Sizes → Shared → Shared
 shared_next sizes s = record {
   trusted = λ kind. without (s.trusted kind) (convicted_all sizes s kind);
@@ -100,7 +100,7 @@ pub next-owners : (sizes : Sizes) (s : Shared) → (shared_next sizes s).owners 
 unfolding shared_next
 next-owners sizes s = refl
 
--- who is trusted afterwards was trusted before
+-- a node that is trusted afterwards was trusted before
 trusted-before : (trusted convicted j : ℕ) → has (without trusted convicted) j ≡ true → has trusted j ≡ true
 trusted-before trusted convicted j h =
     elim (cases_lt j 16) [
@@ -111,7 +111,7 @@ trusted-before trusted convicted j h =
           let both : true ≡ false = sym h ∙ none in cc
     ]
 
--- who is good in a frame was good at the end of the one before
+-- a node that is good in a frame was good at the end of the one before
 pub was_good_then : (sc : Scenario) (hands : List HandIn) (m : Moment) (me : Side) (i : ℕ) → is_good_now sc (next_frame sc hands m) me i ≡ true → is_good_now sc m me i ≡ true
 unfolding begin_frame
 was_good_then sc hands m me i good =

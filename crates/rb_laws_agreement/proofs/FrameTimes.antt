@@ -119,7 +119,7 @@ start-at sc me i good st = if good then option_map (λ st. time_in_frame sc me i
 pub starts : Scenario → List HandIn → ℕ → Side → ℕ → Option ℕ
 starts sc hands frame me i = start-at sc me i (is_good sc me i frame 0) (slice_get (of_kind me (before_slot sc hands frame 0).nodes) i)
 
--- the least of these; if there is none, what is left
+-- the least time at which a good node starts the frame, or `otherwise` if there is none
 least-or : (sc : Scenario) (hands : List HandIn) (frame : ℕ) → IsFirstOf (starts sc hands frame) 16 ⊎ HaveNone (starts sc hands frame) 16 → ℕ → ℕ
 least-or sc hands frame (inl first) otherwise = first.at
 least-or sc hands frame (inr none) otherwise = otherwise
@@ -211,7 +211,7 @@ pub turned-epoch : (sizes : Sizes) (plan : Plan) (me : Side) (st : NodeState) (e
 unfolding turn
 turned-epoch sizes plan me st epoch e = ap (λ o. (elim o as (λ _. NodeState) [ None ↦ st | Some epoch ↦ turn sizes plan.probation me epoch st ]).epoch) e
 
--- a good node begins the next frame at the epoch it knew
+-- a good node begins the next frame with the epoch that it knew
 next-epoch : (sc : Scenario) (hands : List HandIn) → IsLawful sc → (frame : ℕ) → IsComplete sc hands frame (sync_slot_of sc.sizes)
     → (me : Side) (i : ℕ) (st now : NodeState) → IsGoodAfter sc hands frame (sync_slot_of sc.sizes) me i st → IsGoodBefore sc hands (suc frame) 0 me i now
     → (epoch : ℕ) → new_epoch_of sc.plan me st ≡ Some epoch → now.epoch ≡ epoch

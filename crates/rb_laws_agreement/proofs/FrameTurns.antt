@@ -56,7 +56,7 @@ pub role-sender : (trusted : Side → ℕ) (owners : List ℕ) (kind : Side) (i 
 role-sender trusted owners Biu i t = rw t refl
 role-sender trusted owners Rmu i t = rw t refl
 
--- the vector slot of a trusted node has a value
+-- the vector slot of a trusted node is finished, and its value is a vector if the node is good
 pub record VectorOf (sc : Scenario) (hands : List HandIn) (m : Moment) (s : Shared) (kind : Side) (i : ℕ) : Type 0 where
   pub finished : IsFinished sc hands m s (vector_slot sc.sizes kind i) (s.values (vector_slot sc.sizes kind i))
   pub kind_is : kind_in sc.sizes (vector_slot sc.sizes kind i) ≡ kind
@@ -85,7 +85,7 @@ vector_at sc hands n m s agree kind i done t =
           subst (λ k. IsVector sc m (other k) (s.values slot)) kind_is (own.vector (ap is_diagnosis role ∙ role-diagnosis kind i));
     }
 
--- all vectors are there at the end
+-- all slots below the sync slot are over at the end of a frame
 end-done : (sc : Scenario) (hands : List HandIn) (n : ℕ) (m : Moment) (s : Shared) → AtEnd sc hands n m s → (slot : ℕ) → slot < sync_slot_of sc.sizes → 3 * slot + 3 ≤ m.window
 end-done sc hands n m s e slot lt = let at : m.window ≡ windows_in sc.sizes = e.at in omega arith
 
@@ -207,7 +207,7 @@ good_not_convicted sc hands n m s e accused j good =
     le-from-lt : (a b : ℕ) → a < b → a ≤ b
     le-from-lt a b h = omega arith
 
--- a trusted node that all good nodes' vectors name is
+-- a trusted node that the vectors of all good nodes name is convicted
 pub named_by_all : (sc : Scenario) (hands : List HandIn) (n : ℕ) (m : Moment) (s : Shared) → AtEnd sc hands n m s → (accused : Side) (j : ℕ)
     → has (s.trusted accused) j ≡ true
     → ((i : ℕ) → has (s.trusted (other accused)) i ≡ true → is_good_now sc m (other accused) i ≡ true → names j (s.values (vector_slot sc.sizes (other accused) i)) ≡ true)

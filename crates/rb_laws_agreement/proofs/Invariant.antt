@@ -31,7 +31,7 @@ pub record Shared : Type 0 where
   pub owners : List ℕ  -- of the data slots, once they stand
   pub values : ℕ → Heard  -- of the finished slots
 
--- who sends in a slot
+-- the sender of a slot
 abbrev pub sender_of : Sizes → Shared → ℕ → Sender
 sender_of sizes s slot = sender_in (s.trusted Biu) (s.trusted Rmu) s.owners (role_of sizes slot)
 

@@ -105,7 +105,7 @@ first_present P [] each r rs h = cc
 first_present P (None ∷ xs) each r rs h = first_present P xs (λ i x is. each (suc i) x is) r rs h
 first_present P (Some y ∷ xs) each r rs h = let e : y ≡ r = cc in subst P e (each 0 y refl)
 
--- whom the first row tells to trust, all good nodes trust
+-- all good nodes trust the nodes that the first row says to trust
 pub first_row_trusts : (sc : Scenario) (m : Moment) (slot stage : ℕ) (ws : Windows sc m slot stage) (trusted : Side → ℕ)
     → ((me : Side) (i : ℕ) (st : NodeState) → slice_get (of_kind me m.nodes) i ≡ Some st → is_good sc me i m.frame slot ≡ true → (kind : Side) → trusted_of kind me st ≡ trusted kind)
     → (r : Row) (rs : List Row) → present (in_order (rows_of sc m)) ≡ r ∷ rs → (kind : Side) → trusted_in kind r ≡ trusted kind
@@ -159,7 +159,7 @@ nobody_trusted p some =
     let no_it : has 0 one.at ≡ false = has_none one.at in
     cc
 
--- the premise holds after such a stage, if all good nodes trust the same
+-- the premise holds after a stage without a cause, if all good nodes trust the same
 pub premise_after : (sc : Scenario) (m : Moment) (slot stage : ℕ) (ws : Windows sc m slot stage) (trusted : Side → ℕ)
     → ((me : Side) (i : ℕ) (st : NodeState) → slice_get (of_kind me m.nodes) i ≡ Some st → is_good sc me i m.frame slot ≡ true → (kind : Side) → trusted_of kind me st ≡ trusted kind)
     → verdict_of (judged_of sc (record { frame = m.frame; slot = slot; stage = stage }) (rows_of sc m) ∷ m.book.stages) ≡ None

@@ -27,7 +27,7 @@ use Rattle.rb_laws_agreement.proofs.Settings.{Setting, stages_with, good_state, 
 abbrev pub next : Scenario → Moment → Moment
 next sc m = after_window sc m (results_of sc m)
 
--- who is good afterwards was good before
+-- a node that is good after the window was good before it
 pub was_good : (sc : Scenario) (m : Moment) (me : Side) (i : ℕ) → is_good_now sc (next sc m) me i ≡ true → is_good_now sc m me i ≡ true
 unfolding after_window
 was_good sc m me i good =
@@ -50,7 +50,7 @@ came_from sc hands n m s agree me i now h =
       is = same_Some (after sc m me i old.value) now (sym (state-after sc m me i old.value old.is) ∙ h.there);
     }
 
--- the nodes are as many as before
+-- a window leaves as many nodes as there were
 pub counts_after : (sc : Scenario) (m : Moment) (me : Side) → length (of_kind me (next sc m).nodes) ≡ length (of_kind me m.nodes)
 unfolding after_window results_of
 counts_after sc m me =
@@ -59,7 +59,7 @@ counts_after sc m me =
 
 -- The book.
 
--- the window of a number, if it is one of a slot below the sync slot
+-- window `n` of a frame, if it is below the sync slot, is the exact window `n`
 exact-there : (sizes : Sizes) (plan : Plan) (n : ℕ) → n < 3 * sync_slot_of sizes → slice_get (windows_of_frame sizes plan) n ≡ Some (exact_window plan n)
 exact-there sizes plan n h =
     let front : List Window = map (exact_window plan) (numbers (3 * sync_slot_of sizes)) in
@@ -74,7 +74,7 @@ sync-there sizes plan r =
     let long : length front ≡ 3 * sync_slot_of sizes = length-map-range_with_len (exact_window plan) 0 (3 * sync_slot_of sizes) in
     ap (λ m. slice_get (windows_of_frame sizes plan) (m + r)) (sym long) ∙ slice_get-back front (sync_windows sizes plan) r
 
--- the book after a window below the sync slot is that with its stage
+-- a window below the sync slot adds its stage to the book
 pub book_exact : (sc : Scenario) (m : Moment) (slot q : ℕ) → slot < sync_slot_of sc.sizes → q < 3 → m.window ≡ 3 * slot + q
     → (next sc m).book ≡ with_stage sc (record { frame = m.frame; slot = slot; stage = q + 1 }) (rows_of sc m) m.book
 unfolding after_window

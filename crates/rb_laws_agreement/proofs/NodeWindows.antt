@@ -145,11 +145,11 @@ sending-some sizes plan me j st slot stage word tick message is at =
 abbrev pub kept_in : (sc : Scenario) (m : Moment) (slot stage : ℕ) → Side → ℕ → NodeState → NodeState
 kept_in sc m slot stage me i st = keep_sent sc.sizes me i st slot stage (word_at sc m slot i)
 
--- what comes to it of a source
+-- what comes to a node from a source in its window
 abbrev pub heard_in : (sc : Scenario) (m : Moment) (slot stage : ℕ) → Windows sc m slot stage → Side → ℕ → NodeState → ℕ → List Coming
 heard_in sc m slot stage ws me i st = heard_at sc me i st (own_window sc m slot stage ws me st) (sent_in sc m)
 
--- what it makes of that
+-- what a node makes of what comes to it from a source
 abbrev pub sense_in : (sc : Scenario) (m : Moment) (slot stage : ℕ) → Windows sc m slot stage → Side → ℕ → NodeState → ℕ → Sense
 sense_in sc m slot stage ws me i st j =
     sense_of (expect_of sc.sizes sc.plan.version (kept_in sc m slot stage me i st) slot stage)

@@ -15,7 +15,7 @@ pub how_many-is : (p : ℕ → Bool) → how_many p ≡ size (set_of p)
 unfolding how_many
 how_many-is p = refl
 
--- what passes the first test passes the second
+-- if what passes `p` passes `q`, at most as many pass `p` as `q`
 pub how_many-le : (p q : ℕ → Bool) → ((i : ℕ) → i < 16 → p i ≡ true → q i ≡ true) → how_many p ≤ how_many q
 unfolding how_many
 how_many-le p q gives =

@@ -94,7 +94,7 @@ sender-says x trusted owners s p sender good =
     own_is_said x.sizes (kind_in x) p (x.before (kind_in x) p) x.slot (x.word p)
     (sender-held x trusted owners 0 s (omega arith) (kind_in x) p good ∙ sender) refl
 
--- all good relays have got it
+-- all good relays have got the value of a good sender
 got-own : (x : Exchange) (trusted : Side → ℕ) (owners : List ℕ) (e : IsExchange x trusted owners) (s : Stands x trusted owners 0) (p : ℕ) → sender_of x trusted owners ≡ Node p
     → x.good (kind_in x) p ≡ true → (i : ℕ) → x.good (other (kind_in x)) i ≡ true → (state_after x 1 (other (kind_in x)) i).got ≡ Some (value_sent x p)
 got-own x trusted owners e s p sender good i g =
@@ -121,7 +121,7 @@ voted-for x trusted owners e pr s p sender got all i g =
     all-vote x trusted owners 1 e pr s (omega arith) (omega arith) (kind_in x) (unwrap_or got Fault)
     (λ j h. relay-says x trusted owners s p sender j h ∙ ap (λ o. Some (unwrap_or o Fault)) (all j h)) i g
 
--- a good source, if there is a good node that votes
+-- if a node of a kind is good, some node of the other kind is good
 some-source : (x : Exchange) → KeepsPremise x → (q : ℕ) → 1 ≤ q → q < 3 → (me : Side) (i : ℕ) → x.good me i ≡ true → Passing (x.good (other me)) 0 16
 some-source x pr q late small me i g =
     let more : GoodOutnumber (x.good (other me)) (takes_after x q me i) = pr.most q me i late small g in
@@ -185,7 +185,7 @@ none-unlike-2 x trusted owners e s0 s1 me i j g h value reference =
 
 -- Stage 3.
 
--- the value for which all good voters have voted in stage 2
+-- all good voters have voted for `value` in stage 2, and it is Fault in an idle slot
 pub record HasValue (x : Exchange) (trusted : Side → ℕ) (owners : List ℕ) : Type 0 where
   pub value : Heard
   pub voters : (i : ℕ) → x.good (kind_in x) i ≡ true → voted x 1 (kind_in x) i ≡ value
@@ -215,7 +215,7 @@ voters-hold : (x : Exchange) (trusted : Side → ℕ) (owners : List ℕ) (v : H
     → (i : ℕ) → x.good (kind_in x) i ≡ true → vote_on (state_after x 2 (kind_in x) i) x.slot ≡ v.value
 voters-hold x trusted owners v s i g = vote-held x trusted owners 1 s (kind_in x) i g (voters-vote (role_of x.sizes x.slot)) ∙ v.voters i g
 
--- the other kind votes for it, where it votes
+-- in stage 3 the other kind votes for the value, if it votes
 relays-vote : (x : Exchange) (trusted : Side → ℕ) (owners : List ℕ) (e : IsExchange x trusted owners) → KeepsPremise x → (v : HasValue x trusted owners) → Stands x trusted owners 1 → Stands x trusted owners 2
     → has_third_stage (role_of x.sizes x.slot) ≡ true → (i : ℕ) → x.good (other (kind_in x)) i ≡ true → voted x 2 (other (kind_in x)) i ≡ v.value
 relays-vote x trusted owners e pr v s1 s2 third i g = go (sender_of x trusted owners) refl

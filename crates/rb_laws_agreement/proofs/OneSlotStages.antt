@@ -31,7 +31,7 @@ use Rattle.rb_laws_agreement.proofs.ExactWindows.{IsSingle, expects_who_speaks, 
 use Rattle.rb_laws_agreement.proofs.Exchanges.{trusted-either, far-trusted, eligible}
 use Rattle.rb_laws_agreement.proofs.JudgedWindows.{stays-trusted}
 
--- what node j of a kind says in the stage after these, and the vote of a node's close of it
+-- what node `j` of kind `me` says in stage q + 1, and the vote of a node's close of that stage
 abbrev pub said : Exchange → ℕ → Side → ℕ → Option Heard
 said x q me j = says x.sizes me j (state_after x q me j) x.slot (q + 1) (x.word j)
 
@@ -76,7 +76,7 @@ sense-of : (source : NodeState) (slot stage : ℕ) (what : Option Heard) (sense 
 sense-of source slot stage None sense b = b
 sense-of source slot stage (Some value) sense b = record { stamp = b.0; is = b.1 }
 
--- what it says is taken, and is no wrong
+-- a good node takes what a good source says, and finds no wrong in it
 pub record HearsGood (x : Exchange) (q : ℕ) (me : Side) (i j : ℕ) : Type 0 where
   pub takes : takes_after x q me i j ≡ said x q (other me) j
   pub right : does_wrong (expected_at x.sizes me (state_after x q me i) x.slot (q + 1) j) (x.came (q + 1) me i j) ≡ false

@@ -37,7 +37,7 @@ port-after sc rows ports i within =
     get-some (ports_after rows ports) i fresh (port_after (line_in (get_or rows i None)) (get_or ports i fresh))
     (get-each (make_after rows) (as_each ports) Biu i ∙ ap (option_map (make_after rows Biu i)) (slice_get-get_or ports i fresh within))
 
--- As a frame begins.
+-- The start of a frame.
 
 pub with-state-long : (k state : ℕ) (ports : List PortState) → length (with_state k state ports) ≡ length ports
 with-state-long k state [] = refl
@@ -53,7 +53,7 @@ handed-long frame (h ∷ hs) ports =
     go true = with-state-long h.biu h.state ports
     go false = refl
 
--- the port whose state it is
+-- a state that is handed in changes the port at its place alone
 with-state-at : (k state i : ℕ) (ports : List PortState) (d : PortState) → i < length ports
     → get_or (with_state k state ports) i d ≡ (if k == i then record (get_or ports i d) { state = state } else get_or ports i d)
 with-state-at k state i [] d h = absurd (omega arith)
@@ -73,7 +73,7 @@ with-state-at (suc k) state (suc i) (p ∷ ps) d h =
 abbrev after_hand : Bool → HandIn → List PortState → List PortState
 after_hand b h ports = if b then with_state h.biu h.state ports else ports
 
--- the states for a BIU with this one, if it is among them
+-- the states in `xs` for BIU `i`, with that of `x` if it is among them
 abbrev more_states : ℕ → ℕ → Bool → HandIn → List HandIn → List ℕ
 more_states i frame b x xs =
     map (λ h. h.state) (cond b (x ∷ filter (λ h. (h.frame == frame) && (h.biu == i)) xs) (filter (λ h. (h.frame == frame) && (h.biu == i)) xs))

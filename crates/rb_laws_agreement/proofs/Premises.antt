@@ -21,7 +21,7 @@ abbrev pub is_active : Scenario → Side → ℕ → ℕ → (Side → ℕ) → 
 is_active sc kind frame slot trusted stages j =
     has (trusted kind) j && not (is_good sc kind j frame slot) && not (is_benign kind stages j)
 
--- a trusted node that is good
+-- the node is trusted and good
 abbrev pub is_sound : Scenario → Side → ℕ → ℕ → (Side → ℕ) → ℕ → Bool
 is_sound sc kind frame slot trusted j = has (trusted kind) j && is_good sc kind j frame slot
 

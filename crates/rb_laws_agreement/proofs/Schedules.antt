@@ -12,7 +12,7 @@ use Rattle.rb_rules.specs.Owners.{request_in, owners_in_pass, owners_of}
 use Rattle.rb_rules.specs.Slots.{role_of, sender_in}
 use Rattle.rb_rules.proofs.Slots.{schedule_role}
 
--- each item of a list is so
+-- `P` holds for each item of the list
 abbrev pub AllIn : (ℕ → Type 0) → List ℕ → Type 0
 AllIn P xs = (k p : ℕ) → slice_get xs k ≡ Some p → P p
 
@@ -72,7 +72,7 @@ take-range f (suc k) from (x ∷ xs) long each =
 pub take-are : (f : ℕ → Heard) (k : ℕ) (xs : List Heard) → k ≤ length xs → ((t : ℕ) → t < k → get_or xs t Fault ≡ f t) → take k xs ≡ map f (numbers k)
 take-are f k xs long each = take-range f k 0 xs long (λ t h. each t h ∙ ap f (let g : t ≡ 0 + t = omega arith in g))
 
--- whose sender is the same by any owners
+-- the sender of a schedule slot is the same whatever the owners are
 pub same_requester : (sizes : Sizes) (bius rmus : ℕ) (a b : List ℕ) (t : ℕ) → t < sizes.bius
     → sender_in bius rmus a (role_of sizes t) ≡ sender_in bius rmus b (role_of sizes t)
 same_requester sizes bius rmus a b t h =

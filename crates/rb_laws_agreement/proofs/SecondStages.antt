@@ -114,7 +114,7 @@ vote-held sc hands n m s slot q c me i st now here is votes =
     ∙ ap (λ b. get_or (if b then slice_set st.votes slot voted else st.votes) slot Fault) votes
     ∙ get_or-set_same st.votes slot voted Fault (omega arith)
 
--- a good node below 16 that the premise gives
+-- some node of the kind is good
 pub record GoodOne (sc : Scenario) (m : Moment) (me : Side) : Type 0 where
   pub index : ℕ
   pub st : NodeState
@@ -165,7 +165,7 @@ voted-for sc hands n m s slot c p got sender all i st here =
 
 -- The votes agree.
 
--- a sender that is not good is seen alike, where its kind is: so all relays have got the same
+-- if a sender that is not good was seen alike, all relays have got the same
 same-got : (sc : Scenario) (hands : List HandIn) (n : ℕ) (m : Moment) (s : Shared) (slot : ℕ) (c : Setting sc hands n m s slot 1) (p : ℕ) → sender_of sc.sizes s slot ≡ Node p
     → ((j : ℕ) → j < 16 → has (s.trusted (kind_in sc.sizes slot)) j ≡ true → is_good sc (kind_in sc.sizes slot) j m.frame slot ≡ false → is_asymmetric (kind_in sc.sizes slot) (stages_with sc m slot 2) j ≡ false)
     → (a b : ℕ) (sta stb : NodeState) → IsGoodNode sc m (other (kind_in sc.sizes slot)) a sta → IsGoodNode sc m (other (kind_in sc.sizes slot)) b stb → sta.got ≡ stb.got
@@ -241,7 +241,7 @@ idle-vote sc hands n m s slot q c idle me i st here =
     (λ j. ap (λ x. expects me (role_of sc.sizes slot) x st.far.trusted (q + 1) j) (sender-held sc m s me st slot (c.agree.nodes me i st here) ∙ idle)
     ∙ idle_expects_nobody me (role_of sc.sizes slot) st.far.trusted (q + 1) j)
 
--- no source is seen that was not seen with the newest stage
+-- a node that is benign with the newest stage was benign before it
 pub benign-before : (kind : Side) (st : JudgedStage) (stages : List JudgedStage) (j : ℕ) → is_benign kind (st ∷ stages) j ≡ true → is_benign kind stages j ≡ true
 benign-before kind st stages j h = go (was_taken kind j st) (list_any (was_taken kind j) stages) h
   where

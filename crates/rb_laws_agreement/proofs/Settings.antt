@@ -48,7 +48,7 @@ pub ticks : (sc : Scenario) (hands : List HandIn) (n : ℕ) (m : Moment) (s : Sh
     → HasTick sc m slot (q + 1) (windows sc hands n m s slot q c)
 ticks sc hands n m s slot q c = exact_tick sc m slot q c.below c.small c.at c.law.plan.l.0
 
--- good nodes are those of the slot
+-- a node is good in the moment if and only if it is good in the slot
 pub good_here : (sc : Scenario) (hands : List HandIn) (n : ℕ) (m : Moment) (s : Shared) (slot q : ℕ) → Setting sc hands n m s slot q → (me : Side) (i : ℕ)
     → is_good_now sc m me i ≡ is_good sc me i m.frame slot
 good_here sc hands n m s slot q c me i = ap (is_good sc me i m.frame) (slot_here sc.sizes m.window slot q c.below c.small c.at)
@@ -67,7 +67,7 @@ good_state sc hands n m s agree me i good =
     let counted : i < count_of me sc.sizes = good_counts sc me i m.frame (slot_numbered sc.sizes m.window) good in
     item_at (of_kind me m.nodes) i (omega arith)
 
--- the premise holds with this stage
+-- the premise holds with the stage of the setting
 pub premise : (sc : Scenario) (hands : List HandIn) (n : ℕ) (m : Moment) (s : Shared) (slot q : ℕ) → Setting sc hands n m s slot q
     → Premise sc m.frame slot s.trusted (stages_with sc m slot (q + 1))
 premise sc hands n m s slot q c =
@@ -151,7 +151,7 @@ NoneUnlike sc hands n m s slot q c =
     (closing_at sc.sizes me st slot (q + 1) (sense_in sc m slot (q + 1) (windows sc hands n m s slot q c) me i st)) ≡ Some value
     → is_unlike value (taken sc hands n m s slot q c me i st j) ≡ false
 
--- node j is not accused in this state
+-- node `j` is accused neither directly nor by mismatch in this state
 pub record SparesNode (st : NodeState) (j : ℕ) : Type 0 where
   pub direct : has st.far.direct j ≡ false
   pub mismatch : has st.far.mismatch j ≡ false

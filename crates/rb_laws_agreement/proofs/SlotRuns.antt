@@ -98,7 +98,7 @@ slot_runs_from sc hands law frame slot below complete p =
     shift : (a b : ℕ) → a + b + 1 ≡ a + (b + 1)
     shift a b = omega arith
 
--- what all hold through it is what they held before it
+-- what all good nodes share stays the same through a slot
 pub slot_runs-shared : (sc : Scenario) (hands : List HandIn) (law : IsLawful sc) (frame slot : ℕ) (below : slot < sync_slot_of sc.sizes) (complete : IsComplete sc hands frame slot)
     (p : IsPlaced sc hands frame slot 1) → (slot_runs_from sc hands law frame slot below complete p).shared ≡ p.shared
 unfolding slot_runs_from

@@ -33,7 +33,7 @@ abbrev pub value_of_slot : (sc : Scenario) (hands : List HandIn) (frame slot : �
 value_of_slot sc hands frame slot r =
     (voted sc hands (suc (suc r.steps)) (next sc (next sc (before_slot sc hands frame slot))) r.shared slot r.third).value
 
--- each good voter of stage 2 votes for it
+-- each good voter of stage 2 votes for the value of the slot
 pub votes_for : (sc : Scenario) (hands : List HandIn) (frame slot : ℕ) (r : IsSlot sc hands frame slot) (i : ℕ) (st : NodeState)
     → IsGoodNode sc (next sc (before_slot sc hands frame slot)) (kind_in sc.sizes slot) i st
     → vote_of sc hands (suc r.steps) (next sc (before_slot sc hands frame slot)) r.shared slot 1 r.second (kind_in sc.sizes slot) i st ≡ value_of_slot sc hands frame slot r

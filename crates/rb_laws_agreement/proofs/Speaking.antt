@@ -41,7 +41,7 @@ voters_deaf role stage h = rw (same_side_self (sender_kind role)) h
 pub relays_listen : (role : Role) → listens (other (sender_kind role)) role 1 ≡ true
 relays_listen role = rw (same_side_other (sender_kind role)) refl
 
--- who listens in stage 2 is of the sender's kind
+-- a node that listens in stage 2 is of the sender's kind
 pub listens_second : (me : Side) (role : Role) → listens me role 2 ≡ true → me ≡ sender_kind role
 listens_second me role h = go (same_side me (sender_kind role)) refl h
   where
@@ -49,7 +49,7 @@ listens_second me role h = go (same_side me (sender_kind role)) refl h
     go true e h = same_side-is me (sender_kind role) e
     go false e h = cc
 
--- who listens in the others is of the other kind
+-- a node that listens in stage 1 is of the other kind than the sender
 pub listens_first : (me : Side) (role : Role) → listens me role 1 ≡ true → me ≡ other (sender_kind role)
 listens_first me role h = go (same_side me (sender_kind role)) refl h
   where
@@ -123,7 +123,7 @@ says_nothing sizes me i st slot stage word deaf = go (sender_at sizes me st slot
     go EachTrusted = refl
     go (Node p) = rw deaf refl
 
--- What is said where a node speaks.
+-- What is said when a node speaks.
 
 pub own_is_said : (sizes : Sizes) (me : Side) (i : ℕ) (st : NodeState) (slot word : ℕ) → sender_at sizes me st slot ≡ Node i → me ≡ sender_kind (role_of sizes slot)
     → says sizes me i st slot 1 word ≡ Some (own_value st (role_of sizes slot) word)
@@ -149,7 +149,7 @@ vote_is_said sizes me i p st slot word sender speaks =
     let role : Role = role_of sizes slot in
     ap (λ x. says_of me i st slot role x 3 word) sender ∙ ap (λ b. if b then Some (get_or st.votes slot Fault) else None) speaks
 
--- what is the value, or nothing, is not unlike it
+-- what is said, if it is `value` or nothing, is not unlike `value`
 pub only-alike : (said : Option Heard) (value : Heard) → IsOnly said value → is_unlike value said ≡ false
 only-alike said value (inl none) = ap (is_unlike value) none
 only-alike said value (inr some) = ap (is_unlike value) some ∙ alike_is_not_unlike value

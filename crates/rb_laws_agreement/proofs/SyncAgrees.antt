@@ -36,7 +36,7 @@ pub record SyncSetting (sc : Scenario) (hands : List HandIn) (n : ℕ) (m : Mome
   pub benign : (kind : Side) (j : ℕ) → is_benign kind (next sc m).book.stages j ≡ true → is_benign kind m.book.stages j ≡ true
   pub judged : 2 ≤ q → Premise sc m.frame (sync_slot_of sc.sizes) s.trusted (next sc m).book.stages
 
--- good nodes are those of the sync slot
+-- a node is good in the moment if and only if it is good in the sync slot
 pub good-here : (sc : Scenario) (hands : List HandIn) (n : ℕ) (m : Moment) (s : Shared) (q : ℕ) (ws : Windows sc m (sync_slot_of sc.sizes) (q + 1)) → SyncSetting sc hands n m s q ws
     → (me : Side) (i : ℕ) → is_good_now sc m me i ≡ is_good sc me i m.frame (sync_slot_of sc.sizes)
 good-here sc hands n m s q ws c me i = ap (is_good sc me i m.frame) (slot_last sc.sizes m.window q c.at)
@@ -131,7 +131,7 @@ book_sync sc m q small at =
     ap (λ k. book_after sc m.frame (slice_get (windows_of_frame sc.sizes sc.plan) k) (rows_of sc m) m.book) at
     ∙ ap (λ w. book_after sc m.frame w (rows_of sc m) m.book) (sync-there sc.sizes sc.plan q ∙ sync_window sc.sizes sc.plan q small)
 
--- the tail leaves it
+-- the tail leaves the book as it is
 pub book_tail : (sc : Scenario) (m : Moment) → m.window ≡ 3 * sync_slot_of sc.sizes + 3 → (next sc m).book ≡ m.book
 unfolding after_window
 book_tail sc m at =

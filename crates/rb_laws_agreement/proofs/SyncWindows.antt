@@ -1,5 +1,5 @@
--- The windows of the sync slot, the tail with them: whoever is good calls where it is expected, and
--- is not accused.
+-- The windows of the sync slot, the tail with them: a good node calls when it is expected, and is
+-- not accused.
 use Rattle.std.proofs.Common.{◌≡◌, ℕ, zero, suc, ◌+◌, ◌-◌, ◌*◌, ◌<◌, ◌≤◌, ◌%◌, ◌==◌, ◌&&◌, nat_le, Bool, true, false, Option, Some, None, is_some, option_map, slice_get, if◌then◌else◌, refl, sym, ◌∙◌, ap, subst, arith, inl, inr}
 use Rattle.std.proofs.lemmas.Bool.{leb-true, lt-ltb}
 use Rattle.rb_base.specs.Nodes.{Side, other, has}
@@ -143,7 +143,8 @@ sync_right sc m s stage ws me i j st source shape ticks here there is good t =
 
 -- What a close makes.
 
--- what a window of the sync slot leaves of a node, and whom it accuses
+-- a window of the sync slot leaves votes, owners and mismatches, and accuses only nodes that did
+-- wrong
 pub record IsAfterSync (st now : NodeState) (wrong : ℕ → Bool) : Type 0 where
   pub votes : now.votes ≡ st.votes
   pub owners : now.owners ≡ st.owners

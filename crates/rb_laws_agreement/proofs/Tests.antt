@@ -31,7 +31,7 @@ passes_at p i h pass =
     let at : get_or (numbers 16) i 0 ≡ i = get_or-range_with_len 0 16 i 0 h ∙ zero-add i in
     list_any_at p (numbers 16) i 0 h (ap p at ∙ pass)
 
--- a number that passes
+-- a number of the `n` ones from `from` on passes
 pub record Passing (p : ℕ → Bool) (from n : ℕ) : Type 0 where
   pub at : ℕ
   pub low : from ≤ at
@@ -55,7 +55,7 @@ get-some [] i d x h = cc
 get-some (y ∷ ys) zero d x h = cc
 get-some (y ∷ ys) (suc i) d x h = get-some ys i d x h
 
--- what is there is something
+-- the option has a value
 pub record Present {X : Type 0} (o : Option X) : Type 0 where
   pub value : X
   pub is : o ≡ Some value

@@ -1,4 +1,4 @@
--- Stage 3 of a slot: after it the good nodes of the other kind hold the same vote, where they vote.
+-- Stage 3 of a slot: after it the good nodes of the other kind hold the same vote, if they vote.
 -- Data slots have none.
 use Rattle.std.proofs.Common.{◌≡◌, ℕ, ◌+◌, ◌<◌, ◌&&◌, ◌||◌, Bool, true, false, List, inl, inr, Some, None, slice_set, get_or, if◌then◌else◌, refl, sym, ◌∙◌, ap, subst, arith}
 use Rattle.std.specs.Prelude.{IfSome}
@@ -151,7 +151,7 @@ finished_next sc hands n m s slot q c t value before f = record {
       other_votes_kept sc hands n m s slot q c me i from.st now t from.was from.is before ∙ f.held me i from.st from.was votes;
 }
 
--- a node of the other kind votes where there is a third stage
+-- a node of the other kind votes if there is a third stage
 pub third-voted : (role : Role) → (if has_third_stage role then true else same_side (other (sender_kind role)) Biu) ≡ true → has_third_stage role ≡ true
 third-voted (Schedule i) h = refl
 third-voted (Data n) h = cc

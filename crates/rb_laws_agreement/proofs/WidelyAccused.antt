@@ -160,7 +160,7 @@ state-then sc hands law frame slot lt p me i good =
     here : (window : ℕ) → window ≡ 3 * slot + (1 - 1) → slot_numbered sc.sizes window ≡ slot
     here window e = omega arith
 
--- the end runs on
+-- the run goes on after a complete sync slot
 end-runs : (sc : Scenario) (hands : List HandIn) → IsLawful sc → (frame : ℕ) → IsComplete sc hands frame (sync_slot_of sc.sizes) → IsRunning (next sc (after_slot sc hands frame (sync_slot_of sc.sizes)))
 end-runs sc hands law frame complete =
     let p : IsPlaced sc hands frame (sync_slot_of sc.sizes) 4 = placed sc hands law frame (sync_slot_of sc.sizes) 4 (omega arith) (omega arith) (omega arith) complete in
@@ -193,7 +193,7 @@ trusts-then sc hands law frame slot lt complete e p me i st there good =
     stay : HasStayed sc hands n k me i st
     stay = stays_on sc hands n k me i st (ap (λ m. m.book.ended) reached ∙ end-runs sc hands law frame complete) (within (before_slot sc hands frame slot).window p.window_is) there
 
--- a good node's vector names whom it accused then, and trusts still
+-- a good node's vector names the nodes that it accused when the slot began and still trusts
 vector-names : (sc : Scenario) (hands : List HandIn) → IsLawful sc → (frame : ℕ) → IsComplete sc hands frame (sync_slot_of sc.sizes) → (e : IsEnd sc hands frame)
     → (accused : Side) (j : ℕ) → has (e.shared.trusted accused) j ≡ true → IsAccusedByAll sc hands frame accused j
     → (i : ℕ) → has (e.shared.trusted (other accused)) i ≡ true
@@ -238,7 +238,7 @@ vector-names sc hands law frame complete e accused j t all i trusts good =
     v : VectorOf sc hands b e.shared from i
     v = vector_end sc hands (end_steps sc frame) b e.shared e.at_end from i trusts
 
--- whoever all accuse is convicted
+-- a node that all good nodes of the other kind accuse is convicted at the end of the frame
 convicted-then : (sc : Scenario) (hands : List HandIn) → IsLawful sc → (frame : ℕ) → IsComplete sc hands frame (sync_slot_of sc.sizes) → (e : IsEnd sc hands frame)
     → (accused : Side) (j : ℕ) → j < 16 → IsAccusedByAll sc hands frame accused j → has (without (e.shared.trusted accused) (convicted_all sc.sizes e.shared accused)) j ≡ false
 convicted-then sc hands law frame complete e accused j small all =

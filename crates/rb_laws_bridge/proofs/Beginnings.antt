@@ -51,7 +51,7 @@ end-gives b going = ap (λ e. (elim e as (λ _. Book) [ true ↦ b | false ↦ r
 
 -- The start of a frame.
 
--- what is told of the frame after this moment's by those who begin it
+-- what is told of the start of the next frame by the nodes that start it
 abbrev begun_next : Scenario → Moment → List Begun
 begun_next sc m =
     present (in_order (map_each (begun_if_good sc (m.frame + 1) m.ports) (map_each (λ me i st. turn_if_known sc.sizes sc.plan me st) m.nodes)))

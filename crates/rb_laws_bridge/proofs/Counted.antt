@@ -109,7 +109,7 @@ one-less passes x from (suc n) low high pass =
 
 -- Items, by a number of each.
 
--- no later item has the first one's number
+-- no item of `ys` has the number of `x`
 pub later-apart : {X : Type 0} (key : X → ℕ) (x y : X) (ys : List X) → IsDistinct eqb (key x ∷ map key ys) → IsIn y ys → (key y == key x) ≡ false
 unfolding IsDistinct
 later-apart key x y [] d h = absurd h

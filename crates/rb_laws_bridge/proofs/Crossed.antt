@@ -79,7 +79,7 @@ all-in P x [] inside all = absurd inside
 all-in P x (y ∷ ys) (inl same) all = subst P same (All-head P y ys all)
 all-in P x (y ∷ ys) (inr later) all = all-in P x ys later (All-tail P y ys all)
 
--- what is known where words cross
+-- what is known if words cross
 record IsCrossing (b : Bridge) (bank : Bank) (frame : ℕ) (owner : ℕ → Option ℕ) : Type 0 where
   pub bridge : IsBridge b
   pub unbroken : AreUnbroken b (frame + 1)
@@ -109,7 +109,7 @@ word-small b bank frame owner c =
     word-fits near (hands_on (across bank) (hands_of b)) (c.bridge.lawful (across bank)) frame slot inside
     (earlier-complete near (hands_on (across bank) (hands_of b)) frame slot (omega (arith, inside)) (c.unbroken (across bank)))
 
--- a sound pair offers it on the far bus
+-- a sound pair offers the word of the near bus on the far bus
 sound-offers : (b : Bridge) (bank : Bank) (frame : ℕ) (owner : ℕ → Option ℕ) → IsCrossing b bank frame owner → (pair : Pair) → IsIn pair b.pairs → is_sound b bank owner frame pair ≡ true
     → offer_of (bus_on b bank) (hands_on bank (hands_of b)) (frame + 1) owner (biu_on bank pair) ≡ Some (word_on b (across bank) frame)
 sound-offers b bank frame owner c pair inside sound =

@@ -24,9 +24,9 @@ use Rattle.rb_laws_bridge.specs.Laws.{FramesGoByTheEarlier, HandInsAreCarried}
 use Rattle.rb_laws_bridge.proofs.Breaks.{breaks-alike}
 use Rattle.rb_laws_bridge.proofs.Later.{AreLater, deliveries-alike}
 
--- For which frame.
+-- The frame of a hand-in.
 
--- each of these is for this frame
+-- each hand-in is for this frame
 abbrev AreFor : ℕ → List HandIn → Type 0
 AreFor frame [] = ⊤
 AreFor frame (h ∷ hs) = (h.frame ≡ frame) × AreFor frame hs
@@ -64,7 +64,7 @@ hands-step : (b : Bridge) (bank : Bank) (n : ℕ) → hands_on bank (hands_up_to
 hands-step b Left n = refl
 hands-step b Right n = refl
 
--- what comes after a frame is for later ones
+-- the hand-ins up to frame n + k are those up to frame `n` and later ones
 pub record MoreLater (b : Bridge) (bank : Bank) (n k : ℕ) : Type 0 where
   pub more : List HandIn
   pub is : hands_on bank (hands_up_to b (n + k)) ≡ hands_on bank (hands_up_to b n) ++ more

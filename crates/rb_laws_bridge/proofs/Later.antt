@@ -18,7 +18,7 @@ use Rattle.rb_laws_groups.proofs.Added.{step-tells, told-more, told_in}
 
 -- Moments of the run.
 
--- each of these is for a later frame
+-- each hand-in is for a later frame
 abbrev pub AreLater : ℕ → List HandIn → Type 0
 AreLater frame [] = ⊤
 AreLater frame (h ∷ hs) = (frame < h.frame) × AreLater frame hs

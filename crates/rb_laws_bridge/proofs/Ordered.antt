@@ -27,8 +27,8 @@ use Rattle.rb_laws_bridge.proofs.Later.{past_frame, told-after}
 
 -- What a step adds.
 
--- the second book has this record more, of a frame that is at most this one, and after each earlier
--- one of the run
+-- the second book has one more record, `r`, of a frame that is at most `frame`, and after each
+-- earlier one of the run
 record HasOneMore (sc : Scenario) (frame : ℕ) (a b : Book) (r : Record) : Type 0 where
   pub given : b.given ≡ a.given ++ r ∷ []
   pub upper : frame_told sc.frames r ≤ frame
@@ -123,7 +123,7 @@ first-adds sc hands = frame-adds sc 0 _ fresh_book
 
 -- The moment of a record.
 
--- a list that ends with another item ends with this one, or has it before
+-- in a list that ends with `s`, item `r` is the last one or comes before it
 pub split-last : {X : Type 0} (xs : List X) (r : X) (rest given : List X) (s : X) → given ++ s ∷ [] ≡ xs ++ r ∷ rest
     → ((rest ≡ []) × (r ≡ s)) ⊎ ((more : List X) × (given ≡ xs ++ r ∷ more))
 split-last [] r rest [] s e = inl (let t : rest ≡ [] = cc in t, let h : r ≡ s = cc in h)
@@ -139,7 +139,7 @@ split-last {X} (x ∷ xs) r rest (g ∷ gs) s e =
       | inr more ↦ inr (more.0, let h : g ≡ x = cc in ap (λ y. y ∷ gs) h ∙ ap (λ ys. x ∷ ys) more.1)
     ]
 
--- the moment with which the last of these records was given
+-- moment `at` is the one with which the last of these records, `r`, was given
 pub record IsGivenAt (sc : Scenario) (hands : List HandIn) (records : List Record) (r : Record) (n : ℕ) : Type 0 where
   pub at : ℕ
   pub early : at ≤ n

@@ -129,8 +129,7 @@ value_by sc hands frame slot i n = value_in slot (told_in frame i (moment sc han
 abbrev completed : Scenario → ℕ → ℕ → ℕ
 completed sc frame slot = frame * (windows_in sc.sizes + 1) + 3 * slot + 3
 
--- a step with which another slot is complete, or this one if the BIU is not good in it, adds no
--- value
+-- the BIU is not good in the slot if the step completes the slot
 abbrev pub AddsNoValue : Scenario → ℕ → ℕ → ℕ → ℕ → Type 0
 AddsNoValue sc frame slot i p = suc p ≡ completed sc frame slot → is_good sc Biu i frame slot ≡ false
 
@@ -249,7 +248,7 @@ good-tell sc hands law frame slot below complete i good =
     last : (a slot : ℕ) → a + 3 * slot + 3 ≡ a + 3 * slot + 4 - 1
     last a slot = omega arith
 
--- Its word has four bytes.
+-- The word of a slot has four bytes.
 
 fits-one : (value : Heard) → IsCarried value → word_of (Some value) < 2 ^ 32
 fits-one (Word w) carried = carried

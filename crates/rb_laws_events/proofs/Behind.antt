@@ -40,7 +40,7 @@ use Rattle.rb_laws_events.proofs.ToldSoFar.{AllHaveTold, HasTold, PendsFirst}
 use Rattle.rb_laws_events.proofs.Untold.{HasNotTold, not-told}
 use Rattle.rb_laws_events.proofs.WorldStands.{AllPend, IsDown, IsUp, SitesStand, sent_by}
 
--- a node that runs has not passed moment n: it stands in an earlier one, or in this, before the
+-- a node that runs has not passed moment `n`: it is in an earlier one, or in this one before the
 -- frame's first tick
 pub record IsBehind (sc : Scenario) (hands : List HandIn) (at : Side → ℕ → ℕ) (sites : Each Site) (n : ℕ) : Type 0 where
   pub me : Side

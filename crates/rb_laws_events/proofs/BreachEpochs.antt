@@ -1,4 +1,4 @@
--- For the law that events are rounds where the premise on faults is broken in a sync slot: whatever
+-- For the law that events are rounds if the premise on faults is broken in a sync slot: whatever
 -- the verdict on the last stage, each good node begins the next frame after all stages of this one.
 use Rattle.std.proofs.Common.{◌≡◌, ℕ, zero, suc, ◌+◌, ◌*◌, ◌<◌, ◌≤◌, nat_le, cond, Bool, true, false, List, [], ◌∷◌, map, filter_map, refl, ap, sym, ◌∙◌, subst, arith, inl, inr, Option, Some, None, option_map, unwrap_or, lit<}
 use Rattle.std.proofs.lemmas.Bool.{cases_lt}
@@ -64,7 +64,7 @@ none-up m bound lt (x ∷ xs) all =
     not-le : (a b : ℕ) → b < a → nat_le a b ≡ false
     not-le a b h = grind (arith, nat_tests)
 
--- a middle is not below them
+-- a middle is at least a bound of all stamps
 least-middle : (m bound : ℕ) (xs : List ℕ) → Every (λ k. bound ≤ k) xs → IsMiddle m xs → bound ≤ m
 least-middle m bound xs all is =
     elim (cases_lt m bound) [
@@ -80,7 +80,7 @@ every-present P f all (n ∷ ns) = by (f n) refl (every-present P f all ns)
     by None e rest = rest
     by (Some k) e rest = (all n k e, rest)
 
--- the middle that is kept of stamps of a window comes in it
+-- the middle that a window keeps is at least a bound of its stamps and of its first tick
 pub middle-least : (bound first : ℕ) (f : ℕ → Option ℕ) → ((j k : ℕ) → f j ≡ Some k → bound ≤ k) → bound ≤ first → bound ≤ unwrap_or (middle_of (present (each_node f))) first
 middle-least bound first f all le = by (middle_of (present (each_node f))) refl
   where
@@ -139,7 +139,7 @@ third-first : (sc : Scenario) (m : Moment) → m.window ≡ 3 * sync_slot_of sc.
     → (window_in sc m me st).first ≡ f0_of sc.sizes sc.plan + sc.plan.l + sc.plan.v
 third-first sc m at me st = ap (λ n. (window_numbered sc.sizes sc.plan me st n).first) at ∙ ap (λ (w : Window). w.first) (sync-numbered sc.sizes sc.plan me st 2)
 
--- the middle that an RMU keeps of it comes in it, whatever the verdict
+-- the middle that an RMU keeps of the last stage comes in that stage, whatever the verdict
 pub rmu-middle : (sc : Scenario) (hands : List HandIn) → IsLawful sc → (p : ℕ) → IsRunning (moment sc hands p) → (moment sc hands p).window ≡ 3 * sync_slot_of sc.sizes + 2 → (i : ℕ) (st : NodeState)
     → IsGoodNode sc (moment sc hands p) Rmu i st
     → (k : ℕ) × (((after sc (moment sc hands p) Rmu i st).k3 ≡ Some k) × (st.epoch + (f0_of sc.sizes sc.plan + sc.plan.l + sc.plan.v) ≤ k))

@@ -1,4 +1,4 @@
--- For the law that events are rounds where the premise on faults is broken in a sync slot: whatever
+-- For the law that events are rounds if the premise on faults is broken in a sync slot: whatever
 -- the verdict on a stage of the sync slot, each good node's next frame, as far as it knows when,
 -- begins after all stages of this one.
 use Rattle.std.proofs.Common.{◌≡◌, ℕ, zero, suc, ◌+◌, ◌*◌, ◌<◌, ◌≤◌, true, List, ◌∷◌, [], ap, sym, ◌∙◌, arith, Option, Some, option_map, unwrap_or, lit<}
@@ -38,7 +38,7 @@ second-first : (sc : Scenario) (m : Moment) → m.window ≡ 3 * sync_slot_of sc
     → (window_in sc m me st).first ≡ f0_of sc.sizes sc.plan + sc.plan.l
 second-first sc m at me st = ap (λ n. (window_numbered sc.sizes sc.plan me st n).first) at ∙ ap (λ (w : Window). w.first) (sync-numbered sc.sizes sc.plan me st 1)
 
--- the middle that a BIU keeps of the second stage comes in it, whatever the verdict
+-- the middle that a BIU keeps of stage 2 comes in that stage, whatever the verdict
 pub biu-middle : (sc : Scenario) (hands : List HandIn) → IsLawful sc → (p : ℕ) → IsRunning (moment sc hands p) → (moment sc hands p).window ≡ 3 * sync_slot_of sc.sizes + 1 → (i : ℕ) (st : NodeState)
     → IsGoodNode sc (moment sc hands p) Biu i st
     → (k : ℕ) × (((after sc (moment sc hands p) Biu i st).k2 ≡ Some k) × (st.epoch + (f0_of sc.sizes sc.plan + sc.plan.l) ≤ k))

@@ -1,6 +1,6 @@
--- For the law that events are rounds where the premise on faults is broken in a sync slot: what
--- good nodes send in a stage of the sync slot has come everywhere before any of them closes it,
--- whatever the verdict on it.
+-- For the law that events are rounds if the premise on faults is broken in a sync slot: what good
+-- nodes send in a stage of the sync slot has come everywhere before any of them closes it, whatever
+-- the verdict on it.
 use Rattle.std.proofs.Common.{◌≡◌, ℕ, zero, suc, ◌+◌, ◌*◌, ◌<◌, ◌≤◌, true, false, List, refl, ap, sym, ◌∙◌, subst, arith, Some, slice_get, lit<}
 use Rattle.rb_base.specs.Nodes.{Side, other}
 use Rattle.rb_base.specs.Nodes.Side.{Biu, Rmu}
@@ -43,8 +43,8 @@ only Biu Rmu stage h k = let both : true ≡ false = sym h ∙ k in absurd (cc)
 only Rmu Biu stage h k = let both : true ≡ false = sym h ∙ k in absurd (cc)
 only Rmu Rmu stage h k = refl
 
--- if the calls of a kind are sent up to a time and windows close late enough after it, the windows
--- of the stage lie about the calls
+-- if the calls of a kind are sent in time for the windows of the stage, what a good node sends has
+-- come to each good node
 by-calls : (sc : Scenario) (m : Moment) (q : ℕ) (c : IsSet sc m (sync_slot_of sc.sizes) (q + 1)) → q < 3 → m.window ≡ 3 * sync_slot_of sc.sizes + q → (kind : Side) (first last from to : ℕ)
     → listens (other (other kind)) Sync (q + 1) ≡ false → CallWell sc m kind (q + 1) first last from to → LieAbout sc m (sync_slot_of sc.sizes) (q + 1) c.ws from to
     → (me : Side) (i : ℕ) (st : NodeState) → IsGoodNode sc m me i st → (sender : Side) (j : ℕ) (source : NodeState) → IsGoodNode sc m sender j source → HasComeBy sc m me i st sender j

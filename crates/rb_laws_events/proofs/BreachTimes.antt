@@ -1,4 +1,4 @@
--- For the law that events are rounds where the premise on faults is broken in a sync slot: in the
+-- For the law that events are rounds if the premise on faults is broken in a sync slot: in the
 -- window in which the run breaks off a node that is good in the next frame knows when that starts,
 -- whatever the verdict.
 use Rattle.std.proofs.Common.{◌≡◌, ℕ, suc, ◌+◌, ◌<◌, ◌≤◌, true, List, refl, ap, sym, ◌∙◌, subst, arith, Option, Some, None, is_some, slice_get}

@@ -1,5 +1,5 @@
--- For the law that events are rounds where the premise on faults is broken in a sync slot: good
--- nodes are in time in each window that the run reaches, whatever the verdict on it.
+-- For the law that events are rounds if the premise on faults is broken in a sync slot: good nodes
+-- are in time in each window that the run reaches, whatever the verdict on it.
 use Rattle.std.proofs.Common.{◌≡◌, ℕ, suc, ◌+◌, ◌*◌, ◌<◌, List, sym, ◌∙◌, subst, arith, inl, inr}
 use Rattle.std.proofs.lemmas.Bool.{cases_lt}
 use Rattle.rb_base.specs.Sizes.{sync_slot_of}

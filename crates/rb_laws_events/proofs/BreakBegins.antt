@@ -1,4 +1,4 @@
--- For the law that events are rounds where the premise on faults is broken in a sync slot: when the
+-- For the law that events are rounds if the premise on faults is broken in a sync slot: when the
 -- first node closes the stage with which the run breaks off, all that run wait for their last tick
 -- of it, and have sent what they send in it.
 use Rattle.std.proofs.Common.{◌≡◌, ℕ, ◌+◌, ◌*◌, ◌<◌, ◌≤◌, ◌==◌, ◌&&◌, ◌||◌, ◌⊎◌, nat_lt, Bool, true, false, List, [], refl, ap, ◌∙◌, subst, arith, inl, inr, Option, Some, None, option_and_then, option_map, option_to_list, slice_get}
@@ -25,8 +25,8 @@ use Rattle.rb_laws_events.proofs.NodeActs.{HasRoom}
 use Rattle.rb_laws_events.proofs.NodeEvents.{tick-after}
 use Rattle.rb_laws_events.proofs.WorldStands.{AllPend, IsDown, IsUp, SitesStand, ahead_in, sent_by}
 
--- the first close of the stage at moment p: all that run stand there, one of them at its last tick,
--- and nothing pends before
+-- moment `p` has the first close of a stage: all nodes that run are in it, one of them at its last
+-- tick, and nothing pends before
 pub record FirstCloses (sc : Scenario) (hands : List HandIn) (now : ℕ) (at : Side → ℕ → ℕ) (sites : Each Site) (p t : ℕ) : Type 0 where
   pub stand : SitesStand sc hands now at sites
   pub together : (side : Side) (j : ℕ) (z : Site) → slice_get (of_kind side sites) j ≡ Some z → z.runs ≡ true → at side j ≡ p
@@ -38,7 +38,7 @@ pub record FirstCloses (sc : Scenario) (hands : List HandIn) (now : ℕ) (at : S
   pub time : t ≡ time_of (clock_of sc me i) (last_tick sc (moment sc hands p) me st)
   pub pend : AllPend t sites
 
--- a node that runs there
+-- each node that runs stands in moment `p`
 up-there : (sc : Scenario) (hands : List HandIn) (now : ℕ) (at : Side → ℕ → ℕ) (sites : Each Site) (p t : ℕ) → FirstCloses sc hands now at sites p t → (side : Side) (j : ℕ) (z : Site)
     → slice_get (of_kind side sites) j ≡ Some z → z.runs ≡ true → IsUp sc hands (sent_by sc hands at sites) now side j p z
 up-there sc hands now at sites p t h side j z there runs =

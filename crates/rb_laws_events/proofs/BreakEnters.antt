@@ -1,6 +1,6 @@
--- For the law that events are rounds where the premise on faults is broken in a sync slot: once a
--- good node closes a stage of the sync slot, all others that stand in it wait for its last tick;
--- and at that tick they tell what the rounds tell.
+-- For the law that events are rounds if the premise on faults is broken in a sync slot: once a good
+-- node closes a stage of the sync slot, all others that stand in it wait for its last tick; and at
+-- that tick they tell what the rounds tell.
 use Rattle.std.proofs.Common.{◌≡◌, ℕ, ◌+◌, ◌*◌, ◌<◌, ◌≤◌, ◌==◌, ◌⊎◌, Bool, true, false, List, [], refl, ap, sym, ◌∙◌, subst, arith, inl, inr, Some, slice_get}
 use Rattle.std.proofs.lemmas.Bool.{cases_lt}
 use Rattle.std.proofs.lemmas.Bool.Decides.{nat_tests}
@@ -55,7 +55,7 @@ sent-then sc hands lawful p q running small at me i st there good you j yours th
           absurd (omega (arith, come, some.0, some.1, up, at_time, le))
     ]
 
--- a node that stands in it waits for its last tick
+-- a node that is in the stage waits for its last tick
 pub waits-then : (sc : Scenario) (hands : List HandIn) → IsLawful sc → HasRoom sc.plan → (sent : Side → ℕ → ℕ → Bool) (now p q : ℕ) → IsRunning (moment sc hands p) → q < 3
     → (moment sc hands p).window ≡ 3 * sync_slot_of sc.sizes + q → (me : Side) (i : ℕ) (s : Site) (st : NodeState) (a : Timed) → NodeStands sc hands sent now me i p s st a
     → (you : Side) (j : ℕ) (yours : NodeState) → slice_get (of_kind you (moment sc hands p).nodes) j ≡ Some yours → is_good_at sc (moment sc hands p) you j ≡ true

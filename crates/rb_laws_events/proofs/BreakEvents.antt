@@ -1,6 +1,6 @@
--- For the law that events are rounds where the premise on faults is broken in a sync slot: a due
--- tick of a node of a world in which the run breaks off with the first or the second stage of the
--- sync slot. After it the node has told its row, and it says nothing to those that listen.
+-- For the law that events are rounds if the premise on faults is broken in a sync slot: a due tick
+-- of a node of a world in which the run breaks off with the first or the second stage of the sync
+-- slot. After it the node has told its row, and it says nothing to those that listen.
 use Rattle.std.proofs.Common.{◌≡◌, ℕ, zero, suc, ◌+◌, ◌*◌, ◌<◌, ◌≤◌, ◌==◌, ◌⊎◌, Bool, true, false, List, [], refl, ap, sym, ◌∙◌, subst, arith, inl, inr, Option, Some, None, slice_get}
 use Rattle.std.proofs.lemmas.Bool.Decides.{nat_tests}
 use Rattle.std.proofs.lemmas.Option.{same_Some}
@@ -38,8 +38,7 @@ use Rattle.rb_laws_events.proofs.SameHeard.{Every}
 use Rattle.rb_laws_events.proofs.SentChanges.{sending-of-is}
 use Rattle.rb_laws_events.proofs.StageOrder.{last_of}
 
--- what is known of such a tick: it is due, and a good node has its last tick of the stage no
--- earlier
+-- the tick is due, and some good node has its last tick of the stage no earlier
 pub record TickBreaks (sc : Scenario) (hands : List HandIn) (sent : Side → ℕ → ℕ → Bool) (ports : List PortState) (p : ℕ) (me : Side) (i : ℕ) (s : Site) (a : Timed) : Type 0 where
   pub pend : s.ahead ≡ Some a
   pub later : Every (λ c. a.time < c.time) s.coming

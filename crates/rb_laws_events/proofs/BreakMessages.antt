@@ -1,7 +1,7 @@
--- For the law that events are rounds where the premise on faults is broken in a sync slot: if the
--- run breaks off messages reach only nodes that do not listen in the stage, or have closed it; a
--- node that has told its row of it, and is of the kind heard in it, says nothing up to the last
--- tick of the next window.
+-- For the law that events are rounds if the premise on faults is broken in a sync slot: if the run
+-- breaks off messages reach only nodes that do not listen in the stage, or have closed it; a node
+-- that has told its row of it, and is of the kind heard in it, says nothing up to the last tick of
+-- the next window.
 use Rattle.std.proofs.Common.{◌≡◌, ℕ, ◌+◌, ◌*◌, ◌<◌, ◌≤◌, ◌&&◌, ◌++◌, ◌∷◌, [], ◌⊎◌, Bool, true, false, List, refl, ap, sym, ◌∙◌, subst, arith, inl, inr, Option, Some, None}
 use Rattle.rb_base.specs.Nodes.{Side, other}
 use Rattle.rb_base.specs.Sizes.{Sizes, sync_slot_of}
@@ -136,8 +136,8 @@ says-none sizes plan me i c word none = by (is_spent c)
     by true = refl
     by false = go (is_last sizes plan me st c.had)
 
--- a node of the kind heard in the stage, once it has told its row, up to the last tick of the next
--- window
+-- a node of the kind that is heard in the stage says nothing from its row of that stage up to the
+-- last tick of the next window
 pub closed-silent : (sc : Scenario) (hands : List HandIn) (ports : List PortState) (p q k : ℕ) → HasRoom sc.plan → q < 3 → (moment sc hands p).window ≡ 3 * sync_slot_of sc.sizes + q
     → (me : Side) (i : ℕ) (s : Site) → (h : HasClosed sc hands me i p s) → listens me Sync (window_in sc (moment sc hands p) me h.st).stage ≡ false → listens (other me) Sync (q + 2) ≡ false
     → s.core.had ≤ k → k ≤ s.core.state.epoch + last_of sc.sizes sc.plan me s.core.state (3 * sync_slot_of sc.sizes + (q + 1))

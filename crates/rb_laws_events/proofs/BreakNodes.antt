@@ -30,7 +30,7 @@ pub record BreaksAt (sc : Scenario) (hands : List HandIn) (b q : ℕ) : Type 0 w
   pub small : q < 3
   pub window : (moment sc hands b).window ≡ 3 * sync_slot_of sc.sizes + q
 
--- a node whose next tick is the last of the window
+-- the node's next tick is the last of the window
 pub record WaitsLast (sc : Scenario) (hands : List HandIn) (b : ℕ) (me : Side) (i : ℕ) (s : Site) : Type 0 where
   pub st : NodeState
   pub a : Timed
@@ -38,14 +38,14 @@ pub record WaitsLast (sc : Scenario) (hands : List HandIn) (b : ℕ) (me : Side)
   pub state : slice_get (of_kind me (moment sc hands b).nodes) i ≡ Some st
   pub time : a.time ≡ time_of (clock_of sc me i) (last_tick sc (moment sc hands b) me st)
 
--- a node that has told its row of it, which is that of the rounds
+-- the node has told its row of the stage, and the row is that of the rounds
 pub record TellsStage (sc : Scenario) (hands : List HandIn) (b : ℕ) (me : Side) (i : ℕ) (s : Site) : Type 0 where
   pub row : Row
   pub is : s.row ≡ Some row
   pub place : row.place ≡ place_at sc.sizes (moment sc hands b)
   pub rounds : RowOfRounds sc hands me i row
 
--- a good node that has its last tick of the window no earlier than this time
+-- some good node has its last tick of the window at time `t` or later
 pub record FirstOf (sc : Scenario) (hands : List HandIn) (b t : ℕ) : Type 0 where
   pub you : Side
   pub j : ℕ
@@ -54,7 +54,7 @@ pub record FirstOf (sc : Scenario) (hands : List HandIn) (b t : ℕ) : Type 0 wh
   pub good : is_good_at sc (moment sc hands b) you j ≡ true
   pub first : t ≤ time_of (clock_of sc you j) (last_tick sc (moment sc hands b) you yours)
 
--- what the nodes keep, N, where the run breaks off with stage q: it begins with the first close of
+-- `N` is what the nodes keep if the run breaks off with stage q: it holds with the first close of
 -- the stage, each node that is good then waits for its last tick of it or has told its row, and
 -- events keep it
 pub record KeepsNodes (sc : Scenario) (q : ℕ) (N : List HandIn → ℕ → (Side → ℕ → ℕ → Bool) → Each Site → Type 0) : Type 0 where
@@ -71,8 +71,8 @@ pub record KeepsNodes (sc : Scenario) (q : ℕ) (N : List HandIn → ℕ → (Si
   pub arrival : (hands : List HandIn) (b : ℕ) → BreaksAt sc hands b q → (sent : Side → ℕ → ℕ → Bool) (sites : Each Site) → N hands b sent sites
       → (me : Side) (i n : ℕ) (c : Coming) (s : Site) → (is_good_at sc (moment sc hands b) me i ≡ true → Moves (clock_of sc me i)) → slice_get (of_kind me sites) i ≡ Some s → StandsAt n c s.coming
       → ((a : Timed) → s.ahead ≡ Some a → ArrivesNow n c s a) → FirstOf sc hands b c.time → N hands b sent (at_node me i (after_arrival sc me i n c) sites)
-  -- a node at which something may happen was good then, and its next tick comes after those that it
-  -- has had
+  -- a node at which something may happen was good in moment `b`, and its next tick comes after
+  -- those that it has had
   pub goes : (hands : List HandIn) (b : ℕ) → BreaksAt sc hands b q → (sent : Side → ℕ → ℕ → Bool) (sites : Each Site) → N hands b sent sites → (me : Side) (i : ℕ) (s : Site)
       → slice_get (of_kind me sites) i ≡ Some s → HasStopped s ⊎ (is_good_at sc (moment sc hands b) me i ≡ true)
   pub ahead : (hands : List HandIn) (b : ℕ) → BreaksAt sc hands b q → (sent : Side → ℕ → ℕ → Bool) (sites : Each Site) → N hands b sent sites → (me : Side) (i : ℕ) (s : Site)

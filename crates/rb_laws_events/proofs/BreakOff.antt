@@ -200,7 +200,7 @@ take-off sc N w d lawful room keeps h due =
 
 -- The first close.
 
--- a node closes the stage first, while none is beyond it
+-- the run begins to break off when a node closes the stage while none is beyond it
 pub begins-off : (sc : Scenario) (N : ℕ → List HandIn → ℕ → (Side → ℕ → ℕ → Bool) → Each Site → Type 0) (now : ℕ) (at : Side → ℕ → ℕ) (w : World) (b q : ℕ) (d : Due) (k : ℕ) (st : NodeState) → IsLawful sc → HasRoom sc.plan
     → KeepsNodes sc q (N q) → BreaksAt sc w.hands b q → WorldInRounds sc now at w → ((me : Side) (i : ℕ) (s : Site) → slice_get (of_kind me w.sites) i ≡ Some s → at me i ≤ b)
     → w.book ≡ (moment sc w.hands b).book → needs_no_event sc w.book.upcoming ≡ false → (due : IsDue w d) → d.pending ≡ Tick k → at d.side d.node ≡ b

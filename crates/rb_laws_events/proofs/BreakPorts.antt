@@ -1,4 +1,4 @@
--- For the law that cores follow the rounds: ports where the run breaks off. The port of a BIU stays
+-- For the law that cores follow the rounds: ports in a run that breaks off. The port of a BIU stays
 -- that of the rounds before the breaking stage until the BIU has had its last tick of the stage.
 use Rattle.std.proofs.Common.{◌≡◌, ℕ, ◌+◌, ◌<◌, ◌≤◌, ◌==◌, ◌⊎◌, Bool, true, false, refl, ap, sym, ◌∙◌, subst, arith, inl, inr, List, [], Option, Some, None, slice_get, option_and_then}
 use Rattle.std.proofs.lemmas.Bool.{cases_lt}
@@ -58,12 +58,12 @@ HasHadLast sc hands b i s =
 abbrev pub PortAt : Scenario → List HandIn → ℕ → List PortState → ℕ → Site → Type 0
 PortAt sc hands b ports i s = PortWaits sc hands b ports i s ⊎ HasHadLast sc hands b i s
 
--- each BIU that is good there
+-- `PortAt` holds for each BIU that is good in moment `b`
 abbrev pub PortsOff : Scenario → List HandIn → ℕ → List PortState → Each Site → Type 0
 PortsOff sc hands b ports sites =
     (i : ℕ) (s : Site) → slice_get (of_kind Biu sites) i ≡ Some s → is_good_at sc (moment sc hands b) Biu i ≡ true → PortAt sc hands b ports i s
 
--- wherever the run breaks off
+-- `PortsOff` holds wherever the run breaks off
 abbrev pub PortsBreak : Scenario → World → Type 0
 PortsBreak sc w = (b q : ℕ) → BreaksAt sc w.hands b q → PortsOff sc w.hands b w.ports w.sites
 
@@ -247,7 +247,7 @@ arrival-had sc me i n c s =
     let same = arrive-same sc.sizes me (pass_to (stamp_of (clock_of sc me i) c.time) s.core) c.from c.bytes in
     omega (arith, same.1)
 
--- an event keeps the ports so
+-- an event leaves the ports as they are in a run that breaks off
 pub ports-off : (sc : Scenario) (N : ℕ → List HandIn → ℕ → (Side → ℕ → ℕ → Bool) → Each Site → Type 0) (b q : ℕ) (sent : Side → ℕ → ℕ → Bool) (w : World) (me : Side) (i t : ℕ) (s : Site) (p : Pending)
     → IsLawful sc → KeepsNodes sc q (N q) → BreaksAt sc w.hands b q → NodesOff sc N w.hands b q sent w.sites → slice_get (of_kind me w.sites) i ≡ Some s
     → IsReady t s p → FirstOf sc w.hands b t → PortsOff sc w.hands b w.ports w.sites

@@ -37,7 +37,7 @@ use Rattle.rb_laws_events.proofs.TickRooms.{few-ticks}
 use Rattle.rb_laws_events.proofs.TickWindows.{ends-before-later, first_of}
 use Rattle.rb_laws_events.proofs.Takes.{tick-had}
 
--- a tick of the node's clock that comes later, and is one of those that it may have
+-- some tick of the node's clock comes after time `t` and is below 2^31
 pub record HasLater (sc : Scenario) (t : ℕ) (me : Side) (i : ℕ) : Type 0 where
   pub k : ℕ
   pub small : k < 2 ^ 31
@@ -81,7 +81,7 @@ has-later sc hands lawful b q t off first me i good =
     let le = first.first in
     record { k = st.epoch + end; small = omega (arith, all, few, big, begun, first_last, l, some); later = omega (arith, le, up, early) }
 
--- a tick before it is one of those that the node may have
+-- a tick that comes before that one is below 2^31
 before-later : (sc : Scenario) (me : Side) (i k : ℕ) → (h : HasLater sc (time_of (clock_of sc me i) k) me i) → k < h.k
 before-later sc me i k h = elim (cases_lt k h.k) [
   | inl lt ↦ lt

@@ -45,8 +45,8 @@ use Rattle.rb_laws_events.proofs.WorldTicks.{length-after, reached, reached-same
 
 -- Nodes.
 
--- the nodes where the run breaks off with stage q at moment b. One that is good then runs, or has
--- told its row, and it has ticks left
+-- the nodes of a run that breaks off with stage q at moment b: a good one runs or has told its row,
+-- and has ticks left
 pub record NodesOff (sc : Scenario) (N : ℕ → List HandIn → ℕ → (Side → ℕ → ℕ → Bool) → Each Site → Type 0) (hands : List HandIn) (b q : ℕ) (sent : Side → ℕ → ℕ → Bool) (sites : Each Site) : Type 0 where
   pub nodes : N q hands b sent sites
   pub counts : (me : Side) → length (of_kind me sites) ≡ count_of me sc.sizes

@@ -1,6 +1,6 @@
--- For the law that events are rounds where the premise on faults is broken in a sync slot: the
--- nodes of a world in which the run breaks off at moment p. Each node that is good there waits for
--- its last tick of the window, or has told its row of it. What happens at a node keeps this.
+-- For the law that events are rounds if the premise on faults is broken in a sync slot: the nodes
+-- of a world in which the run breaks off at moment p. Each node that is good there waits for its
+-- last tick of the window, or has told its row of it. What happens at a node keeps this.
 use Rattle.std.proofs.Common.{◌≡◌, ℕ, ◌+◌, ◌^◌, ◌<◌, ◌≤◌, ◌==◌, Bool, true, false, List, [], refl, ap, sym, ◌∙◌, subst, arith, Option, Some, None, slice_get, option_map}
 use Rattle.rb_base.specs.Nodes.{Side}
 use Rattle.rb_base.specs.Sizes.{sync_slot_of}

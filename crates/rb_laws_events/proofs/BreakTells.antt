@@ -1,5 +1,5 @@
--- For the law that events are rounds where the premise on faults is broken in a sync slot: a node
--- that has told its row of the stage with which the run breaks off has told one of the rounds'.
+-- For the law that events are rounds if the premise on faults is broken in a sync slot: a node that
+-- has told its row of the stage with which the run breaks off has told one of the rounds'.
 use Rattle.std.proofs.Common.{◌≡◌, ℕ, ◌+◌, ◌*◌, ◌<◌, true, false, List, ap, sym, ◌∙◌, arith, Option, Some, None}
 use Rattle.rb_base.specs.Nodes.{Side}
 use Rattle.rb_base.specs.Sizes.{sync_slot_of}

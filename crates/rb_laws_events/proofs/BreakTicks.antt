@@ -1,6 +1,6 @@
--- For the law that events are rounds where the premise on faults is broken in a sync slot: as long
--- as a node waits for the last tick of the stage with which the run breaks off, those that have
--- closed it do not close the next one. An arrival keeps each of them.
+-- For the law that events are rounds if the premise on faults is broken in a sync slot: as long as
+-- a node waits for the last tick of the stage with which the run breaks off, those that have closed
+-- it do not close the next one. An arrival keeps each of them.
 use Rattle.std.proofs.Common.{◌≡◌, ℕ, suc, ◌+◌, ◌*◌, ◌<◌, ◌≤◌, Bool, true, List, [], ◌∷◌, ap, sym, ◌∙◌, subst, arith, inl, inr, Some, slice_get}
 use Rattle.std.proofs.lemmas.Bool.{cases_lt}
 use Rattle.rb_base.specs.Nodes.{Side}

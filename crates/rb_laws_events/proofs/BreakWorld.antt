@@ -1,6 +1,6 @@
--- For the law that events are rounds where the premise on faults is broken in a sync slot: a due
--- event keeps all nodes of a world in which the run breaks off with the first or the second stage
--- of the sync slot: they wait for the last tick of it, or have told their rows.
+-- For the law that events are rounds if the premise on faults is broken in a sync slot: a due event
+-- keeps all nodes of a world in which the run breaks off with the first or the second stage of the
+-- sync slot: they wait for the last tick of it, or have told their rows.
 use Rattle.std.proofs.Common.{◌≡◌, ℕ, ◌+◌, ◌*◌, ◌<◌, Bool, true, List, [], ◌∷◌, inl, inr, Option, Some, None, slice_get}
 use Rattle.rb_base.specs.Nodes.{Side}
 use Rattle.rb_base.specs.Sizes.{sync_slot_of}

@@ -14,14 +14,14 @@ use Rattle.rb_rules.specs.Sense.{Arrival}
 use Rattle.rb_rules.specs.WorldStep.{coming_from}
 use Rattle.rb_laws_events.proofs.SameHeard.{AllOf, kept_as, close-is, row-is}
 
--- a good node's inbox holds of each source what it hears in the rounds
+-- a good node's inbox holds what the node hears in the rounds from each source
 pub record HoldsHeard (sc : Scenario) (m : Moment) (sent : Each (Option Sending)) (me : Side) (i : ℕ) (st : NodeState) (w : Window) (inbox : List (ℕ × Arrival)) (got : List Coming) : Type 0 where
   pub good : is_good sc me i m.frame w.slot ≡ true
   pub some_tick : nat_le w.first w.last ≡ true
   pub stamped : inbox ≡ map (kept_as (clock_of sc me i)) got
   pub all : (j : ℕ) → AllOf (coming_from got j) (heard_at sc me i st w sent j)
 
--- the state with which the node closes the window: it has said what it had to say
+-- the state with which a node closes the window, after it has said what it had to say
 abbrev pub spoken : Scenario → Moment → Side → ℕ → NodeState → Window → NodeState
 spoken sc m me i st w = keep_sent sc.sizes me i st w.slot w.stage (word_for_window sc m i w)
 

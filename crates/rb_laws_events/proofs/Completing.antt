@@ -56,7 +56,7 @@ not-complete : (a b c : Bool) → (a && b) ≡ false → (a && c) ≡ true → b
 not-complete true b c h k = h
 not-complete false b c h k = cc
 
--- a stage that the event completes is that at which the node stood
+-- a stage that an event completes is the one in which the event's node stood
 stage-completed : (sc : Scenario) (hands : List HandIn) (at now_at : Side → ℕ → ℕ) (sites now_sites : Each Site) (place : Place) → (event : EventAt sc hands at now_at sites now_sites)
     → is_due sc sites (Stage place) ≡ false → is_due sc now_sites (Stage place) ≡ true → number_at sc.sizes place ≡ at event.me event.i
 stage-completed sc hands at now_at sites now_sites place event old new =
@@ -73,7 +73,7 @@ stage-completed sc hands at now_at sites now_sites place event old new =
       | inr number ↦ sym (ap (number_at sc.sizes) row.1.1) ∙ number
     ]
 
--- a start that it completes is that at which the node stands
+-- a start of a frame that an event completes is the one at which the event's node stands
 record BeginCompleted (sc : Scenario) (at now_at : Side → ℕ → ℕ) (me : Side) (i frame : ℕ) : Type 0 where
   good : is_good sc me i frame 0 ≡ true
   stood : at me i ≡ frame * (windows_in sc.sizes + 1)
@@ -125,7 +125,7 @@ stage-of sc hands b place (inr at) going up =
     by true false f h e = record { g = at.0; stage = less (moment sc hands at.0).window (stages_in sc.sizes) f; place_is = cc; not_last = h }
     by false q f h e = cc
 
--- the stage after a moment's, or the start of the next frame
+-- if a moment's stage is not the last of the frame, the next stage is the next moment
 next-stage-is : (sc : Scenario) (hands : List HandIn) (g : ℕ) → (moment sc hands g).window + 1 < stages_in sc.sizes → next_stage sc.sizes (moment sc hands g) g ≡ g + 1
 next-stage-is sc hands g inner =
     ap (λ b. g + (if b then 1 else windows_in sc.sizes + 1 - (moment sc hands g).window)) (lt-ltb ((moment sc hands g).window + 1) (stages_in sc.sizes) inner)

@@ -36,7 +36,7 @@ abbrev turning : Sizes → Plan → Side → NodeState → ℕ → Option ℕ �
 turning sizes plan me st k next =
     elim (is_tick next k) [ true ↦ elim next [ None ↦ st | Some epoch ↦ turn sizes plan.probation me epoch st ] | false ↦ st ]
 
--- the core is ready for its next tick in the state in which it takes a later tick of the window
+-- if a core takes a later tick of the window in a state, it takes its next tick in that state
 ready-early : (sizes : Sizes) (plan : Plan) (me : Side) (i : ℕ) (st c y : NodeState) (n had k : ℕ) → HasTicks plan → KeepsTime sizes plan me st → n ≤ stages_in sizes
     → Like sizes plan me i st y → IsTickIn sizes plan me st n had → had ≤ k → state_at sizes plan me c k ≡ y → state_at sizes plan me c had ≡ y
 ready-early sizes plan me i st c y n had k ticks keeps le like at later now =

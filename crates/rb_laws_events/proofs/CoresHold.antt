@@ -152,7 +152,7 @@ breaks-there sc hands lawful b q off =
     differs true h = absurd (h refl)
     differs false h = refl
 
--- a world that waits for that stage is not before it
+-- a world that waits for the breaking stage is not before that stage
 not-before : {P : Type 0} (sc : Scenario) (w : World) (b q : ℕ) → BreaksAt sc w.hands b q → w.book.upcoming ≡ Stage (place_at sc.sizes (moment sc w.hands b)) → IsBeforeTheBreak sc w → P
 not-before sc w b q off waits before =
     let m : Moment = moment sc w.hands b in

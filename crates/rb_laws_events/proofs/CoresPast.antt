@@ -146,7 +146,7 @@ late-ended {P} sc hands me b q c ticks off late running = absurd (no (turns-or-n
 
 -- Nodes.
 
--- a node that waits for its last tick of the stage stands in the moment before it
+-- the node is in moment `b`, and has not had the last tick of its window
 record IsStill (sc : Scenario) (hands : List HandIn) (me : Side) (i b : ℕ) (c : Core) : Type 0 where
   there : IsThere sc hands me i b c
   st : NodeState

@@ -1,6 +1,6 @@
--- For the law that events are rounds where the premise on faults is broken in a sync slot: a node
--- that closes a stage of the sync slot in which it does not listen tells the same of it whatever
--- came to it, and knows the same but for accusations.
+-- For the law that events are rounds if the premise on faults is broken in a sync slot: a node that
+-- closes a stage of the sync slot in which it does not listen tells the same of it whatever came to
+-- it, and knows the same but for accusations.
 use Rattle.std.proofs.Common.{◌≡◌, ℕ, zero, suc, ◌==◌, ◌&&◌, if◌then◌else◌, Bool, true, false, List, [], ◌∷◌, map, refl, ap, ◌∙◌, Option, Some, None, get_or}
 use Rattle.rb_base.specs.Counting.{numbers}
 use Rattle.rb_base.specs.Nodes.{Side, has}
@@ -43,7 +43,7 @@ nothing-judged heard all (n ∷ ns) =
     ap (λ s. judged_see (sole_time (heard n)) s ∷ map (λ j. judged_see (sole_time (heard j)) (get_or (map (λ (n : ℕ). Nothing) all) j Nothing)) ns) (nothing-at all n)
     ∙ ap (λ l. Nothing ∷ l) (nothing-judged heard all ns)
 
--- the row of a stage of which it shows nothing
+-- the row of a node that shows nothing of a stage
 abbrev pub silent_row : Sizes → Side → NodeState → ℕ → Row
 silent_row sizes me st stage = record {
   place = record { frame = st.frame; slot = sync_slot_of sizes; stage = stage };
@@ -68,7 +68,7 @@ row-by sizes Biu i st stage first sense heard sees e =
 row-by sizes Rmu i st stage first sense heard sees e =
     ap (λ sees. record (silent_row sizes Rmu st stage) { sees = each_node (λ j. judged_see (sole_time (heard j)) (get_or sees j Nothing)) }) e
 
--- whatever came to it
+-- a node that does not listen in a stage tells the silent row, whatever came to it
 pub deaf-row : (sizes : Sizes) (me : Side) (i : ℕ) (st : NodeState) (stage first : ℕ) (sense : ℕ → Sense) (heard : ℕ → List Coming) → listens me Sync stage ≡ false
     → row_of me i (close_sync sizes me st stage first sense).state heard (close_sync sizes me st stage first sense).closed ≡ silent_row sizes me st stage
 deaf-row sizes me i st stage first sense heard deaf =

@@ -1,6 +1,6 @@
--- For the law that events are rounds where the premise on faults is broken in a sync slot: a node
--- that does not listen in a stage of the sync slot tells what the rounds tell at its last tick,
--- whatever came to it, and closes nothing before the last tick of the next window.
+-- For the law that events are rounds if the premise on faults is broken in a sync slot: a node that
+-- does not listen in a stage of the sync slot tells what the rounds tell at its last tick, whatever
+-- came to it, and closes nothing before the last tick of the next window.
 use Rattle.std.proofs.Common.{◌≡◌, ℕ, ◌+◌, ◌*◌, ◌<◌, ◌==◌, Bool, true, false, List, ap, sym, ◌∙◌, subst, arith}
 use Rattle.std.proofs.lemmas.Bool.Decides.{nat_tests}
 use Rattle.rb_base.specs.Nodes.{Side}
@@ -38,7 +38,7 @@ use Rattle.rb_laws_events.proofs.SilentThere.{deaf-keeps}
 use Rattle.rb_laws_events.proofs.StageOrder.{last_of}
 use Rattle.rb_laws_events.proofs.TickWindows.{first_of}
 
--- what the close of such a stage leaves of the state
+-- the close leaves the frame and the epoch, and the node still keeps time
 pub record LeavesTimes (sizes : Sizes) (plan : Plan) (me : Side) (st now : NodeState) : Type 0 where
   pub frame : now.frame ≡ st.frame
   pub epoch : now.epoch ≡ st.epoch

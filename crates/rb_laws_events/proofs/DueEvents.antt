@@ -78,7 +78,7 @@ pub least-none : (P : ℕ → Type 0) (xs : List ℕ) → least xs ≡ None → 
 least-none P [] e = tt
 least-none P (x ∷ xs) e = cc
 
--- the least of times is not after any of them
+-- the least of times is at most each of them
 pub least-of : (xs : List ℕ) (t : ℕ) → least xs ≡ Some t → Every (λ u. t ≤ u) xs
 least-of [] t e = tt
 least-of (x ∷ xs) t e = by (least-of xs) (least xs) refl e
@@ -93,7 +93,7 @@ least-of (x ∷ xs) t e = by (least-of xs) (least xs) refl e
 
 -- What is ready at a node.
 
--- what it is that this may be taken at a node at time t, if nothing is pending there before it
+-- the event may be taken at the node at time `t`, if nothing is pending there before
 abbrev pub IsReady : ℕ → Site → Pending → Type 0
 IsReady t s (Tick k) = (a : Timed) × ((s.ahead ≡ Some a) × ((a.tick ≡ k) × ((a.time ≡ t) × Every (λ c. t < c.time) s.coming)))
 IsReady t s (Arrival n c) = StandsAt n c s.coming × (c.time ≡ t)
@@ -150,8 +150,7 @@ unplaced : (P : Coming → Type 0) (n : ℕ) (cs : List Coming) → Every (λ p.
 unplaced P n [] a = tt
 unplaced P n (c ∷ cs) a = (a.0, unplaced P (n + 1) cs a.1)
 
--- an arrival of a known source that is not found at time t, and is not pending before it, comes
--- after it
+-- an arrival that is not due at time `t`, and comes no earlier, comes later
 after-it : (t : ℕ) (from time : ℕ) → ((from == from) && (time == t)) ≡ false → t ≤ time → t < time
 after-it t from time h le = grind (arith, nat_tests)
 
@@ -210,7 +209,7 @@ all-ready sizes t me i s known le =
 
 -- What is due in the world.
 
--- an event that is due: its node has it ready at time t, and nothing is pending anywhere before
+-- event `d` is due: its node has it ready at time `t`, and nothing is pending anywhere before
 pub record IsDue (w : World) (d : Due) : Type 0 where
   pub t : ℕ
   pub s : Site
@@ -264,7 +263,7 @@ all-due sc w known = due-by sc w known (w.book.ended || needs_no_event sc w.book
 pub due-is : (sc : Scenario) (w : World) (i : ℕ) (d : Due) → ComesFromNodes sc w → slice_get (due_of sc w) i ≡ Some d → IsDue w d
 due-is sc w i d known e = every-at (IsDue w) (due_of sc w) i d e (all-due sc w known)
 
--- Something is due where something is pending.
+-- Something is due if something is pending.
 
 -- the least of times above t is above t
 least-above : (t u : ℕ) (xs : List ℕ) → Every (λ v. t < v) xs → least xs ≡ Some u → t < u
@@ -317,7 +316,7 @@ joined-none : {X : Type 0} (xss : List (List X)) → flat_map (λ xs. xs) xss �
 joined-none [] e = tt
 joined-none (xs ∷ xss) e = let parts = append-none xs (flat_map (λ xs. xs) xss) e in (parts.0, joined-none xss parts.1)
 
--- what holds of what is made of each item holds of it
+-- `R` holds for each item if it follows from what holds for what is made of the item
 from-every : {X Y : Type 0} (Q : Y → Type 0) (i : ℕ) (make : ℕ → X → Y) (xs : List X) → Every Q (map_from i make xs)
     → (R : X → Type 0) → ((n : ℕ) (x : X) → slice_get xs n ≡ Some x → Q (make (i + n) x) → R x) → Every R xs
 from-every Q i make [] a R go = tt

@@ -159,7 +159,7 @@ arrival-at sc hands now at sites me i n c s room times passed stand told there r
       counts = λ side. length-each (λ side n s. elim (is_node me i side n) as (λ _. Site) [ true ↦ change s | false ↦ s ]) sites side ∙ stand.counts side;
     }
 
--- a node after an arrival runs as before, and has begun what it had begun
+-- an arrival changes neither whether a node runs nor what it has begun
 pub arrival-site : (sc : Scenario) (sites : Each Site) (me : Side) (i n : ℕ) (c : Coming) (side : Side) (j : ℕ) (z : Site)
     → slice_get (of_kind side (at_node me i (after_arrival sc me i n c) sites)) j ≡ Some z
     → (old : Site) × ((slice_get (of_kind side sites) j ≡ Some old) × ((z.runs ≡ old.runs) × (z.begun ≡ old.begun)))

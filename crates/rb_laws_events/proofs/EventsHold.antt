@@ -23,7 +23,7 @@ use Rattle.rb_laws_events.proofs.TickRooms.{has-room}
 use Rattle.rb_laws_events.proofs.Turns.{turns-are-next}
 use Rattle.rb_laws_events.proofs.WorldStands.{IsUp, sent_by}
 
--- what the nodes keep where the run breaks off with stage q of a sync slot
+-- what the nodes keep if the run breaks off with stage q of a sync slot
 abbrev pub nodes_at : Scenario → ℕ → List HandIn → ℕ → (Side → ℕ → ℕ → Bool) → Each Site → Type 0
 nodes_at sc zero = NodesBreak sc
 nodes_at sc (suc zero) = NodesBreak sc
@@ -68,7 +68,7 @@ ticks-left sc lawful w (inl run) going = in-rounds-left sc w run.stands
 ticks-left sc lawful w (inr (inl off)) going = record { counts = off.stands.nodes.counts; left = left-off sc (nodes_at sc) w lawful (keeps sc lawful) off }
 ticks-left sc lawful w (inr (inr over)) going = true-false (sym over.ended ∙ going)
 
--- a node that runs has some left
+-- a node that runs has ticks left
 runs-left : (sc : Scenario) → IsLawful sc → (w : World) → AnyWorld sc (nodes_at sc) w → (me : Side) (i : ℕ) (s : Site) → slice_get (of_kind me w.sites) i ≡ Some s → s.runs ≡ true → s.core.had < 2 ^ 31
 runs-left sc lawful w (inl run) me i s there runs =
     let h : StandsInRounds sc w = run.stands in

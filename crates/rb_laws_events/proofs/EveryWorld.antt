@@ -193,7 +193,7 @@ take-run sc N w d lawful room keeps run going needs due = from-where waits.1.fro
       | inr b ↦ breaks from.0 b.0 b.1 from.1.1.0 from.1.1.1
     ]
 
--- what settles by itself
+-- what settles by itself leaves the world in the run
 go-on-run : (sc : Scenario) (w : World) → IsLawful sc → HasRoom sc.plan → InRun sc w → InRun sc (go_on sc w)
 go-on-run sc w lawful room run =
     let h : StandsInRounds sc w = run.stands in
@@ -230,7 +230,7 @@ hand-run sc w biu state lawful room run =
           ];
     }
 
--- Choices where the run has broken off.
+-- Choices once the run has broken off.
 
 go-on-still : (sc : Scenario) (N : ℕ → List HandIn → ℕ → (Side → ℕ → ℕ → Bool) → Each Site → Type 0) (w : World) → BreaksOff sc N w → BreaksOff sc N (go_on sc w)
 unfolding go_on

@@ -1,6 +1,6 @@
--- For the law that pending events are few where the run breaks off with the first or the second
--- stage of the sync slot: a node that has told its row sends one message at most until all have
--- told, and enters no window.
+-- For the law that pending events are few if the run breaks off with the first or the second stage
+-- of the sync slot: a node that has told its row sends one message at most until all have told, and
+-- enters no window.
 use Rattle.std.proofs.Common.{◌≡◌, ℕ, zero, suc, ◌+◌, ◌-◌, ◌*◌, ◌^◌, ◌<◌, ◌≤◌, ◌==◌, ◌⊎◌, Bool, true, false, List, refl, ap, sym, ◌∙◌, subst, arith, inl, inr, Option, Some, None, length}
 use Rattle.std.proofs.lemmas.Bool.Decides.{nat_tests}
 use Rattle.rb_base.specs.Nodes.{Side}
@@ -71,7 +71,7 @@ pub once-more : (e l : ℕ) → 1 ≤ e → l ≤ e * l
 once-more zero l le = absurd (omega (arith, le))
 once-more (suc e) l le = omega arith
 
--- the tick with which it tells its row
+-- the tick with which a node tells its row goes on within `MayBreak`
 tells-few : (sc : Scenario) (hands : List HandIn) (ports : List PortState) (p : ℕ) (me : Side) (i k : ℕ) (s : Site) (r e : ℕ)
     → HasClosed sc hands me i p (after_act sc ports me i (pass_and_tick sc ports me i k s.core) s) → (pass_and_tick sc ports me i k s.core).message ≡ None → 1 ≤ r → 1 ≤ e
     → StepsOn sc (MayBreak sc hands p me i) (pass_and_tick sc ports me i k s.core).message s (after_act sc ports me i (pass_and_tick sc ports me i k s.core) s) r e

@@ -1,4 +1,4 @@
--- For the law that pending events are few where the run breaks off in a sync slot: a tick brings no
+-- For the law that pending events are few if the run breaks off in a sync slot: a tick brings no
 -- more to its node than what is said to it in a window, and nothing if it begins none.
 use Rattle.std.proofs.Common.{◌≡◌, ℕ, zero, suc, ◌+◌, ◌≤◌, Bool, true, false, List, [], filter, flat_map, length, length-append, refl, ap, ◌∙◌, arith, Option, Some, None}
 use Rattle.std.specs.List.{range_with_len}

@@ -63,7 +63,7 @@ pub rooms-few : (sc : Scenario) (q : ℕ) (hands : List HandIn) (b : ℕ) (sent 
     → (me : Side) (i : ℕ) (s : Site) → slice_get (of_kind me sites) i ≡ Some s → length s.coming ≤ most_coming sc me
 rooms-few sc q hands b sent sites h me i s there = let room = h.1.rooms.room me i s there in omega (arith, room)
 
--- It begins.
+-- The first close.
 
 pub sum-same : (k n : ℕ) → sum_to (λ _. k) n ≡ n * k
 sum-same k zero = omega arith

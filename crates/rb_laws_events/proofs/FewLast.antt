@@ -1,4 +1,4 @@
--- For the law that pending events are few where the run breaks off with the last stage of the sync
+-- For the law that pending events are few if the run breaks off with the last stage of the sync
 -- slot: a node that has told its row sends one message at most in the tail and one in the first
 -- window of the next frame, and enters that window once.
 use Rattle.std.proofs.Common.{◌≡◌, ℕ, zero, suc, ◌+◌, ◌-◌, ◌*◌, ◌<◌, ◌≤◌, ◌⊎◌, Bool, true, false, List, refl, ap, sym, ◌∙◌, subst, arith, inl, inr, Option, Some, None, length, lit<}
@@ -58,7 +58,7 @@ two-less : (e l : ℕ) → 2 ≤ e → 1 * l + l ≤ e * l
 two-less zero l le = absurd (omega (arith, le))
 two-less (suc e) l le = let rest = once-more e l (omega (arith, le)) in omega (arith, rest)
 
--- the tick with which it tells its row
+-- the tick with which a node tells its row goes on within `MayLast`
 tells-few : (sc : Scenario) (hands : List HandIn) (ports : List PortState) (p : ℕ) (me : Side) (i k : ℕ) (s : Site) (r e : ℕ)
     → HasToldLast sc hands me i p (after_act sc ports me i (pass_and_tick sc ports me i k s.core) s) → (pass_and_tick sc ports me i k s.core).message ≡ None → 2 ≤ r → 2 ≤ e
     → StepsOn sc (MayLast sc hands p me i) (pass_and_tick sc ports me i k s.core).message s (after_act sc ports me i (pass_and_tick sc ports me i k s.core) s) r e

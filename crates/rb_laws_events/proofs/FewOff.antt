@@ -1,6 +1,6 @@
--- For the law that pending events are few where the run breaks off in a sync slot: room at each
--- node for what comes to it, for the messages that may be sent to it yet, and for what may be said
--- to it in windows that it enters yet.
+-- For the law that pending events are few if the run breaks off in a sync slot: room at each node
+-- for what comes to it, for the messages that may be sent to it yet, and for what may be said to it
+-- in windows that it enters yet.
 use Rattle.std.proofs.Common.{◌≡◌, ℕ, ◌+◌, ◌*◌, ◌<◌, ◌≤◌, ◌&&◌, Bool, true, false, [], ◌∷◌, ◌++◌, length, length-append, refl, ap, sym, ◌∙◌, subst, arith, Option, Some, None, slice_get}
 use Rattle.std.proofs.lemmas.Option.{same_Some}
 use Rattle.rb_base.specs.Nodes.{Side, other}
@@ -21,7 +21,7 @@ pub record HaveRooms (sc : Scenario) (most : Side → ℕ) (sends enters : Side 
   pub room : (me : Side) (i : ℕ) (s : Site) → slice_get (of_kind me sites) i ≡ Some s
       → length s.coming + sum_to (sends (other me)) (count_of (other me) sc.sizes) + enters me i * length sc.says ≤ most me
 
--- how many messages this is
+-- the number of messages: 1, or 0 for none
 abbrev pub messages_in : Option Message → ℕ
 messages_in None = 0
 messages_in (Some m) = 1
@@ -118,7 +118,7 @@ rooms-change sc most sends enters sites me i frame k m change s r e below there 
         (subst (λ n. length (change s).coming + e * length sc.says ≤ length s.coming + n * length sc.says) (sym (ap (λ y. enters y j) is.0 ∙ ap (enters me) is.1)) own)
     its side j was at false f = omega arith
 
--- a tick of a node at which r messages may be sent yet, and e windows entered
+-- after the tick the node may do what is left of `r` messages and `e` windows
 pub record StepsOn (sc : Scenario) (May : ℕ → ℕ → Site → Type 0) (m : Option Message) (s z : Site) (r e : ℕ) : Type 0 where
   pub sends : ℕ
   pub enters : ℕ

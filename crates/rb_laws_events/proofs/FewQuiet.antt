@@ -1,5 +1,5 @@
--- For the law that pending events are few where the run breaks off in a sync slot: at its last tick
--- of the stage a node sends nothing.
+-- For the law that pending events are few if the run breaks off in a sync slot: at its last tick of
+-- the stage a node sends nothing.
 use Rattle.std.proofs.Common.{◌≡◌, ℕ, ◌+◌, ◌*◌, ◌<◌, Bool, true, false, List, [], ◌∷◌, ◌++◌, refl, ap, sym, ◌∙◌, subst, arith, Option, Some, None, slice_get, lit<}
 use Rattle.std.proofs.lemmas.Option.{same_Some}
 use Rattle.rb_base.specs.Nodes.{Side}
@@ -32,7 +32,7 @@ gone : (k : ℕ) (o : Option Sending) → ((x : Sending) → o ≡ Some x → x.
 gone k None h = refl
 gone k (Some x) h = ap (λ b. elim b as (λ _. Option Message) [ true ↦ Some x.message | false ↦ None ]) (less-differs x.tick k (h x refl))
 
--- what it sends in the stage has gone out before
+-- what a node sends in the stage has gone out before its last tick
 quiet-then : (sc : Scenario) (hands : List HandIn) → IsLawful sc → (p q : ℕ) → IsRunning (moment sc hands p) → q < 3 → (moment sc hands p).window ≡ 3 * sync_slot_of sc.sizes + q
     → (me : Side) (i : ℕ) (st : NodeState) → slice_get (of_kind me (moment sc hands p).nodes) i ≡ Some st → is_good_at sc (moment sc hands p) me i ≡ true
     → (a : Timed) → a.time ≡ time_of (clock_of sc me i) a.tick → a.tick ≡ last_tick sc (moment sc hands p) me st → (c : Core) (x : Act)

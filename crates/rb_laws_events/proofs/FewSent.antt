@@ -1,5 +1,5 @@
--- For the law that pending events are few where the run breaks off in a sync slot: in the sync
--- slot, after its first stage, a node sends one message at most, whatever middles it keeps.
+-- For the law that pending events are few if the run breaks off in a sync slot: in the sync slot,
+-- after its first stage, a node sends one message at most, whatever middles it keeps.
 use Rattle.std.proofs.Common.{◌≡◌, ℕ, ◌+◌, ◌-◌, ◌*◌, ◌<◌, ◌≤◌, ◌==◌, ◌⊎◌, Bool, true, false, [], refl, ap, sym, ◌∙◌, subst, arith, inl, inr, Option, Some, None, option_map, if◌then◌else◌}
 use Rattle.std.specs.Option.{option_or}
 use Rattle.std.proofs.lemmas.Bool.{eqb-true, or_cases}
@@ -24,7 +24,7 @@ use Rattle.rb_laws_events.proofs.NodeActs.{HasRoom}
 use Rattle.rb_laws_events.proofs.StageOrder.{last_of, last-same}
 use Rattle.rb_laws_events.proofs.TickWindows.{IsTickIn, ends-before-later, first_of}
 
--- what the node may call in the sync slot has gone out before this tick
+-- each call of the node in the sync slot has gone out before tick `had`
 abbrev pub HasSpoken : Sizes → Plan → Side → NodeState → ℕ → Type 0
 HasSpoken sizes plan me st had = (stage t : ℕ) → listens (other me) Sync stage ≡ true → call_tick_of sizes plan st stage ≡ Some t → t < had
 
@@ -45,7 +45,7 @@ spoken-kept sizes plan me st y had more like le h stage t heard e = let lt = h s
 
 -- A message.
 
--- a message of the slot in which the tick stands, and this is its tick
+-- tick `k` is that of a message of the slot
 pub record IsSentThen (sizes : Sizes) (plan : Plan) (me : Side) (i : ℕ) (st : NodeState) (slot word k : ℕ) : Type 0 where
   pub stage : ℕ
   pub x : Sending

@@ -41,8 +41,7 @@ pub good-node : (sc : Scenario) (m : Moment) (me : Side) (i : ℕ) (st : NodeSta
     → IsGoodNode sc m me i st
 good-node sc m me i st there good = record { there = there; good = good }
 
--- good nodes have begun the moment's frame together, by the time that its number of frames takes;
--- it is one of the run
+-- good nodes have begun the moment's frame together and in time, and the frame is one of the run
 pub record BegunWell (sc : Scenario) (m : Moment) : Type 0 where
   pub together : HaveBegunTogether sc m
   pub by_then : BeginByThen sc m

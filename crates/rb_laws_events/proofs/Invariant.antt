@@ -89,8 +89,8 @@ pub record NodeStands (sc : Scenario) (hands : List HandIn) (sent : Side → ℕ
 
 -- What is taken of synchrony: in moment p the good nodes are in time.
 
--- the message of a source comes after the last tick of the window before, at the latest with this
--- window's last tick
+-- the message comes after the last tick of the window before, and at most with the last tick of
+-- this window
 abbrev pub ComesInWindow : Scenario → Moment → Side → ℕ → NodeState → Coming → Type 0
 ComesInWindow sc m me i st c =
     ((k : ℕ) → st.epoch + first_of sc.sizes sc.plan me st m.window ≡ suc k → time_of (clock_of sc me i) k < c.time)
@@ -103,11 +103,11 @@ pub record InTime (sc : Scenario) (m next : Moment) : Type 0 where
       → last_tick sc m me st < 2 ^ 31
   pub heard : (me : Side) (i j : ℕ) (st : NodeState) → slice_get (of_kind me m.nodes) i ≡ Some st → is_good_at sc m me i ≡ true
       → is_good_at sc m (other me) j ≡ true → Every (ComesInWindow sc m me i st) (entry_of sc m me i j)
-  -- no node closes the next stage before all have closed this window
+  -- no node closes the next stage before all nodes have closed this one
   pub order : (me you : Side) (i j : ℕ) (mine yours : NodeState) → slice_get (of_kind me m.nodes) i ≡ Some mine → is_good_at sc m me i ≡ true
       → slice_get (of_kind you next.nodes) j ≡ Some yours → is_good_at sc next you j ≡ true
       → time_of (clock_of sc me i) (last_tick sc m me mine) < time_of (clock_of sc you j) (last_tick sc next you yours)
 
--- what source j sends in the next stage comes to a node after it has closed this window
+-- what source `j` sends in the next stage comes to node `i` after it has closed this window
 abbrev pub ComesLater : Scenario → Moment → Moment → Side → ℕ → ℕ → NodeState → Type 0
 ComesLater sc m next me i j st = Every (λ c. time_of (clock_of sc me i) (last_tick sc m me st) < c.time) (entry_of sc next me i j)

@@ -1,7 +1,6 @@
--- For the law that events are rounds where the premise on faults is broken in a sync slot: the last
--- tick of a window at a node, with nothing known of what comes after. It shows what the rounds tell
--- of the window, where all that was sent to the node has come; and whatever came to it, where it
--- does not listen.
+-- For the law that events are rounds if the premise on faults is broken in a sync slot: the last
+-- tick of a window at a node, with nothing known of what comes after. If all that was sent to the
+-- node has come, or if the node does not listen, it shows what the rounds tell of the window.
 use Rattle.std.proofs.Common.{◌≡◌, ℕ, ◌+◌, ◌^◌, ◌<◌, ◌≤◌, ◌==◌, ◌&&◌, ◌⊎◌, nat_le, Bool, true, false, List, [], map, ap, sym, ◌∙◌, subst, arith, Some, None}
 use Rattle.std.proofs.lemmas.Bool.{le-leb}
 use Rattle.std.proofs.lemmas.Bool.Decides.{nat_tests}
@@ -43,7 +42,7 @@ pub record ShowsRounds (sc : Scenario) (m : Moment) (me : Side) (i : ℕ) (st : 
   pub row : (go_through sc m (sent_in sc m) me i st (window_in sc m me st)).row ≡ Some (row_of me i x.core.state (coming_from s.got) shown)
   pub act : ActsClose sc me i st m.window (word_at sc m me i st) k (pass_to k s.core) x
 
--- a node that listens, once all has come
+-- a node that listens shows what the rounds tell, once all has come
 pub shows-heard : (sc : Scenario) (hands : List HandIn) (sent : Side → ℕ → ℕ → Bool) (now : ℕ) (ports : List PortState) (me : Side) (i p : ℕ) (s : Site) (st : NodeState) (a : Timed)
     → HasRoom sc.plan → st.frame ≡ (moment sc hands p).frame
     → ((j : ℕ) → is_good_at sc (moment sc hands p) (other me) j ≡ true → (sent (other me) j p ≡ true) ⊎ (entry_of sc (moment sc hands p) me i j ≡ []))
@@ -125,7 +124,7 @@ deaf-through sc m me i st good tick slot deaf =
     ap (λ b. (elim b as (λ _. Result) [ true ↦ close_on sc me i kept w heard | false ↦ record { state = st; row = None } ]).row) both
     ∙ ap (λ r. Some r) (deaf-window sc.sizes sc.plan me i kept w (λ j. map (arrival_of (clock_of sc me i)) (heard j)) heard slot deaf)
 
--- a node that does not listen, whatever has come
+-- a node that does not listen shows what the rounds tell, whatever has come
 pub shows-deaf : (sc : Scenario) (m : Moment) (ports : List PortState) (me : Side) (i : ℕ) (s : Site) (st : NodeState) (k : ℕ)
     → HasRoom sc.plan → is_good_at sc m me i ≡ true → IsInWindow sc.sizes sc.plan me i st m.window (word_at sc m me i st) k s.core.state → s.core.had ≤ k → k < 2 ^ 31
     → HasWord sc ports me i st m.window (word_at sc m me i st) → k ≡ last_tick sc m me st

@@ -1,6 +1,6 @@
--- For the law that events are rounds where the premise on faults is broken in a sync slot: a node
--- that waits for its last tick of the last stage has told its row of it after that tick, and knows
--- when its next frame begins.
+-- For the law that events are rounds if the premise on faults is broken in a sync slot: a node that
+-- waits for its last tick of the last stage has told its row of it after that tick, and knows when
+-- its next frame begins.
 use Rattle.std.proofs.Common.{◌≡◌, ℕ, ◌+◌, ◌*◌, ◌<◌, ◌≤◌, ◌⊎◌, Bool, true, false, List, [], ◌∷◌, ◌++◌, refl, ap, sym, ◌∙◌, subst, arith, inl, Option, Some, None, option_map, lit<}
 use Rattle.std.proofs.lemmas.Bool.{true≢false}
 use Rattle.rb_base.specs.Nodes.{Side, other}

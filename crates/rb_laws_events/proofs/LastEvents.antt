@@ -1,7 +1,7 @@
--- For the law that events are rounds where the premise on faults is broken in a sync slot: a due
--- tick of a node of a world in which the run breaks off with the last stage of the sync slot. After
--- it the node has told its row, and what it says comes to those that listen in the stage after
--- their last tick of it.
+-- For the law that events are rounds if the premise on faults is broken in a sync slot: a due tick
+-- of a node of a world in which the run breaks off with the last stage of the sync slot. After it
+-- the node has told its row, and what it says comes to those that listen in the stage after their
+-- last tick of it.
 use Rattle.std.proofs.Common.{◌≡◌, ℕ, ◌+◌, ◌*◌, ◌-◌, ◌<◌, ◌≤◌, ◌==◌, Bool, true, false, List, refl, ap, sym, ◌∙◌, subst, arith, inl, inr, Option, Some, None, slice_get, lit<}
 use Rattle.std.proofs.lemmas.Bool.{cases_lt, true≢false}
 use Rattle.std.proofs.lemmas.Bool.Decides.{nat_tests}
@@ -109,7 +109,7 @@ comes-later sc hands lawful p running at n yours there2 good2 i st there good x 
 
 -- A due tick.
 
--- a node that has told its row ends no stage with it
+-- a node that has told its row ends no stage with its tick
 pub before-end : (sc : Scenario) (hands : List HandIn) (sent : Side → ℕ → ℕ → Bool) → IsLawful sc → (ports : List PortState) (p : ℕ) → IsRunning (moment sc hands p) → (moment sc hands p).window ≡ 3 * sync_slot_of sc.sizes + 2
     → (me : Side) (i : ℕ) (s : Site) (a : Timed) → TickBreaks sc hands sent ports p me i s a → (h : HasToldLast sc hands me i p s) → a.tick + 1 < h.x + sc.plan.l
 before-end sc hands sent lawful ports p running at me i s a t h =

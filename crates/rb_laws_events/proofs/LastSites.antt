@@ -1,7 +1,7 @@
--- For the law that events are rounds where the premise on faults is broken in a sync slot: the
--- nodes of a world in which the run breaks off with the last stage of the sync slot. A node that
--- has told its row of it may go through the tail into the next frame, and what it says there comes
--- to the others after their last tick of the stage. An arrival and a message keep each node.
+-- For the law that events are rounds if the premise on faults is broken in a sync slot: the nodes
+-- of a world in which the run breaks off with the last stage of the sync slot. A node that has told
+-- its row of it may go through the tail into the next frame, and what it says there comes to the
+-- others after their last tick of the stage. An arrival and a message keep each node.
 use Rattle.std.proofs.Common.{◌≡◌, ℕ, zero, suc, ◌+◌, ◌^◌, ◌<◌, ◌≤◌, ◌&&◌, ◌⊎◌, Bool, true, false, List, [], ◌∷◌, ◌++◌, append_assoc, refl, ap, sym, ◌∙◌, subst, arith, inl, inr, Option, Some, None, slice_get, remove}
 use Rattle.rb_base.specs.Nodes.{Side, other}
 use Rattle.rb_rules.specs.declared.message.Message.{Message}
@@ -44,7 +44,7 @@ pub record WaitsAhead (sc : Scenario) (hands : List HandIn) (sent : Side → ℕ
   pub waits : WaitsHearing sc hands sent now me i p (record s { coming = mine })
   pub later : Every (λ c. waits.a.time < c.time) more
 
--- the next tick of a node that has told its row: x is that with which its next frame begins
+-- `a` is the next tick of a node that has told its row, and the next frame begins with tick `x`
 pub record AwaitsNext (sc : Scenario) (me : Side) (i : ℕ) (st : NodeState) (x : ℕ) (core : Core) (a : Timed) : Type 0 where
   pub had : core.had ≤ a.tick
   pub small : a.tick < 2 ^ 31
@@ -72,7 +72,7 @@ every-left : (P : Coming → Type 0) (xs ys : List Coming) → Every P (xs ++ ys
 every-left P [] ys e = tt
 every-left P (x ∷ xs) ys e = (e.0, every-left P xs ys e.1)
 
--- what comes by a time is not among what comes after it
+-- an item that comes by time `t` is not among those that come after it
 stands-left : (n : ℕ) (c : Coming) (t : ℕ) (xs ys : List Coming) → Every (λ y. t < y.time) ys → c.time ≤ t → StandsAt n c (xs ++ ys) → StandsAt n c xs × (remove (xs ++ ys) n ≡ remove xs n ++ ys)
 stands-left n c t [] ys all le s = let after : t < c.time = every-stands (λ y. t < y.time) n c ys s all in absurd (omega (arith, after, le))
 stands-left zero c t (x ∷ xs) ys all le s = (s, refl)

@@ -1,6 +1,6 @@
--- For the law that events are rounds where the premise on faults is broken in a sync slot: a tick
--- of a node that has told its row of the last stage of the sync slot, and the tick with which a
--- node tells it.
+-- For the law that events are rounds if the premise on faults is broken in a sync slot: a tick of a
+-- node that has told its row of the last stage of the sync slot, and the tick with which a node
+-- tells it.
 use Rattle.std.proofs.Common.{◌≡◌, ℕ, zero, suc, ◌+◌, ◌-◌, ◌^◌, ◌<◌, ◌≤◌, ◌==◌, ◌⊎◌, Bool, true, false, List, [], refl, ap, sym, ◌∙◌, subst, arith, Option, Some, None, option_map}
 use Rattle.rb_base.specs.Nodes.{Side}
 use Rattle.rb_base.specs.Sizes.{Sizes}
@@ -99,7 +99,7 @@ waits-next sc ports me i st x act s after a e =
 
 -- A tick of a node that has told its row.
 
--- what the core gives at it
+-- what the core gives at its tick
 pub told-goes : (sc : Scenario) (hands : List HandIn) (ports : List PortState) (me : Side) (i p : ℕ) (s : Site) (a : Timed) → HasRoom sc.plan → (h : HasToldLast sc hands me i p s) → s.ahead ≡ Some a
     → a.tick + 1 < h.x + sc.plan.l → GoesOn sc.sizes sc.plan me h.st.frame h.st.epoch h.x a.tick (pass_and_tick sc ports me i a.tick s.core)
 unfolding pass_and_tick

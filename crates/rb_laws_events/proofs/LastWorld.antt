@@ -1,6 +1,6 @@
--- For the law that events are rounds where the premise on faults is broken in a sync slot: a due
--- event keeps all nodes of a world in which the run breaks off with the last stage of the sync
--- slot: they wait for its last tick, or have told their rows.
+-- For the law that events are rounds if the premise on faults is broken in a sync slot: a due event
+-- keeps all nodes of a world in which the run breaks off with the last stage of the sync slot: they
+-- wait for its last tick, or have told their rows.
 use Rattle.std.proofs.Common.{◌≡◌, ℕ, ◌+◌, ◌*◌, ◌<◌, ◌≤◌, ◌⊎◌, Bool, true, false, List, [], append-nil, refl, sym, ◌∙◌, subst, arith, inl, inr, Option, Some, None, slice_get, lit<}
 use Rattle.rb_base.specs.Nodes.{Side}
 use Rattle.rb_base.specs.Sizes.{sync_slot_of}
@@ -38,7 +38,7 @@ use Rattle.rb_laws_events.proofs.WorldStands.{AllPend, IsDown, IsUp, sent_by}
 abbrev pub SitesLast : Scenario → List HandIn → (Side → ℕ → ℕ → Bool) → ℕ → Each Site → Type 0
 SitesLast sc hands sent p sites = (side : Side) (j : ℕ) (z : Site) → slice_get (of_kind side sites) j ≡ Some z → SiteLast sc hands sent p side j z
 
--- It begins.
+-- The first close.
 
 nothing-more : (sc : Scenario) (hands : List HandIn) (sent : Side → ℕ → ℕ → Bool) (now : ℕ) (me : Side) (i p : ℕ) (s : Site) → WaitsHearing sc hands sent now me i p s → WaitsAhead sc hands sent me i p s
 nothing-more sc hands sent now me i p s h =
@@ -87,7 +87,7 @@ last-arrival sc hands sent p sites h me i n c s moves there stands due =
 
 -- What is told.
 
--- the row of a node that has told it is the rounds' of this stage
+-- a node that has told its row has told the row of this stage in the rounds
 pub last-row : (sc : Scenario) (hands : List HandIn) → IsLawful sc → (p : ℕ) → (moment sc hands p).window ≡ 3 * sync_slot_of sc.sizes + 2 → (me : Side) (i : ℕ) (s : Site)
     → (h : HasToldLast sc hands me i p s) → (h.row.place ≡ place_at sc.sizes (moment sc hands p)) × RowOfRounds sc hands me i h.row
 last-row sc hands lawful p at me i s h =

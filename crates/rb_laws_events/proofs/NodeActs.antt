@@ -33,7 +33,7 @@ pub record HasRoom (plan : Plan) : Type 0 where
   pub ticks : HasTicks plan
   pub inside : SendsInside plan
 
--- tick k of window n of a node whose state there is `st`: its word in the window is `word`
+-- tick `k` is in window `n` of a node in the state `st`, whose word there is `word`
 pub record IsInWindow (sizes : Sizes) (plan : Plan) (me : Side) (i : ℕ) (st : NodeState) (n word k : ℕ) (c : NodeState) : Type 0 where
   pub window : n ≤ stages_in sizes
   pub slot : (window_numbered sizes plan me st n).slot ≤ sync_slot_of sizes
@@ -43,7 +43,7 @@ pub record IsInWindow (sizes : Sizes) (plan : Plan) (me : Side) (i : ℕ) (st : 
 
 -- Messages.
 
--- what the core says in the state of the tick, by the word that it is given
+-- at a tick of the window the core says the window's message, by the word that it is given
 pub said-form : (sizes : Sizes) (plan : Plan) (me : Side) (i : ℕ) (st y : NodeState) (n given k : ℕ) → HasRoom plan → n ≤ stages_in sizes
     → KeepsTime sizes plan me st → IsTickIn sizes plan me st n k → Like sizes plan me i st y
     → said_at sizes plan me i y given k
@@ -100,7 +100,7 @@ says-so sc ports me i st n word k room le keeps at same =
 
 -- Acts.
 
--- a tick in the state to which the core has come with it
+-- a tick acts by the state that the core has with it
 tick-by : (sizes : Sizes) (plan : Plan) (me : Side) (i : ℕ) (c : Core) (y : NodeState) (given : ℕ) → c.had < 2 ^ 31 → state_at sizes plan me c.state c.had ≡ y
     → tick sizes plan me i c given
     ≡ act_on sizes plan me i c y (said_at sizes plan me i y given c.had) (state_kept sizes me i y given (said_at sizes plan me i y given c.had))
@@ -208,7 +208,7 @@ says-given sc ports me i st n word c room stands below words =
     (sym (given-is sc ports me i c (state_in sc.sizes sc.plan me i st n word c.had) below stands.now))
     (says-so sc ports me i st n word c.had room stands.window stands.keeps stands.at words)
 
--- a tick that is not the window's last
+-- a tick that is not the window's last leaves the window open
 pub acts-open : (sc : Scenario) (ports : List PortState) (me : Side) (i : ℕ) (st : NodeState) (n word : ℕ) (c : Core) → HasRoom sc.plan
     → IsInWindow sc.sizes sc.plan me i st n word c.had c.state → c.had < 2 ^ 31 → HasWord sc ports me i st n word
     → c.had < st.epoch + last_of sc.sizes sc.plan me st n

@@ -1,5 +1,5 @@
 -- For the law that events are rounds: at the last tick of its window a node does what the rounds do
--- with it, and goes on in the next window, or stops where it is not good any more.
+-- with it, and goes on in the next window, or stops if it is not good any more.
 use Rattle.std.proofs.Common.{◌≡◌, ℕ, ◌+◌, ◌<◌, ◌≤◌, ◌==◌, ◌&&◌, ◌⊎◌, nat_le, nat_lt, Bool, true, false, cond, List, [], ◌∷◌, ◌++◌, filter, length, refl, ap, sym, ◌∙◌, subst, arith, inl, inr, Option, Some, None, option_map, option_to_list}
 use Rattle.std.proofs.lemmas.Bool.Decides.{nat_tests}
 use Rattle.std.proofs.lemmas.List.{append-nil}
@@ -26,7 +26,7 @@ use Rattle.rb_laws_events.proofs.TickWindows.{first_of}
 
 -- What comes to the node.
 
--- what holds of all that passes a test holds of each item that passes it
+-- what holds for all items that pass holds for each item if it passes
 pub from-filter : (P : Coming → Type 0) (q : Coming → Bool) (xs : List Coming) → Every P (filter q xs) → Every (λ c. q c ≡ true → P c) xs
 from-filter P q [] e = tt
 from-filter P q (x ∷ xs) e = by (q x) refl e (from-filter P q xs)
@@ -44,7 +44,7 @@ is-later j t c e lt =
     let after : nat_lt t c.time ≡ true = grind (arith, nat_tests) in
     ap (λ b. b && nat_lt t c.time) e ∙ after
 
--- all that pends of a source for later has what the list of it has
+-- all that pends for later from source `j` has what the list of it has
 pub later-has : (P : Coming → Type 0) (j t : ℕ) (coming next : List Coming) → Every (λ c. t < c.time) coming → filter (is_later j t) coming ≡ next → Every P next
     → Every (λ c. (t < c.time) × ((c.from == j) ≡ true → P c)) coming
 later-has P j t coming next after is all =
@@ -54,7 +54,7 @@ later-has P j t coming next after is all =
     join [] a b = tt
     join (c ∷ cs) a b = ((a.0, λ e. b.0 (is-later j t c e a.0)), join cs a.1 b.1)
 
--- the tail: nothing is sent for it, and all that pends is for the next stage
+-- if all that pends from source `j` comes after time `u`, none of it comes by then
 none-by : (j u t : ℕ) (cs : List Coming) → Every (λ c. (t < c.time) × ((c.from == j) ≡ true → u < c.time)) cs → filter (is_now j u) cs ≡ []
 none-by j u t [] e = refl
 none-by j u t (c ∷ cs) e =
@@ -96,7 +96,7 @@ opens-stage j t u got coming sent next after in_time h =
 
 -- The site after the last tick of a window.
 
--- a node's site before it goes on
+-- a node's site after a close, before the node goes on
 abbrev pub site_closed : Scenario → List PortState → Side → ℕ → Act → ClosedStage → Site → Site
 site_closed sc ports me i x c s = record s {
   core = x.core;
@@ -119,7 +119,7 @@ after-close sc ports me i x c span good s closed begins is =
     ∙ ap (λ o. enter sc me i o s3) begins
     ∙ ap (λ b. elim b as (λ _. Site) [ true ↦ await sc me i (says_in sc me i span) s3 | false ↦ stop s3 ]) is
 
--- the span that starts where the node stands
+-- the span that begins at the first tick of a window is that of the window
 pub span-begins : (sizes : Sizes) (plan : Plan) (me : Side) (c st : NodeState) (n k : ℕ) → state_at sizes plan me c k ≡ st
     → window_here sizes plan me st k ≡ window_numbered sizes plan me st n → k ≡ st.epoch + first_of sizes plan me st n
     → span_from sizes plan me c k ≡ Some (span_of st (window_numbered sizes plan me st n))
@@ -181,7 +181,7 @@ heard-all sc m me i j st sent frame all = by (is_good_at sc m (other me) j) refl
 pub all-here : (j t : ℕ) (got coming sent next : List Coming) → Every (λ c. t < c.time) coming → Hears j t got coming sent next → AllOf (coming_from got j) sent
 all-here j t got coming sent next after h = all-came j t got coming sent next (none-now j t coming after) h
 
--- a stage opens: what was sent for it is what was sent ahead, with what is said in it
+-- when a stage opens, what was sent for it is what was sent ahead and what is said in it
 pub stage-lists : (sc : Scenario) (m : Moment) (me : Side) (i j : ℕ) (st : NodeState) (sent : ℕ → Bool) → st.frame ≡ m.frame
     → (ahead_so_far sc m me i sent j ++ said_if sc me i (span_of st (window_in sc m me st)) j ≡ heard_so_far sc m me i (span_of st (window_in sc m me st)) sent j)
     × ((said_if sc me i (span_of st (window_in sc m me st)) j ≡ []) ⊎ (ahead_so_far sc m me i sent j ≡ []))

@@ -46,8 +46,8 @@ use Rattle.rb_laws_events.proofs.SayLists.{ComesIn, every-to, said_if, say-more,
 use Rattle.rb_laws_events.proofs.StageOrder.{last_of}
 use Rattle.rb_laws_events.proofs.TickWindows.{first_of, here-is}
 
--- what the rest of the world has to be like when a node closes the window of moment p: all good
--- sources have sent what they send for it, and none has sent anything for the stage after the next
+-- when a node closes the window of moment `p`, all good sources have sent what they send for it,
+-- and none has sent anything for the stage after the next
 pub record OthersKeepUp (sc : Scenario) (hands : List HandIn) (sent : Side → ℕ → ℕ → Bool) (me : Side) (i p : ℕ) : Type 0 where
   pub all_sent : (j : ℕ) → is_good_at sc (moment sc hands p) (other me) j ≡ true
       → (sent (other me) j p ≡ true) ⊎ (entry_of sc (moment sc hands p) me i j ≡ [])
@@ -71,7 +71,7 @@ pub record KnownInRounds (sc : Scenario) (hands : List HandIn) (me : Side) (i p 
   pub knows : Knows sc.sizes me (moment sc hands p).window st
   pub lengths : HasLengths (shortest_of sc.plan) (longest_of sc.plan) (clock_of sc me i)
 
--- the node after it, in the moment where it stands then
+-- after the close the node stands in its next moment, `q`
 pub record GoesOn (sc : Scenario) (hands : List HandIn) (sent : Side → ℕ → ℕ → Bool) (t : ℕ) (me : Side) (i q : ℕ) (s : Site) : Type 0 where
   pub st : NodeState
   pub a : Timed

@@ -31,7 +31,7 @@ use Rattle.rb_laws_events.proofs.TickWindows.{IsTickIn, first_of, here-is}
 
 -- An event elsewhere.
 
--- the pending tick of a node is among its times, and so is all that comes to it
+-- if all that pends at a node comes from time `t` on, so does its pending tick
 pub tick-after : (t : ℕ) (o : Option Timed) (a : Timed) (cs : List Coming) → o ≡ Some a
     → Every (λ u. t ≤ u) (option_to_list (option_map (λ (a : Timed). a.time) o) ++ map (λ (c : Coming). c.time) cs) → t ≤ a.time
 tick-after t None a cs e all = cc
@@ -96,7 +96,7 @@ stands-arrival sc hands sent now me i p n c s st a moves due h =
 
 -- A tick.
 
--- what a node has told of the frame after a tick with this start
+-- the start of a frame that a node has told last, after a tick that may begin one
 abbrev pub begun_after : Scenario → List PortState → Side → ℕ → Option Epoch → Option Begun → Option Begun
 begun_after sc ports me i None b = b
 begun_after sc ports me i (Some e) b = Some (begun_of sc ports me i e)
@@ -142,7 +142,7 @@ no-span sizes plan me i st n word k c room stands after =
     below : (a b : ℕ) → a < b → (a == b) ≡ false
     below a b h = grind (arith, nat_tests)
 
--- a node after a tick that is not the last of its window
+-- after a tick that is not the last of its window a node stays in the window
 pub record StaysOpen (sc : Scenario) (hands : List HandIn) (sent : Side → ℕ → ℕ → Bool) (t : ℕ) (ports : List PortState) (me : Side) (i p : ℕ) (s : Site) (st : NodeState) (k : ℕ) (x : Act) : Type 0 where
   pub a : Timed
   pub site : after_act sc ports me i x s ≡ record s { core = x.core; ahead = Some a; coming = s.coming; begun = begun_after sc ports me i x.epoch s.begun }

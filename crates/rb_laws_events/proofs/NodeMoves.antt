@@ -53,7 +53,7 @@ get-turned sc hands p me i st over there =
     let next : IsFrameLater sc hands (moment sc hands p) (moment sc hands (suc p)) = frame-later sc hands (moment sc hands p) over in
     ap (λ nodes. slice_get (of_kind me nodes) i) next.nodes ∙ state-turned sc hands (moment sc hands p) me i st there
 
--- an empty tail is passed over
+-- a window that is passed over leaves the node's state
 pub passed-over : (sc : Scenario) (m : Moment) (sent : Each (Option Sending)) (me : Side) (i : ℕ) (st : NodeState) (w : Window)
     → nat_le w.first w.last ≡ false → (go_through sc m sent me i st w).state ≡ st
 unfolding go_through

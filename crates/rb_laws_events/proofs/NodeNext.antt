@@ -23,7 +23,7 @@ use Rattle.rb_laws_events.proofs.NodeWords.{at_its_tick, none-message, said-at-t
 use Rattle.rb_laws_events.proofs.StageOrder.{last_of}
 use Rattle.rb_laws_events.proofs.TickWindows.{IsTickIn, first_of, last-is}
 
--- the next busy tick of a node that stands at tick `had` of a window
+-- tick `k` is the next busy tick of a node that stands at tick `had` of window `n`
 pub record NextIn (sizes : Sizes) (plan : Plan) (me : Side) (i : ℕ) (st : NodeState) (n word had k : ℕ) (c : NodeState) : Type 0 where
   pub in_window : IsTickIn sizes plan me st n k
   pub now : state_at sizes plan me c k ≡ state_in sizes plan me i st n word k

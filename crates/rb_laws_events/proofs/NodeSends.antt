@@ -124,7 +124,7 @@ other-stage sizes plan me i st slot r n word k ticks inside keeps le small withi
       | inr gt ↦ more-differs s.tick k (apart sizes plan me st n (3 * slot + r) k s.tick ticks gt (omega arith) at sent)
     ])
 
--- the message of stage r + 1, where those of the others do not go out
+-- the message of stage r + 1, if those of the others do not go out
 only : (sizes : Sizes) (plan : Plan) (me : Side) (i : ℕ) (st : NodeState) (slot word k : ℕ) (r : ℕ) → r < 3
     → ((q : ℕ) → q < 3 → (q < r) ⊎ (r < q) → if_at k (sending sizes plan me i st slot (q + 1) word) ≡ None)
     → option_or (if_at k (sending sizes plan me i st slot 1 word)) (option_or (if_at k (sending sizes plan me i st slot 2 word)) (if_at k (sending sizes plan me i st slot 3 word)))

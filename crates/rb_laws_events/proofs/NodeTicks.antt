@@ -77,7 +77,7 @@ like-kept sizes plan me i st slot stage word = by ((stage == 1) && is_some (says
     by true = like-sent sizes plan me i st word slot stage
     by false = like-itself sizes plan me i st
 
--- the state in a window, by whether the node has said what it has to say
+-- the state `kept` if the node has said what it has to say, and else `st`
 abbrev pub by_said : Bool → NodeState → NodeState → NodeState
 by_said b st kept = elim b [ true ↦ kept | false ↦ st ]
 

@@ -291,7 +291,7 @@ holds-shared {w} {me} sc lawful frame slot node follow at r =
           subst (SharedAt sc w.hands frame slot r.shared) (sym four) (r.tail (a.last four))
     ]
 
--- a node at the start of the slot holds the state of the rounds before it
+-- a node at the start of the slot has the state of the rounds there
 before-is : {w : World} {me : Side} (sc : Scenario) (frame slot : ℕ) (node : RunningNode w me) → (window_of sc node).stage ≡ 1 → (a : IsIn sc frame slot node)
     → IsGoodBefore sc w.hands frame slot me node.index a.st
 before-is {w} {me} sc frame slot node first a = record {
@@ -320,7 +320,7 @@ begins-first : (sc : Scenario) (hands : List HandIn) (frame slot : ℕ) → Begi
 begins-first sc hands frame zero begin = refl
 begins-first sc hands frame (suc slot) begin = absurd begin
 
--- the nodes convicted, by those that are trusted
+-- the convicted nodes, which are those that are not trusted
 abbrev convicted_by_trusted : Sizes → Side → ℕ → ℕ
 convicted_by_trusted sizes kind trusted = set_of (λ j. nat_lt j (count_of kind sizes) && not (has trusted j))
 

@@ -113,7 +113,7 @@ is-paced sc now at w h = record {
     not-complete true b e h = cc
     not-complete false b e h = h
 
--- what waits in a world, where the next record needs an event
+-- what waits in a world if the next record needs an event
 pub world-waits : (sc : Scenario) (now : ℕ) (at : Side → ℕ → ℕ) (w : World) → WorldInRounds sc now at w → w.book.ended ≡ false → needs_no_event sc w.book.upcoming ≡ false
     → (n : ℕ) × WaitsAt sc w.hands at w.sites w.book n
 world-waits sc now at w h going needs =
@@ -171,7 +171,7 @@ closes-earlier sc now at w n d lawful h waits up_to due = by d.pending due.ready
         (λ q lt within. up_to.times q (omega arith) within) up_to.well me i (at me i) refl
         (record { st = st; state = e; good = up.stands.good; time = at_time ∙ ap (time_of (clock_of sc me i)) (ready.1.1.0 ∙ last) }) (waits.bound me i s due.there)
 
--- a due event that is taken keeps it, and leaves the book one of the rounds'
+-- a due event that is taken keeps the world in the rounds, and leaves the book one of the rounds
 pub take-keeps : (sc : Scenario) (now : ℕ) (at : Side → ℕ → ℕ) (w : World) (d : Due) → IsLawful sc → HasRoom sc.plan → WorldInRounds sc now at w
     → (n : ℕ) → MayHappen sc at w n → w.book.ended ≡ false → (due : IsDue w d) → ClosesEarlier sc w.hands at n d.side d.node d.pending
     → StandsUpTo sc w.hands n (take_if_due sc w (Some d))

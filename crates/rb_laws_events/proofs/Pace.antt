@@ -43,13 +43,13 @@ IsWithin sizes (Begin frame) p = p ≤ number_of sizes (Begin frame)
 IsWithin sizes (Stage place) p = p ≤ number_of sizes (after_stage sizes place)
 IsWithin sizes End p = ⊤
 
--- what comes after a stage
+-- the milestone after a stage
 abbrev pub then_stage : Sizes → Place → Bool → Bool → Milestone
 then_stage sizes place early last =
     if early then Stage (record place { stage = place.stage + 1 })
     else (if last then Begin (place.frame + 1) else Stage (record { frame = place.frame; slot = place.slot + 1; stage = 1 }))
 
--- a stage of number n comes before what comes after it
+-- the number of a stage is at most that of the milestone after it
 rises : (sizes : Sizes) (place : Place) → place.stage ≤ 3 → number_at sizes place ≤ number_of sizes (after_stage sizes place)
 rises sizes place few = by (nat_lt place.stage 3) (place.slot == sync_slot_of sizes) refl
   where
@@ -64,7 +64,7 @@ rises sizes place few = by (nat_lt place.stage 3) (place.slot == sync_slot_of si
         omega (arith, same, more, few)
     by false false e = omega (arith, few)
 
--- a node up to the number of what comes after a stage is within it
+-- a node up to the number of the milestone after a stage is within that milestone
 after-within : (sizes : Sizes) (place : Place) (p : ℕ) → p ≤ number_of sizes (after_stage sizes place) → IsWithin sizes (after_stage sizes place) p
 after-within sizes place p = by (nat_lt place.stage 3) (place.slot == sync_slot_of sizes) refl
   where
@@ -88,7 +88,7 @@ frame-within sc frame p le = by (frame == sc.frames)
 
 -- Books.
 
--- no node is too far ahead
+-- each node is within the upcoming milestone
 abbrev pub Bound : Scenario → (Side → ℕ → ℕ) → Each Site → Book → Type 0
 Bound sc at sites b = b.ended ≡ false → (me : Side) (i : ℕ) (s : Site) → slice_get (of_kind me sites) i ≡ Some s → IsWithin sc.sizes b.upcoming (at me i)
 

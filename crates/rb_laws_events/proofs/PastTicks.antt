@@ -1,6 +1,6 @@
--- For the law that events are rounds where the premise on faults is broken in a sync slot: what a
--- node does after it has closed the stage with which the run breaks off. Whatever middles it keeps,
--- it tells nothing up to the last tick of the next window.
+-- For the law that events are rounds if the premise on faults is broken in a sync slot: what a node
+-- does after it has closed the stage with which the run breaks off. Whatever middles it keeps, it
+-- tells nothing up to the last tick of the next window.
 use Rattle.std.proofs.Common.{◌≡◌, ℕ, ◌+◌, ◌<◌, ◌≤◌, ◌==◌, ◌&&◌, if◌then◌else◌, Bool, true, false, List, [], ◌∷◌, ◌++◌, not, nat_lt, refl, ap, sym, ◌∙◌, subst, arith, inl, inr, Option, Some, None, is_some}
 use Rattle.std.proofs.lemmas.Bool.{cases_lt}
 use Rattle.std.proofs.lemmas.Bool.Decides.{nat_tests}
@@ -58,7 +58,7 @@ turns-later sizes plan me c n k ticks next le at =
               past-tail sizes plan me c k x ticks low (subst (λ n. IsTickIn sizes plan me c n k) same at) e
         ]
 
--- what it says changes neither its frame nor its windows
+-- what a core says changes neither its frame nor its windows
 kept-like : (sizes : Sizes) (plan : Plan) (me : Side) (i : ℕ) (c : NodeState) (word : ℕ) (m : Option Message) → Like sizes plan me i c (state_kept sizes me i c word m) × ((state_kept sizes me i c word m).frame ≡ c.frame)
 kept-like sizes plan me i c word None = (like-itself sizes plan me i c, refl)
 kept-like sizes plan me i c word (Some m) =
@@ -80,7 +80,7 @@ past-kept sizes plan me i frame e n c y had more like same le h =
       next = λ x known. omega (arith, epoch, h.next x (sym like.next ∙ known));
     }
 
--- what an act gives in which no window ends
+-- the act ends no window, and leaves the core like `was` and past window `n`
 pub record TellsNone (sizes : Sizes) (plan : Plan) (me : Side) (i frame e n : ℕ) (was : NodeState) (x : Act) : Type 0 where
   pub closed : x.closed ≡ None
   pub like : Like sizes plan me i was x.core.state

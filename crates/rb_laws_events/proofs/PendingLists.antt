@@ -13,7 +13,7 @@ use Rattle.rb_rules.specs.Slots.{count_of}
 use Rattle.rb_rules.specs.WorldStep.{coming_from}
 use Rattle.rb_laws_events.proofs.SameHeard.{IsOneOf, Every, AllOf, kept_as}
 
--- c is of source j and comes by time t, that of the open window's last tick; or it comes later
+-- `c` comes from source `j`: by time `t`, and in `is_later` after it
 abbrev pub is_now : ℕ → ℕ → Coming → Bool
 is_now j t c = (c.from == j) && nat_le c.time t
 
@@ -60,7 +60,7 @@ same_others q n x [] s h = absurd s
 same_others q zero x (y ∷ ys) s h = let e : q y ≡ false = ap q s ∙ h in ap (λ b. cond b (y ∷ filter q ys) (filter q ys)) (sym e)
 same_others q (suc n) x (y ∷ ys) s h = ap (λ l. cond (q y) (y ∷ l) l) (same_others q n x ys s h)
 
--- what holds of all items that pass a test holds of this one, if it passes
+-- what holds for all items that pass holds for item `x`, if it passes
 passing : (P : Coming → Type 0) (q : Coming → Bool) (n : ℕ) (x : Coming) (xs : List Coming) → StandsAt n x xs → q x ≡ true → Every P (filter q xs) → P x
 passing P q n x [] s h e = absurd s
 passing P q zero x (y ∷ ys) s h e =
@@ -140,7 +140,7 @@ none-now j t (c ∷ cs) e =
     let go : (b : Bool) → (c.from == j) ≡ b → is_now j t c ≡ false = λ b. elim b as (λ b. (c.from == j) ≡ b → is_now j t c ≡ false) [ true ↦ λ e. rw (e, no) refl | false ↦ λ e. rw e refl ] in
     ap (λ b. cond b (c ∷ filter (is_now j t) cs) (filter (is_now j t) cs)) (go (c.from == j) refl) ∙ none-now j t cs e.1
 
--- the core's inbox takes the arrival with the same stamp, where that is the number of its next tick
+-- the core's inbox takes the arrival with the same stamp if that is the number of its next tick
 map-last : (f : Coming → ℕ × Arrival) (xs : List Coming) (x : Coming) → map f (xs ++ x ∷ []) ≡ map f xs ++ f x ∷ []
 map-last f [] x = refl
 map-last f (y ∷ ys) x = ap (λ l. f y ∷ l) (map-last f ys x)

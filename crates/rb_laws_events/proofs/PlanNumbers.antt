@@ -10,8 +10,8 @@ use Rattle.rb_rules.specs.Plan.{IsFeasible, IsPlan, Sides, drift_in, longest_of,
 use Rattle.rb_rules.proofs.Lawfulness.{SendsInside, sends_inside_all}
 use Rattle.rb_laws_synchrony.proofs.PlanNumbers.{enough}
 
--- the ticks after the sending tick take at least so long, so with the one that sends and those
--- before it the window takes longer
+-- if the ticks after the sending tick take at least `n`, the window takes at least `n` and the
+-- ticks up to the sending one
 window-rest : (ticks h shortest n : ℕ) → h < ticks → pos n ≤ℤ ((pos ticks -ℤ pos (1 + h)) *ℤ pos shortest)
     → n + shortest + h * shortest ≤ ticks * shortest
 window-rest ticks h shortest n inside le =

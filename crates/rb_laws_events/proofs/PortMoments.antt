@@ -70,7 +70,7 @@ unfolding step after_window
 in-window-ports sc hands p inside =
     ap (λ b. (stepped sc hands (moment sc hands p) ((moment sc hands p).frame == sc.frames) b).ports) (lt-ltb (moment sc hands p).window (windows_in sc.sizes) inside)
 
--- what the rounds make of it is what is delivered by the row of the window
+-- the rounds change a port by what the row of its BIU's window delivers
 pub port-after-window : (sc : Scenario) (hands : List HandIn) (p i : ℕ) (st : NodeState) → (moment sc hands p).window < windows_in sc.sizes → i < sc.sizes.bius
     → slice_get (of_kind Biu (moment sc hands p).nodes) i ≡ Some st
     → port_at sc (moment sc hands (suc p)).ports i

@@ -224,7 +224,7 @@ own-if-biu sc hands at sites ports Biu i s a x ticks many all told there up stan
     own-port sc hands at sites ports i s a x ticks many all told there after on (stand i s there up)
 own-if-biu sc hands at sites ports Rmu i s a x ticks many all told there up stand after is on = cc
 
--- all ports of nodes that run are
+-- after a tick the ports of all nodes that run are those of the rounds
 pub ports-after : (sc : Scenario) (hands : List HandIn) (at : Side → ℕ → ℕ) (sites : Each Site) (ports : List PortState) (me : Side) (i frame k : ℕ) (m : Option Message) (s : Site) (a : Timed) (x : Act)
     → HasTicks sc.plan → length ports ≡ sc.sizes.bius → AllHanded sc sites hands → AllTold sc hands at sites → slice_get (of_kind me sites) i ≡ Some s → s.runs ≡ true
     → (after : AfterTick sc hands at sites ports me i s a x) → PortsStand sc hands at sites ports

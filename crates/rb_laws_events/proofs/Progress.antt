@@ -51,7 +51,7 @@ due-where-pends sc choices node going needs =
     some-item [] never = absurd (never refl)
     some-item (d ∷ ds) never = omega arith
 
--- the law holds where in each world in which the next record needs an event some tick is pending
+-- the law holds if some tick is pending in each world whose next record needs an event
 pub something-is-due : (sc : Scenario)
     → ((choices : List Choice) → (world_after sc choices).book.ended ≡ false → needs_no_event sc (world_after sc choices).book.upcoming ≡ false → SomePends (world_after sc choices))
     → SomethingIsDue sc

@@ -27,7 +27,7 @@ use Rattle.rb_laws_events.proofs.WorldStands.{AllPend, IsUp, sent_by}
 
 -- A take.
 
--- a world in which each tick that may be taken is one of those that its node may have
+-- each tick that may be taken in the world is one of those that its node may have
 pub record HasTicksLeft (sc : Scenario) (w : World) : Type 0 where
   pub counts : (me : Side) → length (of_kind me w.sites) ≡ count_of me sc.sizes
   pub left : (me : Side) (i : ℕ) (s : Site) (a : Timed) → slice_get (of_kind me w.sites) i ≡ Some s → s.ahead ≡ Some a → AllPend a.time w.sites → (s.core.had ≤ a.tick) × (a.tick < 2 ^ 31)

@@ -1,6 +1,6 @@
 -- For the law that events are rounds: a close needs only how many messages came of each source, and
--- the sole one. So a node closes on its inbox as the rounds do on what is heard, where of each
--- source as many came, and each of them is one of those.
+-- the sole one. So a node closes on its inbox as the rounds do on what is heard, if as many came
+-- from each source, and each of them is one of those.
 use Rattle.std.proofs.Common.{◌≡◌, ℕ, ◌==◌, Bool, true, false, List, [], ◌∷◌, map, filter, length, refl, ◌∙◌, ap, arith, ◌⊎◌, inl, inr, cond, get_or}
 use mathlib.Core.Path.{fun_ext}
 use Rattle.rb_base.specs.Nodes.{Side}
@@ -21,12 +21,12 @@ use Rattle.rb_rules.specs.NodeSteps.{expect_of, close}
 use Rattle.rb_rules.specs.Sense.{Arrival, sense_of}
 use Rattle.rb_rules.specs.WorldStep.{coming_from}
 
--- x is one of the list
+-- the entry is one of the list
 abbrev pub IsOneOf : Coming → List Coming → Type 0
 IsOneOf x [] = ⊥
 IsOneOf x (y ∷ ys) = (x ≡ y) ⊎ IsOneOf x ys
 
--- each item of a list is so
+-- `P` holds for each item of the list
 abbrev pub Every : {X : Type 0} → (X → Type 0) → List X → Type 0
 Every P [] = Unit {0}
 Every P (x ∷ xs) = P x × Every P xs
@@ -60,7 +60,7 @@ same-time (x ∷ (z ∷ xs)) (y ∷ (v ∷ ys)) a = refl
 abbrev pub kept_as : Timeline → Coming → ℕ × Arrival
 kept_as clock c = (c.from, arrival_of clock c)
 
--- the inbox of a source is what came of it
+-- what the inbox has from source `j` is what came from it
 pub from-came : (clock : Timeline) (j : ℕ) (got : List Coming) → of_source (map (kept_as clock) got) j ≡ map (arrival_of clock) (coming_from got j)
 from-came clock j [] = refl
 from-came clock j (c ∷ cs) = one (from-came clock j cs) (c.from == j)
@@ -71,7 +71,7 @@ from-came clock j (c ∷ cs) = one (from-came clock j cs) (c.from == j)
     one more true = ap (λ l. arrival_of clock c ∷ l) more
     one more false = more
 
--- a close by its senses
+-- closes with the same senses are the same
 pub same-close : (sizes : Sizes) (plan : Plan) (me : Side) (i : ℕ) (st : NodeState) (w : Window) (f g : ℕ → List Arrival)
     → ((j : ℕ) → sense_of (expect_of sizes plan.version st w.slot w.stage) (f j) ≡ sense_of (expect_of sizes plan.version st w.slot w.stage) (g j))
     → close_window sizes plan me i st w f ≡ close_window sizes plan me i st w g
@@ -87,7 +87,7 @@ close-is sizes plan me i st w clock inbox got heard is all =
     ∙ same-close sizes plan me i st w (of_source (map (kept_as clock) got)) (λ j. map (arrival_of clock) (heard j))
     (λ j. ap (sense_of e) (from-came clock j got) ∙ same-sense e clock (coming_from got j) (heard j) (all j))
 
--- what the node tells is the same, too
+-- a node tells the same row with what came as with what is heard
 pub row-is : (me : Side) (i : ℕ) (st : NodeState) (got : List Coming) (heard : ℕ → List Coming) (c : Closed) → ((j : ℕ) → AllOf (coming_from got j) (heard j))
     → row_of me i st (coming_from got) c ≡ row_of me i st heard c
 unfolding row_of

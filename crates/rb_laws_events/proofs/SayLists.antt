@@ -28,7 +28,7 @@ use Rattle.rb_laws_events.proofs.SameHeard.{Every, IsOneOf}
 
 -- Times.
 
--- what is said for a window comes at one of its ticks, or less than a tick before
+-- `c` comes at one of the ticks of the span, or less than a tick before
 abbrev pub ComesIn : Timeline → Span → Coming → Type 0
 ComesIn clock span c = ((m : ℕ) → span.first ≡ suc m → time_of clock m < c.time) × (c.time ≤ time_of clock span.last)
 
@@ -95,7 +95,7 @@ pub none-said : (sc : Scenario) → IsLawful sc → (me : Side) (i j : ℕ) (spa
 none-said sc lawful me i j span over =
     ap (map (coming_said sc.plan.version (clock_of sc me i) j span)) (none-said-of sc me i j span over sc.says lawful.says)
 
--- what is made of one source is of that source
+-- what is made of source `j` is from source `j`
 map-from : {X : Type 0} (j : ℕ) (f : X → Coming) → ((x : X) → (f x).from ≡ j) → (xs : List X) → Every (λ c. c.from ≡ j) (map f xs)
 map-from j f its [] = tt
 map-from j f its (x ∷ xs) = (its x, map-from j f its xs)
@@ -171,7 +171,7 @@ flat-hit j u f a (suc n) its times lo hi =
 
 -- A window opens.
 
--- what node k of the other kind says in it, if it is not good
+-- what node `k` of the other kind says in the span, if it is not good
 abbrev pub said_if : Scenario → Side → ℕ → Span → ℕ → List Coming
 said_if sc me i span k = elim (is_good sc (other me) k span.place.frame span.place.slot) [ true ↦ [] | false ↦ said_by sc me i span k ]
 
@@ -198,13 +198,13 @@ every-flat P f a (suc n) all = join (f a) (flat_map f (range_with_len (a + 1) n)
     join [] ys a b = b
     join (x ∷ xs) ys a b = (a.0, join xs ys a.1 b)
 
--- all that is said in it comes in it
+-- all that is said in the span comes in it
 pub says-come-in : (sc : Scenario) → IsLawful sc → (me : Side) (i : ℕ) (span : Span) → HasLengths (shortest_of sc.plan) (longest_of sc.plan) (clock_of sc me i)
     → Every (ComesIn (clock_of sc me i) span) (says_in sc me i span)
 unfolding says_in
 says-come-in sc lawful me i span lengths = every-flat (ComesIn (clock_of sc me i) span) (said_if sc me i span) 0 (count_of (other me) sc.sizes) (said-if-in sc lawful me i span lengths)
 
--- what is said of source j
+-- what is said in the span by source `j` alone comes from source `j`
 pub says-now : (sc : Scenario) → IsLawful sc → (me : Side) (i : ℕ) (span : Span) → HasLengths (shortest_of sc.plan) (longest_of sc.plan) (clock_of sc me i)
     → (j : ℕ) → filter (is_now j (time_of (clock_of sc me i) span.last)) (says_in sc me i span) ≡ said_if sc me i span j
 unfolding says_in

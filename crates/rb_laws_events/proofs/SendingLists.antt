@@ -31,7 +31,7 @@ say-now j t got coming next e its le h =
       later = filter-last (is_later j t) coming e ∙ ap (λ b. filter (is_later j t) coming ++ cond b (e ∷ []) []) later ∙ append-nil (filter (is_later j t) coming) ∙ h.later;
     }
 
--- source j sends for the window after it
+-- source `j` sends for the window after the open one
 pub say-next : (j t : ℕ) (got coming sent : List Coming) (e : Coming) → (e.from == j) ≡ true → t < e.time → Hears j t got coming sent [] → Hears j t got (coming ++ e ∷ []) sent (e ∷ [])
 say-next j t got coming sent e its lt h =
     let not_now : nat_le e.time t ≡ false = grind (arith, nat_tests) in
@@ -61,8 +61,7 @@ say-other j t got coming sent next e its h =
       later = filter-last (is_later j t) coming e ∙ ap (λ b. filter (is_later j t) coming ++ cond b (e ∷ []) []) later ∙ append-nil (filter (is_later j t) coming) ∙ h.later;
     }
 
--- what is pending when a window opens: it comes after time t, that of the last tick before, and if
--- it is of source j by time u, that of the new window's last tick
+-- `c` comes after time `t`, and if it is from source `j`, it comes by time `u`
 abbrev pub OpensFor : ℕ → ℕ → ℕ → Coming → Type 0
 OpensFor j t u c = (t < c.time) × ((c.from == j) ≡ true → c.time ≤ u)
 

@@ -1,5 +1,5 @@
--- For the law that events are rounds where the premise on faults is broken in a sync slot: a node
--- that has sent what it sends in a window has nothing left to do in it but to close it.
+-- For the law that events are rounds if the premise on faults is broken in a sync slot: a node that
+-- has sent what it sends in a window has nothing left to do in it but to close it.
 use Rattle.std.proofs.Common.{◌≡◌, ℕ, ◌+◌, ◌<◌, ◌≤◌, ◌==◌, ◌||◌, Bool, true, false, refl, ap, sym, ◌∙◌, arith, Option, Some, None, is_some}
 use Rattle.std.proofs.lemmas.Bool.Decides.{nat_tests}
 use Rattle.rb_base.specs.Nodes.{Side}

@@ -69,8 +69,7 @@ abbrev pub past : Option Sending → Option Timed → Bool
 past None a = false
 past (Some s) a = is_past s.tick a
 
--- a node that stood in moment q with tick k pending stands in moment r with this tick pending, if
--- any
+-- a node with tick `k` pending in moment `q` then has tick `b` pending in moment `r`, if any
 pub record Steps (so : ℕ → Option Sending) (q k r : ℕ) (b : Option Timed) : Type 0 where
   pub how : ((r ≡ q) × (gone (so q) (k + 1) ≡ past (so q) b)) ⊎ ((q < r) × (past (so r) b ≡ false))
   pub between : (p : ℕ) → q < p → p < r → so p ≡ None
@@ -97,7 +96,7 @@ differs a b (inr h) = grind (arith, nat_tests)
 other-than : (a b : ℕ) → (a == b) ≡ false → (a < b) ⊎ (b < a)
 other-than a b h = elim (cases_lt a b) [ inl lt ↦ inl lt | inr ge ↦ inr (grind (arith, nat_tests)) ]
 
--- what has been sent in an earlier moment, in this one, in a later one
+-- whether a node has sent what it sends in an earlier moment, in this one, in a later one
 pub sent-earlier : (o : Option Sending) (s : Sending) (q p : ℕ) (a : Option Timed) → o ≡ Some s → p < q → has_sent o q a p ≡ true
 sent-earlier None s q p a e h = cc
 sent-earlier (Some x) s q p a e h = ap (λ b. b || ((p == q) && is_past x.tick a)) (lt-ltb p q h)

@@ -113,7 +113,7 @@ sync-silent sc place rows b late = by b.ended refl
     by true f e = none-past b.given b.given refl
     by false f e = judged (verdict_of (judged_of sc place rows ∷ b.stages)) e
 
--- a frame's start
+-- the start of a frame gives its record, and goes on to the first stage or the end
 pub record FrameGiven (sc : Scenario) (frame : ℕ) (begun : List Begun) (b x : Book) : Type 0 where
   pub next : x.upcoming ≡ (if frame == sc.frames then End else Stage (record { frame = frame; slot = 0; stage = 1 }))
   pub going : x.ended ≡ false

@@ -122,7 +122,7 @@ pub or-told : (good told : Bool) → (not good || told) ≡ true → good ≡ tr
 or-told true told h e = h
 or-told false told h e = cc
 
--- all that they have told is what the rounds have
+-- if a stage is complete, the rows that the nodes have told are those of the rounds
 rows-are : (sc : Scenario) (hands : List HandIn) (g : ℕ) (sites : Each Site) → HasTicks sc.plan → (moment sc hands g).window < stages_in sc.sizes
     → ((me : Side) → length (of_kind me sites) ≡ count_of me sc.sizes) → RowsOfRounds sc hands sites
     → is_complete sc sites (Stage (place_at sc.sizes (moment sc hands g))) ≡ true

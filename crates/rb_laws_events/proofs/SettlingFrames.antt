@@ -216,7 +216,7 @@ tail-book sc hands g w not_last =
     ∙ ap (λ b. (stepped sc hands m false b).book) inside
     ∙ ap (λ o. book_after sc m.frame o (map_each (λ me i (r : Result). r.row) (results_of sc m)) m.book) (no-window sc.sizes sc.plan m.window (omega arith))
 
--- the next milestone of a moment's book, once it is complete
+-- the next milestone of a moment's book, once it is complete, is settled as in the rounds
 milestone-settled : (sc : Scenario) (hands : List HandIn) (g : ℕ) (sites : Each Site) → HasTicks sc.plan → (moment sc hands g).book.ended ≡ false → TellRounds sc hands sites
     → is_complete sc sites (next_of sc (moment sc hands g).frame (moment sc hands g).window) ≡ true
     → (z : ℕ) × (book_with sc sites (moment sc hands g).book (next_of sc (moment sc hands g).frame (moment sc hands g).window) ≡ (moment sc hands z).book)
@@ -306,7 +306,7 @@ next-hands sc way w = by (comes_so sc way w.book.upcoming && is_complete sc w.si
     by true = refl
     by false = refl
 
--- whatever is settled
+-- whatever is settled, the book is one of a moment
 pub all-settled : (sc : Scenario) (way : Way) (n : ℕ) (w : World) (hands : List HandIn) (sites : Each Site) → HasTicks sc.plan → w.hands ≡ hands → w.sites ≡ sites
     → TellRounds sc hands sites → IsOfMoment sc hands w.book → IsOfMoment sc hands (settle sc way n w).book
 all-settled sc way zero w hands sites ticks hands_are sites_are tell is = is

@@ -1,4 +1,4 @@
--- For the law that events are rounds where the premise on faults is broken in a sync slot: nodes of
+-- For the law that events are rounds if the premise on faults is broken in a sync slot: nodes of
 -- the kind that is heard in a stage of the sync slot do not listen in it, so whatever came to them
 -- they say nothing in the next one, and in the tail.
 use Rattle.std.proofs.Common.{◌≡◌, ℕ, zero, suc, ◌+◌, ◌*◌, ◌<◌, true, false, refl, ap, sym, ◌∙◌, subst, arith, Option, Some, None}
@@ -22,7 +22,7 @@ use Rattle.rb_laws_events.proofs.NodeActs.{HasRoom}
 use Rattle.rb_laws_events.proofs.NodeSends.{KeepsTime, said-is, sending_at}
 use Rattle.rb_laws_events.proofs.TickWindows.{IsTickIn}
 
--- the state after the close of such a stage keeps the ticks of its calls
+-- a node that does not listen in a stage keeps time over its close
 pub deaf-keeps : (sizes : Sizes) (plan : Plan) (me : Side) (st : NodeState) (stage first : ℕ) (sense : ℕ → Sense) → listens me Sync stage ≡ false → KeepsTime sizes plan me st
     → KeepsTime sizes plan me (close_sync sizes me st stage first sense).state
 deaf-keeps sizes plan me st stage first sense deaf keeps =

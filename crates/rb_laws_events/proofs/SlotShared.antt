@@ -47,7 +47,7 @@ below-sync sc hands lawful frame slot below complete =
       tail = λ same. absurd (omega (arith, below, same));
     }
 
--- a stage of the sync slot leaves it
+-- a stage of the sync slot leaves what all good nodes share
 sync-on : (sc : Scenario) (hands : List HandIn) → IsLawful sc → (frame q : ℕ) (s : Shared) → q < 3 → IsComplete sc hands frame (sync_slot_of sc.sizes)
     → SharedAt sc hands frame (sync_slot_of sc.sizes) s (q + 1) → SharedAt sc hands frame (sync_slot_of sc.sizes) s (q + 1 + 1)
 sync-on sc hands lawful frame q s small complete h =

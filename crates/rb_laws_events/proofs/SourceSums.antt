@@ -75,7 +75,7 @@ items-once q n once (x ∷ xs) =
     by j true = omega arith
     by j false = omega arith
 
--- how many come of source j by time t, and later
+-- how many messages come from source `j`, by time `t` and later
 abbrev pub coming_of_source : ℕ → List Coming → ℕ → ℕ
 coming_of_source t coming j = length (filter (is_now j t) coming) + length (filter (is_later j t) coming)
 
@@ -86,7 +86,7 @@ longer q c cs = by (q c)
     by true = omega arith
     by false = omega arith
 
--- an item is counted at its source
+-- an item is counted once at its source
 counted : (t : ℕ) (c : Coming) → cond (is_now c.from t c) 1 0 + cond (is_later c.from t c) 1 0 ≡ 1
 counted t c = elim (cases_lt t c.time) [
   | inl lt ↦
@@ -102,7 +102,7 @@ counted t c = elim (cases_lt t c.time) [
     itself : (a : ℕ) → (a == a) ≡ true
     itself a = grind (arith, nat_tests)
 
--- all that comes, comes of some source
+-- at most as many messages come as come from all sources together
 pub all-of-sources : (t n : ℕ) (coming : List Coming) → Every (λ c. c.from < n) coming → length coming ≤ sum_to (coming_of_source t coming) n
 all-of-sources t n [] e = omega arith
 all-of-sources t n (c ∷ cs) e =

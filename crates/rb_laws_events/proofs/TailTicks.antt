@@ -1,6 +1,6 @@
--- For the law that events are rounds where the premise on faults is broken in a sync slot: what a
--- node does after it has closed the last stage of its frame. It goes through the tail and begins
--- the next frame, and closes no stage before the end of that one's first window.
+-- For the law that events are rounds if the premise on faults is broken in a sync slot: what a node
+-- does after it has closed the last stage of its frame. It goes through the tail and begins the
+-- next frame, and closes no stage before the end of that one's first window.
 use Rattle.std.proofs.Common.{◌≡◌, ℕ, ◌+◌, ◌*◌, ◌-◌, ◌<◌, ◌≤◌, ◌==◌, ◌&&◌, ◌⊎◌, if◌then◌else◌, Bool, true, false, List, [], refl, ap, sym, ◌∙◌, subst, arith, inl, inr, Option, Some, None, is_some, option_map, unwrap_or, slice_get}
 use Rattle.std.proofs.lemmas.Bool.{eqb-true}
 use Rattle.std.proofs.lemmas.Bool.Decides.{nat_tests}
@@ -74,7 +74,7 @@ keeps-same sizes plan me c y h keeps = record {
   next = λ x e. let epoch : y.epoch ≡ c.epoch = h.epoch in let low : c.epoch + tail_start_of sizes plan ≤ x = keeps.next x (sym (same-epoch plan me c y h) ∙ e) in omega (arith, epoch, low);
 }
 
--- a message said
+-- a message that is said leaves the middles
 said-same : (sizes : Sizes) (me : Side) (i : ℕ) (c : NodeState) (word : ℕ) (m : Option Message) → KeepsMiddles c (state_kept sizes me i c word m)
 said-same sizes me i c word None = itself c
 said-same sizes me i c word (Some m) = by ((m.stage == 1) && is_some (says sizes me i c m.slot m.stage word))
@@ -87,7 +87,7 @@ deaf-tail : (me : Side) → listens me Sync 4 ≡ false
 deaf-tail Biu = refl
 deaf-tail Rmu = refl
 
--- a close in which the node does not listen
+-- a close in which the node does not listen leaves the middles
 pub closed-same : (sizes : Sizes) (plan : Plan) (me : Side) (i : ℕ) (st : NodeState) (w : Window) (arrivals : ℕ → List Arrival) → w.slot ≡ sync_slot_of sizes → listens me Sync w.stage ≡ false
     → KeepsMiddles st (close_window sizes plan me i st w arrivals).state
 closed-same sizes plan me i st w arrivals slot deaf =

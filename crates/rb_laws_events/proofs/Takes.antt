@@ -89,7 +89,7 @@ sum-more most make k (x ∷ xs) each =
     let rest = sum-more most make (k + 1) xs each in
     omega (arith, head, rest)
 
--- a change of one node that leaves less
+-- if a change leaves one node `d` fewer, all nodes together have `d` fewer left
 pub one-less : (most : ℕ) (change : Site → Site) (me : Side) (i d : ℕ) (sites : Each Site) (s : Site) → slice_get (of_kind me sites) i ≡ Some s → left_of most (change s) + d ≤ left_of most s
     → all_left most (at_node me i change sites) + d ≤ all_left most sites
 one-less most change Biu i d sites s there h =
@@ -151,7 +151,7 @@ count-most : (me : Side) (sizes : Sizes) → count_of me sizes ≤ nodes_of size
 count-most Biu sizes = omega arith
 count-most Rmu sizes = omega arith
 
--- what is said to a node in a window
+-- at most each entry is said to a node once by each node of the bus
 says-few : (sc : Scenario) (me : Side) (i : ℕ) (span : Span) → length (says_in sc me i span) ≤ nodes_of sc.sizes * length sc.says
 unfolding says_in
 says-few sc me i span =
@@ -215,7 +215,7 @@ next-left had f its (Some k) later =
     let same : (f k).tick ≡ k = its k in
     omega (arith, le, same)
 
--- a node that goes on has fewer ticks left, and only so much more on its way to it
+-- a node that goes on has fewer ticks left, and at most what is said to it more on its way
 pub record LeavesFew (sc : Scenario) (had : ℕ) (s z : Site) : Type 0 where
   pub ticks : ticks_left z.ahead ≤ 2 ^ 31 - had
   pub coming : length z.coming ≤ length s.coming + nodes_of sc.sizes * length sc.says

@@ -145,7 +145,7 @@ holds offset w low high = and_from (nat_le w.first offset) (nat_le offset w.last
 holds-not : (offset : ℕ) (w : Window) → w.last < offset → holds_offset offset w ≡ false
 holds-not offset w high = and_right (nat_le w.first offset) (nat_le offset w.last) (grind (arith, nat_tests))
 
--- the windows before the one that begins with an offset, or with an earlier one, do not hold it
+-- no window before window `n` holds an offset from the first one of window `n` on
 none-before : (sizes : Sizes) (plan : Plan) (me : Side) (st : NodeState) (n offset : ℕ) → HasTicks plan → n ≤ stages_in sizes
     → first_of sizes plan me st n ≤ offset → (m : ℕ) (w : Window) → m < n → slice_get (windows_of_frame sizes plan) m ≡ Some w
     → holds_offset offset w ≡ false
@@ -154,8 +154,8 @@ none-before sizes plan me st n offset ticks h low m w lt there =
     let before : last_of sizes plan me st m < first_of sizes plan me st n = ends-before-later sizes plan me st m n ticks lt h in
     subst (λ w. holds_offset offset w ≡ false) same (holds-not offset (window_numbered sizes plan me st m) (omega arith))
 
--- tick k is one of window n of the frame of a node in this state. The tail has no last tick of its
--- own here
+-- tick `k` is one of window `n` of a node in the state `st`. The tail has no last tick of its own
+-- here
 pub record IsTickIn (sizes : Sizes) (plan : Plan) (me : Side) (st : NodeState) (n k : ℕ) : Type 0 where
   pub from : st.epoch + first_of sizes plan me st n ≤ k
   pub to : k ≤ st.epoch + last_of sizes plan me st n
@@ -193,7 +193,7 @@ here-is sizes plan me st n k ticks h in_it =
           tail-here sizes plan me st k ticks from ∙ ap (window_numbered sizes plan me st) e
     ]
 
--- a tick of a window is the last that the core counts to it, if it is its last
+-- a tick of a window is the last that the core counts to it if and only if it is the window's last
 pub last-is : (sizes : Sizes) (plan : Plan) (me : Side) (st : NodeState) (n k : ℕ) → HasTicks plan → n ≤ stages_in sizes → IsTickIn sizes plan me st n k
     → is_last sizes plan me st k ≡ (k == st.epoch + last_of sizes plan me st n)
 last-is sizes plan me st n k ticks h in_it = ap (λ (w : Window). k == st.epoch + w.last) (here-is sizes plan me st n k ticks h in_it)

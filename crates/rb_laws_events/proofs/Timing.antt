@@ -29,13 +29,13 @@ use Rattle.rb_laws_events.proofs.SentChanges.{none-of-tail, past, sent-earlier, 
 use Rattle.rb_laws_events.proofs.WorldStands.{IsDown, IsUp, SitesStand, ahead_in, sent_by}
 use Rattle.rb_laws_events.proofs.WorldTicks.{AllLand, on_way}
 
--- the nodes have passed the windows before those in which they stand
+-- each node has passed the windows before its own moment
 pub record HavePassed (sc : Scenario) (hands : List HandIn) (now : ℕ) (at : Side → ℕ → ℕ) : Type 0 where
   pub passed : (me : Side) (i q : ℕ) (st : NodeState) → q < at me i → (moment sc hands q).window < stages_in sc.sizes
       → slice_get (of_kind me (moment sc hands q).nodes) i ≡ Some st → is_good_at sc (moment sc hands q) me i ≡ true
       → time_of (clock_of sc me i) (last_tick sc (moment sc hands q) me st) ≤ now
 
--- all nodes that are good where they stand are in time there
+-- each node that is good in its own moment is in time there
 pub record AreInTime (sc : Scenario) (hands : List HandIn) (at : Side → ℕ → ℕ) : Type 0 where
   pub each : (me : Side) (i : ℕ) → is_good_at sc (moment sc hands (at me i)) me i ≡ true
       → InTime sc (moment sc hands (at me i)) (moment sc hands (next_stage sc.sizes (moment sc hands (at me i)) (at me i)))
@@ -142,7 +142,7 @@ all-land sc hands now at sites me i frame k t lawful ticks later time counted go
 
 -- The others keep up.
 
--- a source that is good in the closing node's window has sent what it sends for it
+-- a source that is good in the closing node's window has sent what it sends in that window
 source-sent : (sc : Scenario) (hands : List HandIn) (t : ℕ) (at : Side → ℕ → ℕ) (sites : Each Site) (me : Side) (i j : ℕ) (st : NodeState) (z : Site)
     → IsLawful sc → HasTicks sc.plan → slice_get (of_kind me (moment sc hands (at me i)).nodes) i ≡ Some st → is_good_at sc (moment sc hands (at me i)) me i ≡ true
     → t ≡ time_of (clock_of sc me i) (last_tick sc (moment sc hands (at me i)) me st) → (moment sc hands (at me i)).window ≤ stages_in sc.sizes

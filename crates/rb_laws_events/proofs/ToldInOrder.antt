@@ -92,7 +92,7 @@ frame-within sc hands p frame e =
     let f : frame * (windows_in sc.sizes + 1) ≡ (moment sc hands p).frame * (windows_in sc.sizes + 1) = ap (λ f. f * (windows_in sc.sizes + 1)) e in
     omega (arith, number.0, f)
 
--- a node that is good in the sync slot is so up to the end of the frame
+-- a node that is good in the sync slot is good up to the end of the frame
 good-late : (sc : Scenario) (hands : List HandIn) (p : ℕ) (me : Side) (i : ℕ) → 3 * sync_slot_of sc.sizes ≤ (moment sc hands p).window
     → (moment sc hands p).window < windows_in sc.sizes → is_good_at sc (moment sc hands p) me i ≡ true → is_good_at sc (moment sc hands (suc p)) me i ≡ true
 good-late sc hands p me i late inside good =
@@ -235,7 +235,7 @@ told-after sc hands at sites ports me i s a x pend after h =
 
 -- All nodes.
 
--- a tick changes one node, and a message to the others changes nothing of this
+-- what a tick keeps at its node, and a message at the others, is kept at all nodes
 pub one-changes : (P : Side → ℕ → ℕ → Site → Type 0) (sc : Scenario) (at : Side → ℕ → ℕ) (sites : Each Site) (me : Side) (i frame k r : ℕ) (m : Option Message) (change : Site → Site) (s : Site)
     → ((side : Side) (j p : ℕ) (z : Site) → P side j p z → P side j p (reached sc me i frame k m side j z))
     → slice_get (of_kind me sites) i ≡ Some s → P me i r (change s)
@@ -282,8 +282,8 @@ all-told sc hands at sites me i frame k r m change s there new all =
 
 -- Nobody is far ahead.
 
--- a node that runs closes its window before any node closes the next stage, so no node has passed
--- that
+-- a node that runs closes its window before any node closes the next stage, so none has passed that
+-- stage
 pub near : (sc : Scenario) (hands : List HandIn) (now : ℕ) (at : Side → ℕ → ℕ) (sites : Each Site) → HasTicks sc.plan → AreInTime sc hands at → HavePassed sc hands now at
     → SitesStand sc hands now at sites → (me : Side) (i : ℕ) (s : Site) → slice_get (of_kind me sites) i ≡ Some s → s.runs ≡ true
     → (you : Side) (j : ℕ) (z : Site) → NodeTold sc hands you j (at you j) z → at you j ≤ next_stage sc.sizes (moment sc hands (at me i)) (at me i)

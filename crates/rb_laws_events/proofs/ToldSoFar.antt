@@ -67,7 +67,7 @@ begun-stays sc ports me i k y b frame = by (y.epoch == k)
     by true = (begun_of sc ports me i (epoch_of sc.sizes me y), (refl, frame))
     by false = (b, (refl, refl))
 
--- the frame's first tick tells of it
+-- the first tick of a frame tells of its start
 begun-now : (sc : Scenario) (ports : List PortState) (me : Side) (i k : ℕ) (y : NodeState) (o : Option Begun) → y.epoch ≡ k
     → (c : Begun) × ((begun_after sc ports me i (epoch_at sc.sizes me y k) o ≡ Some c) × (c.frame ≡ y.frame))
 begun-now sc ports me i k y o at = (
@@ -96,7 +96,7 @@ told-begun sc hands ports me i p k st s z x there frame pend epoch is (inr first
     let c = begun-now sc ports me i k y s.begun at in
     (c.0, (is ∙ ap (λ e. begun_after sc ports me i e s.begun) epoch ∙ c.1.0, c.1.1 ∙ state-frame sc me i st n word k ∙ frame))
 
--- a node whose next tick is the first of its frame has that pending
+-- at a tick a node keeps its state, or its epoch is that tick
 state-epoch : (sizes : Sizes) (plan : Plan) (me : Side) (st : NodeState) (k : ℕ) → (state_at sizes plan me st k ≡ st) ⊎ ((state_at sizes plan me st k).epoch ≡ k)
 unfolding state_at turn
 state-epoch sizes plan me st k = by (new_epoch_of plan me st)
@@ -241,7 +241,7 @@ so-far-after sc hands at sites ports me i s a x pend after h =
 
 -- All nodes.
 
--- what a node has told stays, where nothing changes of it
+-- what a node has told stays if nothing changes of it
 kept : (sc : Scenario) (hands : List HandIn) (side : Side) (j p : ℕ) (z y : Site) → y.row ≡ z.row → y.begun ≡ z.begun → y.ahead ≡ z.ahead → y.runs ≡ z.runs
     → HasTold sc hands side j p z → HasTold sc hands side j p y
 kept sc hands side j p z y row begun ahead runs h = record {

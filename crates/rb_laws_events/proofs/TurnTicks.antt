@@ -1,6 +1,6 @@
--- For the law that events are rounds where the premise on faults is broken in a sync slot: a tick
--- of a node that has closed the last stage of its frame, also the one with which the next frame
--- begins; and which of its ticks comes next.
+-- For the law that events are rounds if the premise on faults is broken in a sync slot: a tick of a
+-- node that has closed the last stage of its frame, also the one with which the next frame begins;
+-- and which of its ticks comes next.
 use Rattle.std.proofs.Common.{◌≡◌, ℕ, zero, suc, ◌+◌, ◌-◌, ◌^◌, ◌<◌, ◌≤◌, ◌==◌, ◌||◌, ◌⊎◌, Bool, true, false, refl, ap, sym, ◌∙◌, subst, arith, inl, inr, Option, Some, None, is_some}
 use Rattle.std.proofs.lemmas.Bool.{cases_lt}
 use Rattle.std.proofs.lemmas.Bool.Decides.{nat_tests}

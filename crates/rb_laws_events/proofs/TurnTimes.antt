@@ -38,7 +38,7 @@ pub record Turns (sc : Scenario) (hands : List HandIn) (t : ℕ) : Type 0 where
   pub running : IsRunning (moment sc hands (suc (suc t)))
   pub next : KnowNext sc (moment sc hands t)
 
--- the time at which a node that is good in the next frame's first window begins it
+-- a node that is good in the first window of the next frame begins that frame between these times
 begins-between : (sc : Scenario) (hands : List HandIn) → IsLawful sc → (t : ℕ) (h : Turns sc hands t) (me : Side) (i : ℕ) (now : NodeState)
     → slice_get (of_kind me (moment sc hands (suc (suc t))).nodes) i ≡ Some now → is_good_at sc (moment sc hands (suc (suc t))) me i ≡ true
     → IsBetween h.next.0 (h.next.0 + sc.plan.p) (time_of (clock_of sc me i) now.epoch)
@@ -91,7 +91,7 @@ sent-after-all sc hands lawful t h me i j source there good =
     ] in
     by (sending_of sc m2 (other me) j) refl
 
--- a node's last tick before the next frame comes before then
+-- a node's last tick before the next frame comes before all good nodes have begun that frame
 pub before-next : (sc : Scenario) (m : Moment) → IsLawful sc → (me : Side) (i last later : ℕ) (st : NodeState) → slice_get (of_kind me m.nodes) i ≡ Some st → is_good_at sc m me i ≡ true
     → (k : KnowsEpoch sc me i st later) → last < k.takes.epoch → time_of (clock_of sc me i) last < later + sc.plan.p
 before-next sc m lawful me i last later st there good k lt =
@@ -122,7 +122,7 @@ tail-ends sc hands lawful t h me i st there good =
     let some : 1 ≤ sc.plan.l = lawful.plan.l.0 in
     before-next sc m lawful me i (last_tick sc m me st) h.next.0 st there good k (omega (arith, last, least, some))
 
--- no node closes the first window of the next frame before then
+-- no node closes the first window of the next frame before all good nodes have begun that frame
 pub closes-after-all : (sc : Scenario) (hands : List HandIn) → IsLawful sc → (t : ℕ) (h : Turns sc hands t) (me : Side) (i : ℕ) (now : NodeState)
     → slice_get (of_kind me (moment sc hands (suc (suc t))).nodes) i ≡ Some now → is_good_at sc (moment sc hands (suc (suc t))) me i ≡ true
     → h.next.0 + sc.plan.p ≤ time_of (clock_of sc me i) (last_tick sc (moment sc hands (suc (suc t))) me now)

@@ -59,7 +59,7 @@ somebody sc frame slot h =
     both-true : (a b : Bool) → a ≡ true → b ≡ true → (a && b) ≡ true
     both-true a b h k = rw (h, k) refl
 
--- if nobody is, there is none
+-- if nobody is good, no node is good
 pub nobody : (sc : Scenario) → IsShape sc.sizes → (frame slot : ℕ) → nobody_good sc frame slot ≡ true → (me : Side) (i : ℕ) → is_good sc me i frame slot ≡ true → ⊥
 nobody sc shape frame slot h me i good =
     let parts = and_parts (good_at sc Biu frame slot == 0) (good_at sc Rmu frame slot == 0) h in
@@ -94,7 +94,7 @@ each-false a h = elim (all-split a.bius a.rmus h) [
   | inr rmu ↦ (Rmu, false-at a.rmus rmu)
 ]
 
--- a good node that has not told
+-- some good node has not told
 pub record HasNotTold {X : Type 0} (sc : Scenario) (frame slot : ℕ) (tells : Site → Option X) (sites : Each Site) : Type 0 where
   pub me : Side
   pub i : ℕ

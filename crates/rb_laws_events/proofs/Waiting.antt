@@ -38,7 +38,7 @@ is_due sc sites m = comes_so sc ByAnEvent m && is_complete sc sites m
 abbrev pub Waits : Scenario → World → Type 0
 Waits sc w = w.book.ended ≡ false → is_due sc w.sites w.book.upcoming ≡ false
 
--- all nodes that are good at a frame's start have begun it
+-- all nodes that are good at the start of the frame have begun it
 abbrev pub HasBegun : Scenario → Each Site → ℕ → Type 0
 HasBegun sc sites frame =
     (me : Side) (i : ℕ) (s : Site) → slice_get (of_kind me sites) i ≡ Some s → is_good sc me i frame 0 ≡ true → (b : Begun) × ((s.begun ≡ Some b) × (frame ≤ b.frame))

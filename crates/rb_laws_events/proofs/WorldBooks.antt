@@ -31,7 +31,7 @@ if-more : (xs : List Record) (r : Record) (b : Bool) → AtMostOneMore xs (xs ++
 if-more xs r true = inr (r, refl)
 if-more xs r false = none-more xs
 
--- a book that has ended stays, another becomes x
+-- a book that has ended stays, and another one has at most one more record
 guarded-more : (b x : Book) (e : Bool) → AtMostOneMore b.given x.given → AtMostOneMore b.given (elim e as (λ _. Book) [ true ↦ b | false ↦ x ]).given
 guarded-more b x true h = inl refl
 guarded-more b x false h = h
@@ -76,7 +76,7 @@ book-on sc sites b (Begin frame) = frame-on sc frame _ b
 book-on sc sites b (Stage place) = stage-on sc place _ b
 book-on sc sites b End = end-on b
 
--- a milestone is settled, or not
+-- the world after a milestone, which is settled if `b` holds
 abbrev after_test : Scenario → World → Bool → World
 after_test sc w b = elim b [ true ↦ record w { book = book_with sc w.sites w.book w.book.upcoming } | false ↦ w ]
 
@@ -124,7 +124,7 @@ pub happens-book : (sc : Scenario) (w : World) (d : Due) → (happens sc w d).bo
 unfolding happens
 happens-book sc w d = happens-by sc w d _
 
--- the turn tells whether a record came after these: it is that record
+-- the turn is the record that came after `before`, if one came
 abbrev pub IsTurn : List Record → World → Type 0
 IsTurn before w =
     ((w.book.given ≡ before) × (w.turn ≡ None)) ⊎ ((r : Record) × ((w.book.given ≡ before ++ r ∷ []) × (w.turn ≡ Some r)))
@@ -206,7 +206,7 @@ hand-leaves P sc w biu state changed same = by (frame_in w.turn)
         inner (record w { ports = with_state biu state w.ports; hands = w.hands ++ record { frame = frame; biu = biu; state = state } ∷ [] }) (is_good sc Biu biu frame 0)
         (changed (with_state biu state w.ports) (w.hands ++ record { frame = frame; biu = biu; state = state } ∷ []))
 
--- a hand-in leaves it alone
+-- a hand-in leaves the book as it is
 pub hand-book : (sc : Scenario) (w : World) (biu state : ℕ) → (hand sc w biu state).book ≡ w.book
 hand-book sc w biu state = hand-leaves (λ x. x.book ≡ w.book) sc w biu state (λ ports hands. refl) refl
 

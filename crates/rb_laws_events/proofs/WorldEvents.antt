@@ -56,7 +56,7 @@ passed-on sc hands now t at le h =
 
 -- A tick.
 
--- what is known of the node and of what is due there
+-- the tick of the node is due, and nothing is pending before it
 pub record TickIsDue (sc : Scenario) (hands : List HandIn) (now : ℕ) (at : Side → ℕ → ℕ) (sites : Each Site) (ports : List PortState) (me : Side) (i : ℕ) (s : Site) (a : Timed) : Type 0 where
   pub there : slice_get (of_kind me sites) i ≡ Some s
   pub runs : s.runs ≡ true
@@ -70,8 +70,7 @@ pub record TickIsDue (sc : Scenario) (hands : List HandIn) (now : ℕ) (at : Sid
   pub next : (st : NodeState) → slice_get (of_kind me (moment sc hands (at me i)).nodes) i ≡ Some st → a.tick ≡ last_tick sc (moment sc hands (at me i)) me st
       → NextInTime sc hands (at me i)
 
--- the node afterwards, in moment r: the world stands there, and the node has closed its window or
--- not
+-- after the tick the node stands in moment `r`, and has closed its window or not
 pub record AfterTick (sc : Scenario) (hands : List HandIn) (at : Side → ℕ → ℕ) (sites : Each Site) (ports : List PortState) (me : Side) (i : ℕ) (s : Site) (a : Timed) (x : Act) : Type 0 where
   pub r : ℕ
   pub st : NodeState

@@ -28,7 +28,7 @@ use Rattle.rb_laws_events.proofs.DueEvents.{IsDue, due-is}
 use Rattle.rb_laws_events.proofs.SameHeard.{Every}
 use Rattle.rb_laws_events.proofs.WorldBooks.{hand-leaves}
 
--- what comes to a node of kind me is of nodes that there are
+-- what comes to a node of kind `me` is from nodes of the bus
 abbrev pub Known : Sizes → Side → List Coming → Type 0
 Known sizes me cs = Every (λ c. c.from < count_of (other me) sizes) cs
 
@@ -45,7 +45,7 @@ known-remove sizes me n [] a = none n
 known-remove sizes me zero (x ∷ xs) a = a.1
 known-remove sizes me (suc n) (x ∷ xs) a = (a.0, known-remove sizes me n xs a.1)
 
--- what is made of entries of one source is of that source
+-- what is made of entries of one node of the bus is from nodes of the bus
 map-known : {X : Type 0} (sizes : Sizes) (me : Side) (j : ℕ) (f : X → Coming) → ((x : X) → (f x).from ≡ j) → j < count_of (other me) sizes → (xs : List X)
     → Known sizes me (map f xs)
 map-known sizes me j f its h [] = tt
@@ -142,7 +142,7 @@ at-known : (sc : Scenario) (me : Side) (i : ℕ) (change : Site → Site) (sites
 at-known sc me i change sites go h =
     each-known sc (λ side n s. elim (same_side side me && (n == i)) as (λ _. Site) [ true ↦ change s | false ↦ s ]) sites (λ side n s e k. changed-at sc.sizes me side change s (n == i) (go s) k) h
 
--- a message goes out from a node that there is
+-- a message goes out from a node of the bus
 sent-at : (sc : Scenario) (me side : Side) (j frame : ℕ) (x : Sending) (i : ℕ) (s : Site) → j < count_of me sc.sizes → Known sc.sizes side s.coming
     → Known sc.sizes side (sent_to sc me j frame x side i s).coming
 sent-at sc Biu Biu j frame x i s h k = k
@@ -211,7 +211,7 @@ go-sites : (sc : Scenario) (w : World) (b : Bool)
 go-sites sc w true = refl
 go-sites sc w false = settle-sites sc ByItself 2 w
 
--- whatever is chosen
+-- each choice keeps `NodesKnown`
 pub choose-known : (sc : Scenario) (w : World) (c : Choice) → NodesKnown sc w.sites → NodesKnown sc (choose sc w c).sites
 unfolding take go_on
 choose-known sc w (Take place) known = due-known sc w (slice_get (due_of sc w) place) known
@@ -244,7 +244,7 @@ from-known sc (c ∷ cs) w known = from-known sc cs (choose sc w c) (choose-know
 pub worlds-known : (sc : Scenario) (choices : List Choice) → NodesKnown sc (world_after sc choices).sites
 worlds-known sc choices = from-known sc choices (first_world sc) (first-known sc)
 
--- each event that may be taken there is due
+-- each event that may be taken in a world that choices lead to is due
 pub events-due : (sc : Scenario) (choices : List Choice) (i : ℕ) (d : Due) → slice_get (due_of sc (world_after sc choices)) i ≡ Some d
     → IsDue (world_after sc choices) d
 events-due sc choices i d e = due-is sc (world_after sc choices) i d (record { known = (worlds-known sc choices).known }) e

@@ -32,14 +32,13 @@ ahead_in sites j = option_and_then (λ (s : Site). s.ahead) (slice_get sites j)
 abbrev pub sent_by : Scenario → List HandIn → (Side → ℕ → ℕ) → Each Site → Side → ℕ → ℕ → Bool
 sent_by sc hands at sites side j p = has_sent (sending_of sc (moment sc hands p) side j) (at side j) (ahead_in (of_kind side sites) j) p
 
--- a node that runs
+-- the node runs and stands in moment `p`
 pub record IsUp (sc : Scenario) (hands : List HandIn) (sent : Side → ℕ → ℕ → Bool) (now : ℕ) (me : Side) (i p : ℕ) (s : Site) : Type 0 where
   pub st : NodeState
   pub a : Timed
   pub stands : NodeStands sc hands sent now me i p s st a
 
--- a node that has stopped in moment p, in which it is not good; nor is it in the slot in which its
--- core stands
+-- the node has stopped in moment `p`, in which it is not good, and nothing is pending at it
 pub record IsDown (sc : Scenario) (hands : List HandIn) (me : Side) (i p : ℕ) (s : Site) : Type 0 where
   pub not_good : is_good_at sc (moment sc hands p) me i ≡ false
   pub stopped : StandsWhereNotGood sc me i s.core
@@ -54,7 +53,7 @@ pub record SitesStand (sc : Scenario) (hands : List HandIn) (now : ℕ) (at : Si
 
 -- One node changes.
 
--- whether this is the node
+-- node `n` of kind `side` is node `i` of kind `me`
 abbrev pub is_node : Side → ℕ → Side → ℕ → Bool
 is_node me i side n = same_side side me && (n == i)
 

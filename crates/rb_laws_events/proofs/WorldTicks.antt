@@ -30,7 +30,7 @@ use Rattle.rb_laws_events.proofs.WorldStands.{AllPend, IsDown, IsUp, SitesStand,
 abbrev pub moved : Side → ℕ → ℕ → (Side → ℕ → ℕ) → Side → ℕ → ℕ
 moved me i r at side j = elim (is_node me i side j) [ true ↦ r | false ↦ at side j ]
 
--- how a message reaches a node: not at all, or it is on its way
+-- the site of a node when another one may have sent a message to it
 abbrev pub reached : Scenario → Side → ℕ → ℕ → ℕ → Option Message → Side → ℕ → Site → Site
 reached sc me i frame k None side j s = s
 reached sc me i frame k (Some m) side j s = sent_to sc me i frame (record { tick = k; message = m }) side j s
@@ -57,7 +57,7 @@ length-after sc me i frame k (Some m) change sites side =
     length-each (sent_to sc me i frame (record { tick = k; message = m })) (at_node me i change sites) side
     ∙ length-each (λ side n s. elim (is_node me i side n) as (λ _. Site) [ true ↦ change s | false ↦ s ]) sites side
 
--- what a message leaves as it was
+-- a message leaves whether the node runs, and its pending tick
 pub record Same (s z : Site) : Type 0 where
   pub runs : z.runs ≡ s.runs
   pub ahead : z.ahead ≡ s.ahead
@@ -147,7 +147,8 @@ unfolding sent_then
 same-kind-on sc hands at sites me i r b j p =
     ap (λ d. elim d as (λ _. Bool) [ true ↦ has_sent (sending_of sc (moment sc hands p) me i) r b p | false ↦ sent_by sc hands at sites (other me) j p ]) (not-other me i j)
 
--- what the others of the node's kind have sent is the same, and what it has sent itself is known
+-- the other nodes of its kind have sent what they had sent, and what the node itself has sent is
+-- known
 sent-then-own : (sc : Scenario) (hands : List HandIn) (at : Side → ℕ → ℕ) (sites : Each Site) (me : Side) (i r : ℕ) (b : Option Timed) (p : ℕ)
     → sent_then sc hands at sites me i r b me i p ≡ has_sent (sending_of sc (moment sc hands p) me i) r b p
 unfolding sent_then
@@ -198,7 +199,7 @@ then-said sc hands at sites me i k r s a b there pend says = record {
 abbrev pub on_way : Scenario → Side → ℕ → ℕ → ℕ → Message → ℕ → Coming
 on_way sc me i frame k m j = coming_of sc (other me) j i frame (record { tick = k; message = m })
 
--- what is known of the tick at its node, which stands in moment `at me i`
+-- the tick of the node is due, and the node is good and stands in moment `at me i`
 pub record TicksNow (sc : Scenario) (hands : List HandIn) (at : Side → ℕ → ℕ) (sites : Each Site) (me : Side) (i frame k r : ℕ) (m : Option Message) (s : Site) (a : Timed) (b : Option Timed) : Type 0 where
   pub there : slice_get (of_kind me sites) i ≡ Some s
   pub pend : s.ahead ≡ Some a
@@ -269,7 +270,7 @@ AllLand sc hands at sites me i frame k t =
     → (st : NodeState) (c : Timed) → NodeStands sc hands (sent_by sc hands at sites) t (other me) j (at (other me) j) z st c
     → Lands sc hands (other me) j (at (other me) j) (at me i) st (on_way sc me i frame k x.message j)
 
--- any other node that runs
+-- any other node that runs still stands after the tick
 any-on : (sc : Scenario) (hands : List HandIn) (now : ℕ) (at : Side → ℕ → ℕ) (sites : Each Site) (me : Side) (i frame k r : ℕ) (m : Option Message) (s : Site) (a : Timed) (b : Option Timed)
     → IsLawful sc → now ≤ a.time → AllPend a.time sites → TicksNow sc hands at sites me i frame k r m s a b → AllLand sc hands at sites me i frame k a.time
     → SitesStand sc hands now at sites → (side : Side) (j : ℕ) (z : Site) → (side ≡ me) ⊎ (side ≡ other me) → slice_get (of_kind side sites) j ≡ Some z → z.runs ≡ true

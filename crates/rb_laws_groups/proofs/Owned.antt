@@ -33,9 +33,9 @@ use Rattle.rb_laws_groups.proofs.Added.{step-tells, told-more, told_in}
 use Rattle.rb_laws_groups.proofs.Alike.{no-lines}
 use Rattle.rb_laws_groups.proofs.Served.{IsServed, no-owner, one-delivery, served}
 
--- If nothing of a frame is told.
+-- A frame of which nothing is told.
 
--- steps with which no data slot of the frame is complete tell nothing of it
+-- step `p` completes no data slot of the frame
 abbrev pub IsQuiet : Scenario → List HandIn → ℕ → ℕ → Type 0
 IsQuiet sc hands frame p =
     (slot : ℕ) → suc p ≡ frame * (windows_in sc.sizes + 1) + 3 * slot + 3 → (slot < sc.sizes.bius) ⊎ (sc.sizes.bius + sc.sizes.data_slots ≤ slot)
@@ -145,7 +145,7 @@ slot-value sc hands law frame slot below complete port st before owner owns =
           record { value = one.0; given = one.1; word = λ g. absurd (let both : true ≡ false = sym g ∙ faulty in cc) }
     ]
 
--- the record of a slot tells a port these deliveries
+-- the record of a slot adds this delivery to what the port was told
 told-by-record : (sc : Scenario) (hands : List HandIn) (frame slot port owner : ℕ) (value : Heard) → is_good sc Biu port frame slot ≡ true
     → HasRecord sc hands frame slot (lines_of sc frame slot owner value)
     → told_in frame port (after_slot sc hands frame slot).book
@@ -161,7 +161,7 @@ told-by-none sc hands frame slot port given =
     ap (port_deliveries frame port) given ∙ told-more frame port (before_slot sc hands frame slot).book.given _
     ∙ ap (λ l. told_in frame port (before_slot sc hands frame slot).book ++ l) (no-lines sc frame frame slot None Fault port refl)
 
--- what a data slot adds, of each BIU
+-- `more` are the deliveries that a data slot adds at a port, and they are right for each BIU
 pub record SlotAdds (sc : Scenario) (hands : List HandIn) (frame slot port : ℕ) (owner : ℕ → Option ℕ) : Type 0 where
   pub more : List Delivery
   pub told : told_in frame port (after_slot sc hands frame slot).book ≡ told_in frame port (before_slot sc hands frame slot).book ++ more

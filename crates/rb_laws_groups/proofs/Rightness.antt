@@ -53,7 +53,7 @@ passing p (x ∷ xs) = by (p x) refl (passing p xs)
 
 -- A slot.
 
--- the slot is complete, and the last record after it is its own, with these lines
+-- the slot is complete, and its record with these lines is the last one after it
 record IsGiven (sc : Scenario) (hands : List HandIn) (frame slot : ℕ) (lines : List SlotLine) : Type 0 where
   below : slot < sync_slot_of sc.sizes
   complete : IsComplete sc hands frame slot

@@ -74,9 +74,9 @@ served sc hands law p x =
     third : (a slot window p : ℕ) → window ≡ 3 * slot + 2 → p ≡ a + window → p ≡ a + 3 * slot + 3 - 1
     third a slot window p e f = omega arith
 
--- Its lines.
+-- The lines of a slot.
 
--- a slot before the data slots, or past them, has no owner
+-- a slot before the data slots or behind them has no owner
 pub no-owner : (sizes : Sizes) (slot : ℕ) (sender : Sender) → (slot < sizes.bius) ⊎ (sizes.bius + sizes.data_slots ≤ slot) → owner_sending (role_of sizes slot) sender ≡ None
 no-owner sizes slot sender (inl early) = by (nat_lt slot sizes.bius) _ (lt-ltb slot sizes.bius early)
   where

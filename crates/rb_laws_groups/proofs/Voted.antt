@@ -108,7 +108,7 @@ abbrev word_at : Option Heard → Option ℕ
 word_at None = None
 word_at (Some value) = word_in value
 
--- the words among values, by those who gave one
+-- the words among some values are those of the numbers that gave one
 words-are : (f : ℕ → Option Heard) (js : List ℕ)
     → words_in (present (map f js)) ≡ map (λ j. word_or_0 (word_at (f j))) (filter (λ j. is_some (word_at (f j))) js)
 words-are f [] = refl
@@ -126,7 +126,7 @@ words-are f (j ∷ js) = by (words-are f js) (f j) refl
     by known (Some Fault) e = known
     by known (Some (Word w)) e = ap (λ l. w ∷ l) known ∙ ap (λ o. word_or_0 (word_at o) ∷ map stamp rest) (sym e)
 
--- how many pass two tests one after the other
+-- a filtered list has as many that pass as the list has that pass both tests
 filtered : (p q : ℕ → Bool) (js : List ℕ) → count_if p (filter q js) ≡ count_if (λ j. q j && p j) js
 filtered p q [] = refl
 filtered p q (j ∷ js) = by (filtered p q js) (q j)

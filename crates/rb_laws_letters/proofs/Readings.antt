@@ -98,7 +98,7 @@ part-word-is a b c ha hb hc = record {
   three = omega (arith, ha, hb, hc);
 }
 
--- what a word makes, by what it is
+-- what a reader makes of a word, by what the word is
 abbrev read_as : ℕ → Option OpenLetter → Bool → Bool → Bool → Read
 read_as w o none first part =
     elim none as (λ _. Read) [
@@ -165,7 +165,7 @@ last wanted letter zeros bytes is long all =
     ∙ ap (λ b. elim b as (λ _. Read) [ true ↦ record { after = None; given = Some (take wanted bytes) } | false ↦ keeps None ]) all
     ∙ ap (λ l. record { after = None; given = Some l }) taken
 
--- what these values make from this open letter on
+-- from the open letter `o` these values give `letter`, and leave no letter open
 record Gives (o : Option OpenLetter) (values : List Heard) (letter : List ℕ) : Type 0 where
   given : given_with o values ≡ letter ∷ []
   after : open_after o values ≡ None
@@ -193,7 +193,7 @@ gives-more wanted done letter a b c values ha hb hc e rest =
 gives-same : (o : Option OpenLetter) (values others : List Heard) (letter : List ℕ) → values ≡ others → Gives o others letter → Gives o values letter
 gives-same o values others letter e h = subst (λ vs. Gives o vs letter) (sym e) h
 
--- the parts of what is left of a letter, after what is done of it
+-- the parts of what is left of a letter complete the letter
 reads-parts : (wanted : ℕ) (done rest : List ℕ) → length done + length rest ≡ wanted → 1 ≤ length rest → All (λ b. b < 256) rest
     → Gives (opened wanted done) (heard_words (parts_of rest)) (done ++ rest)
 reads-parts wanted done [] long some small = absurd (omega (arith, some))

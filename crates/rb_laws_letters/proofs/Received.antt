@@ -39,7 +39,7 @@ value_in l = l.value
 abbrev line_for : ℕ → Heard → ℕ → SlotLine
 line_for owner value i = record { receiver = i; sender = owner; value = value }
 
--- the value of a line if it is the receiver's, of the sender
+-- the value in a line, if the line is that of receiver `i` and sender `k`
 abbrev own_value : ℕ → ℕ → ℕ → Heard → Bool → ℕ → List Heard
 own_value i k owner value good j = cond (good && ((j == i) && (owner == k))) (value ∷ []) []
 

@@ -26,7 +26,7 @@ use Rattle.rb_laws_events.proofs.RoundNodes.{slot_numbered}
 
 -- What a step adds.
 
--- a record that is given with a book after window n of a frame
+-- the last stage of the slot is window `n` of the frame, and the run goes on after it
 record IsSlotOf (sizes : Sizes) (frame n : ℕ) (after : Book) (f s : ℕ) : Type 0 where
   frame_is : f ≡ frame
   window : n ≡ 3 * s + 2
@@ -151,7 +151,7 @@ adds-step sc hands m = adds-stepped sc hands m (m.frame == sc.frames) (nat_lt m.
 
 -- All records.
 
--- the slot is complete, and its record, with these lines, is the last that is given with it
+-- the slot is complete, and its record with these lines is the last that is given with it
 pub record IsRecorded (sc : Scenario) (hands : List HandIn) (frame slot : ℕ) (lines : List SlotLine) : Type 0 where
   pub below : slot < sync_slot_of sc.sizes
   pub complete : IsComplete sc hands frame slot
@@ -202,6 +202,6 @@ all-of-moment sc hands (suc p) = by (adds-step sc hands (moment sc hands p)) (al
         (All-append (IsOfSlot sc hands) (moment sc hands p).book.given (added.0 ∷ []) before
         (All-cons (IsOfSlot sc hands) added.0 [] (added-is sc hands p added.0 added.1.0 added.1.1) (All-nil (IsOfSlot sc hands))))
 
--- each record of a scenario is so
+-- `IsOfSlot` holds for each record of the scenario
 pub all-recorded : (sc : Scenario) (hands : List HandIn) → All (IsOfSlot sc hands) (records_of sc hands)
 all-recorded sc hands = subst (All (IsOfSlot sc hands)) (sym (records-are sc hands)) (all-of-moment sc hands (steps_of sc))

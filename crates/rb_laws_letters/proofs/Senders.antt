@@ -53,7 +53,7 @@ spelling-waits letter = record {
 abbrev HasLength : List ℕ → Type 0
 HasLength letter = is_length (length letter) ≡ true
 
--- the words of all that was taken are those given, but for zeros, and those that wait
+-- the words of all letters taken are the words given, without zeros, and then those that wait
 record Keeps (waiting taken : List (List ℕ)) (words : List ℕ) : Type 0 where
   whole : words_of taken ≡ without_zeros words ++ all_waiting waiting
   waits : All IsWaiting waiting

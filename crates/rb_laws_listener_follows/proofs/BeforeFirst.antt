@@ -16,7 +16,7 @@ use Rattle.rb_laws_listener_learns.specs.Receivers.{closing_at, closing_in, if_w
 use Rattle.rb_laws_listener_learns.specs.Waiting.{WaitsFor}
 use Rattle.rb_laws_listener_follows.proofs.SeenWindows.{NoneSeen}
 
--- who follows goes on to follow
+-- the listener follows
 pub record Follows (l : Listening) : Type 0 where
   pub core : Core
   pub is : l ≡ now.Following core

@@ -42,7 +42,7 @@ use Rattle.rb_laws_listener_follows.proofs.SecondSteps.{HasTimes, StandsSecond}
 
 -- ---- what is kept came
 
--- an arrival of RMU j is one of these messages
+-- `x` is the arrival of one of these messages from RMU `j`
 record IsAmong (cs : List Coming) (k j : ℕ) (x : Arrival) : Type 0 where
   pub nth : ℕ
   pub coming : Coming

@@ -41,8 +41,8 @@ use Rattle.rb_laws_listener_follows.proofs.BusPlaces.{slot_there}
 
 -- What it delivers.
 
--- a delivery of a BIU is that of the bus, where in data slots its sender and in stage 2 its vote
--- are the bus's
+-- a delivery of a BIU is that of the bus if in data slots its sender and in stage 2 its vote are
+-- the bus's
 delivers-by : (st : NodeState) (slot stage : ℕ) (role : Role) (mine bus : Sender) (vote value : Heard) → ((n : ℕ) → role ≡ Data n → mine ≡ bus) → ((n : ℕ) → role ≡ Data n → stage ≡ 2 → vote ≡ value)
     → delivery_of Biu st slot role mine stage vote ≡ delivery_by st.frame slot stage role bus value
 delivers-by st slot stage (Schedule i) mine bus vote value sender votes = refl
@@ -99,7 +99,7 @@ in_stage sc hands frame slot (suc zero) x small = record { steps = suc x.steps; 
 in_stage sc hands frame slot (suc (suc zero)) x small = record { steps = suc (suc x.steps); setting = subst (λ m. Setting sc hands (suc (suc x.steps)) m x.shared slot 2) x.after_second x.third }
 in_stage sc hands frame slot (suc (suc (suc q))) x small = absurd (omega (arith, small))
 
--- all good nodes and the bus have this in common in the slot
+-- the abstract bus has what all good nodes share
 pub record IsShared (bus : AbstractBus) (sc : Scenario) (s : Shared) : Type 0 where
   pub bius : s.trusted Biu ≡ bus.bius
   pub rmus : s.trusted Rmu ≡ bus.rmus

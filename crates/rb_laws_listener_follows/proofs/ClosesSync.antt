@@ -121,7 +121,7 @@ sync_of sc hands stands ear learned records f last epoch low h x complete =
     let stage : StageIs sc hands (sync_moment sc (suc f)) x.shared 0 = stage_is sc hands law n x.shared 0 x.abides.beside.agree (omega arith) at.window now.running in
     record { first = stage; shared = shared_at sc hands stands (suc f) n x.shared complete (omega arith) at.frame_is stage.passes }
 
--- what is the bus's at its start is so at stage 2
+-- what is the bus's at the start of the sync slot is so before stage 2
 pub sync_shared : (sc : Scenario) (hands : List HandIn) (stands : StandsFor sc hands) (ear : Ear) (learned : ℕ) (records : List Sense) (f last epoch low : ℕ) → (h : IsHeldTo sc hands ear learned records f last)
     → (x : StandsAt sc hands ear (suc f) (3 * sync_slot_of sc.sizes) epoch low) → (complete : IsComplete sc hands (suc f) (sync_slot_of sc.sizes)) → (in_time : epoch + (f0_of sc.sizes sc.plan + sc.plan.l) + sc.plan.v ≤ ear.ticks)
     → IsShared (stands.bus (steps_to sc.sizes (suc f) (sync_slot_of sc.sizes))) sc (to_second sc hands ear learned records f last epoch low h x complete in_time).shared

@@ -37,7 +37,7 @@ use Rattle.rb_laws_listener_follows.proofs.EpochKnown.{AmongThem, among}
 use Rattle.rb_laws_listener_follows.proofs.EpochsRise.{AtTick, WaitsFirst, at_tick, none_earlier, quiet_before}
 use Rattle.rb_laws_listener_follows.proofs.FollowerRuns.{acts_by}
 
--- what is delivered is of a slot and its stage 2
+-- the delivery is of this frame and slot, and the stage is 2
 record IsOfSlot (st : NodeState) (slot stage : ℕ) (d : Delivery) : Type 0 where
   pub frame : d.frame ≡ st.frame
   pub slot_is : d.slot ≡ slot
@@ -182,7 +182,8 @@ delivers_then sc ear tick s first w k d in_time told = elim (cases_lt k first.ep
         sym (ap (λ h. h.heed.delivered) x.heeds ∙ ap (λ a. option_and_then (λ (y : Closed). y.delivered) a.closed) acts) ∙ told in
         record { x = x; at = act-delivers sc.sizes sc.plan x.core x.st d said }
 
--- the listener delivers each slot at most once in a frame that it tells with one tick alone
+-- in a frame that the listener tells with one tick alone, it delivers in a slot with the last tick
+-- of stage 2 alone
 pub delivers_once : (sc : Scenario) (ear : Ear) (tick : ℕ) (s : Search) (first : First) → WaitsFirst sc ear tick s first → (frame epoch : ℕ)
     → ((k : ℕ) (e : Epoch) → k < ear.ticks → (told_at sc ear k).epoch ≡ Some e → e.frame ≡ frame → k ≡ epoch)
     → (k : ℕ) (d : Delivery) → k < ear.ticks → (told_at sc ear k).delivered ≡ Some d → d.frame ≡ frame

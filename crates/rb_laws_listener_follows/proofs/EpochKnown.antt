@@ -29,7 +29,7 @@ use Rattle.rb_laws_listener_near.proofs.SyncTracks.{turns_with}
 use Rattle.rb_laws_listener_follows.proofs.ExactSteps.{exact_keeps}
 use Rattle.rb_laws_listener_follows.proofs.TurnSteps.{turned-unknown}
 
--- how many ticks after the start of its frame it has the middle
+-- the offset from which on the listener knows the middle of stage 2
 abbrev pub second_end : Sizes → Plan → ℕ
 second_end sizes plan = f0_of sizes plan + plan.l + plan.v
 
@@ -118,7 +118,8 @@ close-keeps sizes plan st slot stage first sense = go (slot == sync_slot_of size
 
 -- ---- a tick
 
--- what the tick leaves of the state in which the listener stands at it
+-- the tick is counted, keeps the epoch, and keeps the next epoch unless it ends stage 2 of the sync
+-- slot
 pub record TickKeeps (sizes : Sizes) (plan : Plan) (st : NodeState) (k : ℕ) (a : Act) : Type 0 where
   pub frame : a.core.state.frame ≡ st.frame
   pub epoch : a.core.state.epoch ≡ st.epoch

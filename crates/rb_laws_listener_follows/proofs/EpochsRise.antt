@@ -59,7 +59,7 @@ same_core c d h = cc
 same_epoch : (a b : Epoch) → Some a ≡ Some b → a ≡ b
 same_epoch a b h = cc
 
--- what is told in a state
+-- at its epoch a node tells the start of its frame
 at_epoch : (sc : Scenario) (st : NodeState) (k : ℕ) → st.epoch ≡ k → epoch_at sc.sizes Biu st k ≡ Some (epoch_of sc.sizes Biu st)
 at_epoch sc st k e = ap (λ (b : Bool). elim b as (λ _. Option Epoch) [ true ↦ Some (epoch_of sc.sizes Biu st) | false ↦ None ]) (let t : (st.epoch == k) ≡ true = grind (arith, nat_tests, e) in t)
 
@@ -183,7 +183,7 @@ in_state sc ear k below some x = elim (turns_or_stays sc.sizes sc.plan x.core.st
 
 -- ---- all ticks from the first epoch on
 
--- what is known of it where it has learned
+-- the listener has learned with this tick and waits for its first frame
 pub record WaitsFirst (sc : Scenario) (ear : Ear) (tick : ℕ) (s : Search) (first : First) : Type 0 where
   pub searching : listening_at sc ear tick ≡ now.Searching s
   pub waits : WaitsFor sc ear tick first
@@ -212,7 +212,7 @@ waiting-tells sc had first other = go (is_over had)
     go true = refl
     go false = ap (λ c. (wait_on sc.sizes sc.plan had first c).heed) other
 
--- who tells something follows
+-- a listener that waits tells nothing, or follows
 begins-follow : (sc : Scenario) (had : ℕ) (first : First)
     → ((heed sc.sizes sc.plan (now.Waiting had first)).heed ≡ no_heed) ⊎ Follows (heed sc.sizes sc.plan (now.Waiting had first)).listening
 unfolding heed
@@ -237,7 +237,7 @@ quiet_or_follows sc (now.Searching s) = inl (searching-tells sc s)
 quiet_or_follows sc (now.Waiting had first) = begins-follow sc had first
 quiet_or_follows sc (now.Following c) = inr (goes-follow sc c)
 
--- who searches later did not follow
+-- a listener that searches at a tick followed at no earlier tick
 not-searching : (sc : Scenario) (ear : Ear) (tick : ℕ) (s : Search) (k : ℕ) → listening_at sc ear tick ≡ now.Searching s → k < tick → Follows (heed sc.sizes sc.plan (listening_at sc ear k)).listening → ⊥
 not-searching sc ear tick s k searching before f =
     let next : Follows (listening_at sc ear (suc k)) = subst (λ l. Follows (hears sc (ear.heard (suc k)) l)) (sym f.is) (hears_on sc (ear.heard (suc k)) f.core) in
@@ -309,7 +309,7 @@ since sc ear tick s first w k after in_time =
     let e : (k - suc first.epoch) + suc first.epoch ≡ k = omega (arith, after) in
     subst (IsSince sc ear) e (since_at sc ear tick s first w (k - suc first.epoch) (omega (arith, e, in_time)))
 
--- how it stands at each
+-- the listener follows at tick `k`, in the state `st`
 pub record AtTick (sc : Scenario) (ear : Ear) (k : ℕ) : Type 0 where
   pub core : Core
   pub heeds : heed sc.sizes sc.plan (listening_at sc ear k) ≡ followed (follow sc.sizes sc.plan core)

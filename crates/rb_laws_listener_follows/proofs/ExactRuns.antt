@@ -21,7 +21,7 @@ use Rattle.rb_laws_listener_follows.proofs.ExactSteps.{Abides, GoesThrough, outc
 use Rattle.rb_laws_listener_follows.proofs.FollowerRuns.{Stands}
 use Rattle.rb_laws_listener_follows.proofs.HeardExact.{Beside}
 
--- the run goes on over this window
+-- the run goes on over the window of moment `n`
 pub record GoesOn (sc : Scenario) (hands : List HandIn) (n : ℕ) : Type 0 where
   pub next_is : next sc (moment sc hands n) ≡ moment sc hands (suc n)
   pub open_on : (next sc (moment sc hands n)).book.ended ≡ false
@@ -33,7 +33,7 @@ goes_on sc hands n inside running =
       | inr turn ↦ let over : windows_in sc.sizes ≤ (moment sc hands n).window = turn.0 in absurd (omega (arith, over, inside))
     ]
 
--- the setting of a window that passes
+-- if the run goes on over a window below the sync slot, the window is a setting
 pub setting_at : (sc : Scenario) (hands : List HandIn) (ear : Ear) (n epoch low : ℕ) (s : Shared) (slot q : ℕ) → Beside sc hands ear n epoch low s → slot < sync_slot_of sc.sizes → q < 3
     → (moment sc hands n).window ≡ 3 * slot + q → IsRunning (moment sc hands (suc n)) → Setting sc hands n (moment sc hands n) s slot q
 setting_at sc hands ear n epoch low s slot q b below small at running =

@@ -166,7 +166,7 @@ pub record GoesThrough (sc : Scenario) (hands : List HandIn) (ear : Ear) (n epoc
   pub epoch_is : (outcome_at sc hands ear n epoch st slot q).state.epoch ≡ epoch
   pub unknown : new_epoch_of sc.plan Biu (outcome_at sc hands ear n epoch st slot q).state ≡ None
 
--- what holds of it in the window
+-- `IsWatched` holds in the window
 pub watched : (sc : Scenario) (hands : List HandIn) (ear : Ear) (n epoch low : ℕ) (s : Shared) (slot q : ℕ) (before st : NodeState) → Abides sc hands ear n epoch low s before st
     → (c : Setting sc hands n (moment sc hands n) s slot q) → (seen : ℕ → JudgedStage → Option (ℕ → See)) → IsPremise sc hands ear n epoch st slot q seen
     → epoch + (moment sc hands n).window * sc.plan.l + sc.plan.l ≤ ear.ticks

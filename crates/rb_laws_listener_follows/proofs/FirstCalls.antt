@@ -72,7 +72,7 @@ span_window sc before st w slot stage a ticks epoch s has epoch_is turns later i
     (λ x known. omega (arith, later x known, epoch_is, l, some)) (omega (arith, epoch_is, l, some, in_time)) in
     subst (λ k. IsWindow sc.sizes sc.plan before st k (ticks - 1)) e (subst (λ k. IsWindow sc.sizes sc.plan before st (st.epoch + first_of sc.sizes sc.plan Biu st w) k) many is)
 
--- what comes with its ticks, as a node in this state senses it
+-- what a node in the state `st` senses of what comes with these ticks
 abbrev pub sense_span : Scenario → Ear → ℕ → ℕ → NodeState → ℕ → ℕ → ℕ → Sense
 sense_span sc ear first ticks st slot stage j = sense_of (expect_of sc.sizes sc.plan.version st slot stage) (of_source (collected sc.sizes ear.heard first ticks) j)
 
@@ -99,7 +99,7 @@ first_span sc st w at some = record {
   some = some;
 }
 
--- what a close of stage 1 leaves of a BIU
+-- a close of stage 1 leaves the next epoch of a BIU
 keeps_first : (sizes : Sizes) (plan : Plan) (st : NodeState) (first : ℕ) (sense : ℕ → Sense) → new_epoch_of plan Biu (close_sync sizes Biu st 1 first sense).state ≡ new_epoch_of plan Biu st
 unfolding close_sync sync_outcome_of
 keeps_first sizes plan st first sense = refl

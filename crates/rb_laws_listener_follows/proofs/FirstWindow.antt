@@ -67,7 +67,7 @@ pub record BeginsFirst (sc : Scenario) (hands : List HandIn) (ear : Ear) (n epoc
   pub unknown : new_epoch_of sc.plan Biu st ≡ None
   pub tracks : Tracks sc (moment sc hands n) st
 
--- what it senses in the window, and what it makes of it
+-- what the listener senses in the first window of its first frame
 abbrev pub sense_first : Scenario → Ear → ℕ → NodeState → ℕ → Sense
 sense_first sc ear epoch st j = sense_of (expect_of sc.sizes sc.plan.version st 0 1) (of_source (collected sc.sizes ear.heard (suc epoch) (sc.plan.l - 1)) j)
 
@@ -85,7 +85,7 @@ pub record PassesWindow (sc : Scenario) (hands : List HandIn) (ear : Ear) (n epo
   pub none : (frame : ℕ) → st.frame ≡ frame → NoneSeen sc ear frame 0 (suc epoch) → NoneSeen sc ear frame 1 (epoch + 1 * sc.plan.l)
   pub watched : IsWatched sc (moment sc hands n) 0 0 st (sense_first sc ear epoch st) seen
 
--- Its first tick.
+-- The first tick of the window.
 
 goes_on_first : (sizes : Sizes) (plan : Plan) (c : Core) → c.had < 2 ^ 31 → state_at sizes plan Biu c.state c.had ≡ c.state → is_last sizes plan Biu c.state c.had ≡ false
     → (follow sizes plan c).core ≡ record { state = c.state; had = c.had + 1; inbox = c.inbox }
@@ -115,7 +115,7 @@ goes_on_first sizes plan c below same quiet =
     by false h x e =
         subst (λ y. (act_on sizes plan Biu 16 c y None y).core ≡ record { state = c.state; had = c.had + 1; inbox = c.inbox }) (sym e) (acts (is_last sizes plan Biu c.state c.had) quiet)
 
--- Its other ticks.
+-- The other ticks of the window.
 
 -- a window without its first tick is a window of one tick less
 later_window : (sizes : Sizes) (plan : Plan) (st : NodeState) (first n : ℕ) → 1 ≤ n → IsWindow sizes plan st st first n → IsWindow sizes plan st st (suc first) (n - 1)
@@ -127,7 +127,7 @@ later_window sizes plan st first n some w = record {
   in_time = omega (arith, w.in_time, some);
 }
 
--- In it no RMU speaks.
+-- No RMU speaks in the first window.
 
 first-role : (sizes : Sizes) → 1 ≤ sizes.bius → role_of sizes 0 ≡ Schedule 0
 first-role sizes some = rw (lt-ltb 0 sizes.bius (omega (arith, some))) refl

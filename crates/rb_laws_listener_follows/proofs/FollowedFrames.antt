@@ -44,7 +44,8 @@ use Rattle.rb_laws_listener_follows.proofs.NextFrames.{NextFrame, next_frame_of}
 use Rattle.rb_laws_listener_follows.proofs.SyncPasses.{sync_moment}
 use Rattle.rb_laws_listener_follows.proofs.TellsFrames.{tells_at}
 
--- all nodes that are good before the frame's first window begin it from this time on, and within p
+-- all nodes that are good before the first window of the frame begin the frame from time `low` on
+-- and within p
 abbrev pub AllBegin : Scenario → List HandIn → ℕ → ℕ → Type 0
 AllBegin sc hands frame low =
     (me : Side) (i : ℕ) (st : NodeState) → IsGoodNode sc (moment sc hands (0 + first_of_frame sc frame)) me i st → IsBetween low (low + sc.plan.p) (time_of (clock_of sc me i) st.epoch)

@@ -32,7 +32,7 @@ unfoldable pub collected : Sizes → (ℕ → List Coming) → ℕ → ℕ → L
 collected sizes heard first zero = []
 collected sizes heard first (suc n) = collected sizes heard first n ++ arrivals sizes (first + n) (heard (first + n))
 
--- what a follower makes of one message
+-- a follower puts one message into its inbox
 one_more : (sizes : Sizes) (c : Core) (x : Coming) → c.had < 2 ^ 31
     → arrive sizes Biu c x.from x.bytes ≡ record c { inbox = c.inbox ++ arrivals sizes c.had (x ∷ []) }
 unfolding arrive arrivals
@@ -74,7 +74,7 @@ hears_all sc (x ∷ xs) c below =
 
 -- Ticks.
 
--- what the listener is before it hears what comes with the next stamp
+-- the listener after tick `k`
 abbrev pub after_tick : Scenario → Ear → ℕ → Listening
 after_tick sc ear k = (heed sc.sizes sc.plan (listening_at sc ear k)).listening
 
@@ -82,7 +82,7 @@ pub heeds_core : (sc : Scenario) (ear : Ear) (k : ℕ) (c : Core) → listening_
 unfolding heed
 heeds_core sc ear k c is = ap (heed sc.sizes sc.plan) is
 
--- what a tick is in which the node stands in this state
+-- a follower acts at a tick by its state there
 pub acts_by : (sizes : Sizes) (plan : Plan) (c : Core) (st : NodeState) → c.had < 2 ^ 31 → state_at sizes plan Biu c.state c.had ≡ st
     → follow sizes plan c ≡ act_on sizes plan Biu 16 c st None st
 unfolding follow
@@ -109,7 +109,7 @@ goes_on sizes plan c st quiet = by (is_last sizes plan Biu st c.had) quiet
     by true h = cc
     by false h = refl
 
--- the act that closes a window
+-- the act closes the window
 pub record IsClosing (sizes : Sizes) (plan : Plan) (c : Core) (st : NodeState) (a : Act) : Type 0 where
   pub core : a.core ≡ record { state = (close_window sizes plan Biu 16 st (window_here sizes plan Biu st c.had) (of_source c.inbox)).state; had = c.had + 1; inbox = [] }
   pub closed : a.closed ≡ Some (close_window sizes plan Biu 16 st (window_here sizes plan Biu st c.had) (of_source c.inbox)).closed
@@ -131,8 +131,7 @@ closes_it sizes plan c st last = by (is_last sizes plan Biu st c.had) last
 
 -- A window.
 
--- the ticks of a window: with the first the node comes to this state, and with the one that is n
--- later it closes
+-- with tick `first` the node comes to the state `st`, and with tick first + n it closes the window
 pub record IsWindow (sizes : Sizes) (plan : Plan) (before st : NodeState) (first n : ℕ) : Type 0 where
   pub turns : state_at sizes plan Biu before first ≡ st
   pub stays : (k : ℕ) → first < k → k ≤ first + n → state_at sizes plan Biu st k ≡ st
@@ -198,7 +197,7 @@ follows_window sc ear before st first n w s (suc i) k e le =
     subst (λ k. listening_at sc ear k ≡ now.Following (core_in sc.sizes ear before st first (suc i) k)) next
     (follows_next sc ear before st first n i w le (follows_window sc ear before st first n w s i (first + i) refl (omega arith)))
 
--- With the last tick it closes the window on all that came in it.
+-- With the last tick of a window a listener closes it on all that came in it.
 
 abbrev pub closing : Scenario → Ear → NodeState → ℕ → ℕ → Outcome
 closing sc ear st first n = close_window sc.sizes sc.plan Biu 16 st (window_here sc.sizes sc.plan Biu st (first + n)) (of_source (collected sc.sizes ear.heard first (n + 1)))

@@ -96,7 +96,7 @@ first_followed sc hands ear learned tick s l last holds le running = record {
     place : 0 + first_of_frame sc (suc learned) ≡ moment_before sc (learned + 1) 0 1
     place = let e : suc learned ≡ learned + 1 = omega arith in (let z : 0 + first_of_frame sc (suc learned) ≡ first_of_frame sc (suc learned) = omega arith in z) ∙ ap (λ f. moment_before sc f 0 1) e
 
--- the first frame, where a slot of it is complete
+-- a slot of the listener's first frame is complete, and the premise with the listener holds
 record InFirst (sc : Scenario) (hands : List HandIn) (ear : Ear) (learned slot : ℕ) (records : List Sense) : Type 0 where
   pub last : ℕ
   pub holds : HoldsTo sc hands ear learned records last

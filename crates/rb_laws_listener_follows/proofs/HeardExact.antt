@@ -47,8 +47,8 @@ use Rattle.rb_laws_listener_learns.proofs.Together.{steady-ear}
 
 -- ---- when an RMU sends
 
--- the tick of what it sends in a window, by its frame's first tick: at the window's offset below
--- the sync slot, and else in stage 2
+-- what a node sends in its window goes out at the window's offset below the sync slot, and else in
+-- stage 2
 pub record SendsThen (sc : Scenario) (m : Moment) (j : ℕ) (st : NodeState) (s : Sending) : Type 0 where
   pub node : IsGoodNode sc m Rmu j st
   pub tick : ((m.window < 3 * sync_slot_of sc.sizes) × (s.tick ≡ st.epoch + (m.window * sc.plan.l + sc.plan.h)))
@@ -119,7 +119,7 @@ too_early : (low p z u d most f h l v x before : ℕ) → p + d * (f + h) + 3 * 
     → low ≤ before + (u + d) → x ≤ before
 too_early low p z u d most f h l v x before c6 sent at = omega (arith, c6, sent, at)
 
--- what a node says that has just turned faulty comes after it too
+-- what a node says just after it has turned faulty comes after the window too
 too_soon : (low p a f h l u d least most skew x t k : ℕ) → a + l ≤ f → least ≤ most → skew + d * h ≤ h * u + least → p + d * (f + h) + most + (1 + h) * u ≤ l * u
     → low + (a + l + l) * u ≤ x → x < t + u + skew → t ≤ k → k + (u + d) ≤ low + p + (a + l) * (u + d) → ⊥
 too_soon low p a f h l u d least most skew x t k le delays fits c2 sent reached at last =
@@ -127,8 +127,8 @@ too_soon low p a f h l u d least most skew x t k le delays fits c2 sent reached 
 
 -- ---- a listener beside the run
 
--- the run has come to moment n. The listener began the moment's frame with this tick, with the good
--- nodes
+-- the run has come to moment `n`, whose frame the listener began with tick `epoch`, together with
+-- the good nodes
 pub record Beside (sc : Scenario) (hands : List HandIn) (ear : Ear) (n epoch low : ℕ) (s : Shared) : Type 0 where
   pub law : IsLawful sc
   pub is : IsEar sc ear
@@ -494,7 +494,7 @@ not_faulty sc hands ear n epoch low s b below c good faulty k stamp in_it =
 
 -- ---- nothing else
 
--- what comes of an RMU that stays good is what it sends in this window
+-- what comes is what a good RMU sends in this window
 pub record IsOwn (sc : Scenario) (hands : List HandIn) (ear : Ear) (n : ℕ) (c : Coming) : Type 0 where
   pub good : IsOfGood sc hands ear c
   pub here : good.n ≡ n

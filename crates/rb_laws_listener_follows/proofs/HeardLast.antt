@@ -52,7 +52,7 @@ pub record NextBegins (sc : Scenario) (hands : List HandIn) (ear : Ear) (frame n
       → IsGoodNode sc (moment sc hands n) me i st → IsBetween later (later + sc.plan.p) (time_of (clock_of sc me i) st.epoch)
   pub listener : IsBetween later (later + sc.plan.p) (time_of ear.clock next_epoch)
 
--- what is sent in it comes after the listener's first tick of it
+-- what is sent in the next frame comes after the listener's first tick of that frame
 sent_late : (later p f h u d least x t : ℕ) → p + d * (f + h) ≤ h * u + least → later + h * u + least ≤ x → x ≤ t → t < later + p → ⊥
 sent_late later p f h u d least x t c1 sent reached at = absurd (omega (arith, c1, sent, reached, at))
 
@@ -60,7 +60,7 @@ said_late : (later p f h l u d least most skew x t c : ℕ) → least ≤ most �
     → t < later + p → ⊥
 said_late later p f h l u d least most skew x t c delays fits c2 sent reached at last = absurd (omega (arith, delays, fits, c2, sent, reached, at, last))
 
--- a node that is good in a later frame, when it began the next one
+-- some tick from time `later` on is at most `epoch`
 record BegunAt (sc : Scenario) (me : Side) (i later epoch : ℕ) : Type 0 where
   pub first : ℕ
   pub time : later ≤ time_of (clock_of sc me i) first

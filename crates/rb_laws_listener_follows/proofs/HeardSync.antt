@@ -151,7 +151,7 @@ called_between sc hands law n j x sent s low at near =
     let called = call_sent sc.sizes sc.plan Rmu j sent.state 2 (word_at sc (moment sc hands n) (sync_slot_of sc.sizes) j) x (sends-at sc hands n j x sent (sync_slot_of sc.sizes) 2 ws) in
     (second_calls sc law (moment sc hands n) s low near at).between j sent.state x.tick (sends_then sc hands law n j x sent).node called.0
 
--- the calls come in it
+-- the calls of stage 2 come to the listener in stage 2
 pub calls_in_time : (sc : Scenario) (hands : List HandIn) (ear : Ear) (n epoch low : ℕ) (s : Shared) → Beside sc hands ear n epoch low s → (moment sc hands n).window ≡ 3 * sync_slot_of sc.sizes + 1
     → (time : ℕ) → IsBetween (from_2 sc low + sc.plan.dmin) (to_2 sc low + sc.plan.dmax) time → (k : ℕ) → IsStamp ear.clock time k
     → (epoch + (f0_of sc.sizes sc.plan + sc.plan.l) ≤ k) × IsEarly sc epoch k
@@ -242,7 +242,7 @@ nothing_first sc hands ear n epoch low s b c1 next_is c st node good k in_time h
           ]
         ]
 
-    -- the calls of stage 2 come later
+    -- the calls of stage 2 do not come in stage 1
     calls_later : (x : Sending) → SendsIn sc hands (suc n) c.from x → IsStamp ear.clock (coming_to sc ear c.from (moment sc hands (suc n)).frame x).time k → ⊥
     calls_later x sent stamp =
         let near : Synchronous sc (next sc (moment sc hands n)) s low = near_first sc hands n (moment sc hands n) s low c1 b.near in

@@ -58,7 +58,7 @@ pub record StandsLate (sc : Scenario) (hands : List HandIn) (ear : Ear) (n epoch
   pub epoch_is : st.epoch ≡ epoch
   pub known : new_epoch_of sc.plan Biu st ≡ Some next_epoch
 
--- a window in which it expects nobody, and which leaves its middle
+-- the listener expects nobody with these ticks, and they leave its middle
 pub record IsDeaf (sc : Scenario) (hands : List HandIn) (ear : Ear) (n epoch : ℕ) (st : NodeState) (stage a ticks next_epoch : ℕ) : Type 0 where
   pub window : 3 * sync_slot_of sc.sizes + 2 ≤ (moment sc hands n).window
   pub span : IsSpan sc st (moment sc hands n).window (sync_slot_of sc.sizes) stage a ticks

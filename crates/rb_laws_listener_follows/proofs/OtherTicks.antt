@@ -71,7 +71,7 @@ its_tick sizes plan st k frame epoch x frame_is epoch_is last place most = go (w
         let f : FoundAt (windows_of_frame sizes plan) w = found_at (holds_offset (k - st.epoch)) (windows_of_frame sizes plan) w e in
         record { n = f.n; window = w; there = f.there; place = at ∙ ap (λ g. record { frame = g; slot = w.slot; stage = w.stage }) frame_is; tick = omega (arith, end, epoch_is) }
 
--- what a tick closes
+-- tick `k` closes stage `x` of the window there
 record ClosedBy (sizes : Sizes) (plan : Plan) (st : NodeState) (k : ℕ) (x : Closed) : Type 0 where
   pub last : is_last sizes plan Biu st k ≡ true
   pub place : x.place ≡ record { frame = st.frame; slot = (window_here sizes plan Biu st k).slot; stage = (window_here sizes plan Biu st k).stage }

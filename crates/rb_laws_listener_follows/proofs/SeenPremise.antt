@@ -36,7 +36,7 @@ use Rattle.rb_laws_listener_follows.proofs.ExactRuns.{GoesOn, goes_on}
 
 -- ---- the premise
 
--- what it sees in a frame that it follows
+-- what the listener sees in a frame that it follows
 abbrev pub seen_following : Scenario → Ear → ℕ → ℕ → JudgedStage → Option (ℕ → See)
 seen_following sc ear frame window s = seen_closed sc ear frame (seen_by sc ear frame window ear.ticks)
 

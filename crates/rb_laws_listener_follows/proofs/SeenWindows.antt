@@ -80,7 +80,7 @@ seen_quiet sc ear frame window first none (suc n) quiet =
 
 -- ---- windows that are still to come
 
--- the window is this one of the frame or a later one
+-- window `v` of frame `g` is window `w` of `frame` or a later one
 abbrev pub IsFrom : ℕ → ℕ → ℕ → ℕ → Type 0
 IsFrom frame w g v = (frame < g) ⊎ ((frame ≡ g) × (w ≤ v))
 
@@ -119,7 +119,7 @@ is_other c frame w g v is later = false_from_ne_true (is_window g v (Some c)) (�
         by (inl less) e q r = absurd (omega (arith, less, e))
         by (inr same) e q r = absurd (omega (arith, same.1, q, r))
 
--- the window is closed with this tick, and those after it are still to come
+-- the window is closed with tick `k`, and those after it are still to come
 pub record SeesWindow (sc : Scenario) (ear : Ear) (frame w : ℕ) (c : Closed) (k : ℕ) : Type 0 where
   pub here : seen_by sc ear frame w (suc k) ≡ Some c
   pub later : NoneSeen sc ear frame (w + 1) (suc k)

@@ -96,7 +96,7 @@ senses_exact sc hands ear n epoch low s slot q b c st frame in_time j source the
     tick_in : (i : ℕ) → i < sc.plan.l → IsTickOf sc epoch (moment sc hands n).window (epoch + (moment sc hands n).window * sc.plan.l + i)
     tick_in i lt = (omega arith, omega (arith, lt))
 
-    -- whatever comes of it is what it sends here
+    -- whatever comes from RMU `j` is what it sends in this window
     own : (i : ℕ) → i < sc.plan.l → (nth : ℕ) (d : Coming) → slice_get (ear.heard (epoch + (moment sc hands n).window * sc.plan.l + i)) nth ≡ Some d → d.from ≡ j → IsOwn sc hands ear n d
     own i lt nth d is from =
         only_own sc hands ear n epoch low s b below d source (subst (λ k. IsGoodNode sc (moment sc hands n) Rmu k source) (sym from) there)

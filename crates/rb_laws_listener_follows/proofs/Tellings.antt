@@ -23,7 +23,7 @@ use Rattle.rb_laws_listener_learns.specs.Ears.{Ear, listening_at, told_at}
 use Rattle.rb_laws_listener_follows.specs.Following.{epoch_with}
 use Rattle.rb_laws_listener_follows.proofs.FollowerRuns.{acts_by}
 
--- the start of a frame, if this is its tick
+-- an act tells the start of a frame if its tick is the epoch
 act-epoch : (sizes : Sizes) (plan : Plan) (c : Core) (st : NodeState) → (act_on sizes plan Biu 16 c st None st).epoch ≡ epoch_at sizes Biu st c.had
 unfolding act_on
 act-epoch sizes plan c st = by (is_last sizes plan Biu st c.had)
@@ -44,7 +44,7 @@ pub tells_epoch : (sc : Scenario) (ear : Ear) (k : ℕ) (c : Core) (st : NodeSta
 tells_epoch sc ear k c st is below at =
     ap (λ x. x.heed.epoch) is ∙ ap (λ a. a.epoch) (acts_by sc.sizes sc.plan c st below at) ∙ act-epoch sc.sizes sc.plan c st
 
--- what the window delivers that it closes
+-- the listener delivers what the window that it closes delivers
 pub tells_close : (sc : Scenario) (ear : Ear) (k : ℕ) (core : Core) (x : Closed) → listening_at sc ear k ≡ now.Following core → (follow sc.sizes sc.plan core).closed ≡ Some x
     → (told_at sc ear k).delivered ≡ x.delivered
 unfolding heed

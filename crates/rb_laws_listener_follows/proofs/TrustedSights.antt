@@ -1,5 +1,5 @@
--- Of what a listener saw only that of a set of RMUs matters to the verdict, where all RMUs that are
--- suspect are in the set.
+-- If all RMUs that are suspect are in a set, only what a listener saw of that set matters to the
+-- verdict.
 use Rattle.std.proofs.Common.{◌≡◌, ℕ, ◌&&◌, ◌||◌, not, Bool, true, false, List, [], ◌∷◌, Option, Some, None, length, if◌then◌else◌, refl, ◌∙◌, ap}
 use Rattle.std.specs.List.{list_any}
 use Rattle.rb_base.specs.Nodes.{Side, has, set_of}
@@ -11,7 +11,7 @@ use Rattle.rb_base.proofs.Sets.{same_set_of}
 use Rattle.rb_rules.specs.Judging.{JudgedStage, are_alike, cause_of, good_now, is_something, is_suspect, some_receiver, trusted_now, was_taken, was_unlike}
 use Rattle.rb_laws_listener_near.specs.Judged.{classes_with, heard_stages, is_asymmetric_with, is_benign_with, took_of, unlike_some, verdict_with, was_taken_with, was_unlike_with}
 
--- what was seen of those in the set
+-- what was seen of node `j`, if it is in the set
 abbrev pub sight_of : ℕ → (ℕ → See) → ℕ → See
 sight_of set sight j = if has set j then sight j else Nothing
 

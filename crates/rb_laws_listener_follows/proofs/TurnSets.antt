@@ -32,7 +32,7 @@ good_biu sc hands n m s e =
     let st = good_state sc hands n m s e.agree Biu one.at now in
     record { index = one.at; st = st.value; here = record { there = st.is; good = now } }
 
--- the frame, and the trusted nodes, that all good nodes hold
+-- the state has the frame and the trusted nodes that all good nodes hold
 pub record HoldsSets (s : Shared) (frame : ℕ) (st : NodeState) : Type 0 where
   pub frame_is : st.frame ≡ frame
   pub near : st.near ≡ s.trusted Biu

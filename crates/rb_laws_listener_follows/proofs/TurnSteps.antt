@@ -25,7 +25,7 @@ use Rattle.rb_laws_listener_follows.proofs.ExactSteps.{Abides}
 use Rattle.rb_laws_listener_follows.proofs.FollowerRuns.{Stands}
 use Rattle.rb_laws_listener_follows.proofs.LateSteps.{StandsLate}
 
--- what a turn makes of a node
+-- the epoch after a turn is that of the turn
 turned-epoch : (sizes : Sizes) (probation epoch : ℕ) (st : NodeState) → (turn sizes probation Biu epoch st).epoch ≡ epoch
 unfolding turn
 turned-epoch sizes probation epoch st = refl

@@ -170,7 +170,7 @@ lows sc hands law m n j t at_n at_m less sends a b =
     rises : time_of (clock_of sc Rmu j) (was.st.epoch + tail_start_of sc.sizes sc.plan) ≤ time_of (clock_of sc Rmu j) sends.state.epoch
     rises = times_rise_to (clock_of sc Rmu j) (was.st.epoch + tail_start_of sc.sizes sc.plan) sends.state.epoch (was.later less)
 
--- a time so much later has a stamp so much later
+-- times that are far enough apart have stamps more than `reach` apart
 pub far-stamps : (u d : ℕ) (clock : Timeline) → Steady u d clock → (x y a b reach : ℕ) → IsStamp clock x a → IsStamp clock y b → 1 ≤ a → x + (u + d) + reach * (u + d) < y → a + reach < b
 far-stamps u d clock steady x y zero b reach is_a is_b some far = absurd (omega (arith, some))
 far-stamps u d clock steady x y (suc a) b reach is_a is_b some far =

@@ -41,8 +41,8 @@ skew-fits sc law slot le =
     let offsets : 3 * slot * sc.plan.l ≤ f0_of sc.sizes sc.plan = mul-le-mul_right sc.plan.l (omega (arith, le)) in
     omega (arith, fit.before_1, mul-le-mul_left (drift_of sc.plan) offsets)
 
--- the next frame begins from here on, where the frame's first ticks come from `low` on: the calls
--- of stage 2 are heard, and the two windows pass
+-- if the frame's first ticks come from `low` on, the next frame begins from here on: the calls of
+-- stage 2 are heard, and the two windows pass
 abbrev pub begins_from : Scenario → ℕ → ℕ
 begins_from sc low = heard_from sc (from_2 sc low) + (sc.plan.v + sc.plan.z) * shortest_of sc.plan
 

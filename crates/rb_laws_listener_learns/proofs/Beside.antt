@@ -65,7 +65,7 @@ come-time s = omega (arith, time-is s.tick)
 
 -- What is heard is sent.
 
--- what comes with stamp k is what was sent in its window, the tick before
+-- what comes with stamp `k` was sent in its window, at the tick before
 record Came (k : ℕ) (c : Coming) (nth : ℕ) : Type 0 where
   pub s : Sending
   pub sent : sends_at (window_of k) ≡ Some s

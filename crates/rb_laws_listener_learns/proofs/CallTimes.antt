@@ -113,7 +113,7 @@ place-call sc ear frame j at i m p suits =
         and_from (is_sync m.tag && (m.slot == sync_slot_of sc.sizes)) (m.stage == 2)
         (and_from (is_sync m.tag) (m.slot == sync_slot_of sc.sizes) (tag-sync m.tag (ap (λ b. tag_suits b m.tag) (sym in_sync) ∙ suits)) in_sync) (eq-eqb m.stage 2 stage)
 
--- a call has its place there
+-- `c` is a call with its place in the sync slot
 pub record CallFound (sc : Scenario) (ear : Ear) (frame j at i : ℕ) (c : Coming) : Type 0 where
   pub message : Message
   pub placed_at : IsPlacedAt sc ear (frame % 65536) (sync_slot_of sc.sizes) j at i message

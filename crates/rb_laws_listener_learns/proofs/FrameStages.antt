@@ -124,7 +124,7 @@ at-window sc hands law f complete (suc w) few running =
       long = ap (λ k. length (moment sc hands k).book.stages) (sym e) ∙ ap (λ m. length m.book.stages) s.is ∙ ap length s.judged.stages ∙ ap suc before.long;
     }
 
--- the stages at a later window are more than these
+-- moment `k` has the stages of moment `n`, with more before them
 pub record Grows (sc : Scenario) (hands : List HandIn) (n k : ℕ) : Type 0 where
   pub more : List JudgedStage
   pub is : (moment sc hands k).book.stages ≡ more ++ (moment sc hands n).book.stages
@@ -161,7 +161,7 @@ fewer-none p seen (s ∷ more) stages h =
 
 -- The last stage.
 
--- the judge is told whom all trust
+-- the judge is told whom all good nodes trust
 pub told-now : (sc : Scenario) (m : Moment) (slot stage : ℕ) (ws : Windows sc m slot stage) (p : Place) (trusted : Side → ℕ)
     → ((me : Side) (i : ℕ) (st : NodeState) → slice_get (of_kind me m.nodes) i ≡ Some st → is_good sc me i m.frame slot ≡ true → (side : Side) → trusted_of side me st ≡ trusted side)
     → verdict_of (judged_of sc p (rows_of sc m) ∷ m.book.stages) ≡ None → (kind : Side) → (judged_of sc p (rows_of sc m)).trusted kind ≡ trusted kind

@@ -163,7 +163,7 @@ as-call sc hands ear i number a c j at too some =
 
 -- The newest calls before a message.
 
--- what is known of them at a tick
+-- each newest call of a good RMU is one that was heard up to tick `k`
 pub record AreKnown (sc : Scenario) (hands : List HandIn) (ear : Ear) (k : ℕ) (newest : List (Option Call)) : Type 0 where
   pub inside : AreOfRmus sc.sizes newest
   pub known : (j : ℕ) (c : Call) → is_always_good sc hands j ≡ true → get_or newest j None ≡ Some c → IsHeardCall sc hands ear j c.frame c.at × (c.at ≤ k)
@@ -185,7 +185,7 @@ in-good-set : (sc : Scenario) (hands : List HandIn) (j : ℕ) → j < 16 → has
 unfolding good-set
 in-good-set sc hands j below h = good-rmus sc hands j below h
 
--- a good RMU of a pass
+-- a call of a good RMU falls into the pass
 pub record GoodInPass (sc : Scenario) (hands : List HandIn) (newest : List (Option Call)) (frame from : ℕ) : Type 0 where
   pub j : ℕ
   pub good : is_always_good sc hands j ≡ true
@@ -244,7 +244,7 @@ at_of (Some c) = c.at
 abbrev pub is_missing : Scenario → List HandIn → List (Option Call) → ℕ → ℕ → Bool
 is_missing sc hands newest q j = is_always_good sc hands j && not (is_of q (get_or newest j None))
 
--- the newest call of an RMU is one of this frame
+-- the newest call of RMU `j` is one of frame `q`
 pub record HasCalled (newest : List (Option Call)) (q j : ℕ) : Type 0 where
   pub call : Call
   pub there : get_or newest j None ≡ Some call
@@ -312,7 +312,7 @@ none-missing sc hands law ear is most k q newest known i good called = by least.
     by (inl nobody) = let both : true ≡ false = sym good ∙ nobody i (below-16 sc hands law.sizes i good) in absurd (cc)
     by (inr one) = begins-pass sc.sizes sc.plan newest q law.sizes.most_rmus known.inside (begins one.0 one.1 one.2)
 
--- a good call of the frame comes now or later
+-- a good call of the frame comes at tick `k` or later
 pub record IsStillToCome (sc : Scenario) (hands : List HandIn) (ear : Ear) (number k : ℕ) : Type 0 where
   pub at : ℕ
   pub call : IsGoodCall sc hands ear number at

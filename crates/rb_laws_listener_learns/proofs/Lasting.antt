@@ -21,8 +21,8 @@ use Rattle.rb_laws_agreement.proofs.SyncAgrees.{book_sync, leaves, stage_setting
 use Rattle.rb_laws_agreement.proofs.ThirdStages.{other_votes_kept}
 use Rattle.rb_laws_synchrony.proofs.EpochTicks.{turned-frame}
 
--- the good node was good at moment n of the frame, trusted the same, and had the votes on slots
--- that were finished then
+-- the node was good at moment `n` of the frame, trusted the same nodes, and had the same votes on
+-- the slots finished then
 pub record LastsFrom (sc : Scenario) (hands : List HandIn) (n : ℕ) (me : Side) (i : ℕ) (now : NodeState) : Type 0 where
   pub st : NodeState
   pub was : IsGoodNode sc (moment sc hands n) me i st

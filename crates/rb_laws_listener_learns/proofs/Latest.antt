@@ -1,4 +1,4 @@
--- Of each RMU a search has the newest call that came.
+-- A search has the newest call of each RMU that came.
 use Rattle.std.proofs.Common.{◌≡◌, ◌⊎◌, ℕ, zero, suc, ◌+◌, ◌^◌, ◌<◌, ◌≤◌, nat_lt, true, false, Option, Some, None, List, [], ◌∷◌, length, get_or, slice_get, slice_set, inl, inr, refl, sym, ◌∙◌, ap, subst, arith}
 use Rattle.std.proofs.lemmas.Bool.{cases_lt, lt-ltb}
 use Rattle.std.proofs.lemmas.Bool.Decides.{nat_tests}
@@ -22,7 +22,7 @@ use Rattle.rb_laws_listener_learns.proofs.Walks.{IsKept}
 
 -- Places among what comes.
 
--- the last place before the next is this one, or it is earlier
+-- a place before the next one is earlier than this one, or is this one
 pub earlier-split : (at nth k n : ℕ) → IsEarlier at nth k (suc n) → IsEarlier at nth k n ⊎ ((at ≡ k) × (nth ≡ n))
 earlier-split at nth k n (inl less) = inl (inl less)
 earlier-split at nth k n (inr same) = elim (cases_lt nth n) [ inl less ↦ inl (inr (same.0, less)) | inr more ↦ inr (same.0, omega (arith, same.1, more)) ]
@@ -96,7 +96,7 @@ recorded-latest sc ear k n j m s h =
     let same : RecordsOnly s (recorded sc.sizes j m s) = recorded-only sc.sizes j m s in
     same-latest sc ear k n s (recorded sc.sizes j m s) (record { had = same.had; newest = same.newest }) h
 
--- message n is no call
+-- a message that is no call keeps `IsLatest`
 no-call : (sc : Scenario) (ear : Ear) (k n : ℕ) (s : Search) → ((j : ℕ) → j < sc.sizes.rmus → IsCallAt sc ear k n j → ⊥) → IsLatest sc ear k n s → IsLatest sc ear k (suc n) s
 no-call sc ear k n s none h = record {
   had = h.had;

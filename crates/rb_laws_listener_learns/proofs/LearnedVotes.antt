@@ -51,7 +51,7 @@ use Rattle.rb_laws_listener_learns.proofs.TrustedSets.{GoodThere, IsIn, all-trus
 use Rattle.rb_laws_listener_learns.proofs.Turning.{EndOf}
 use Rattle.rb_laws_listener_learns.proofs.Within.{IsExactAt}
 
--- What a listener knows where it decides by a frame after the first, and what the premise with it
+-- What a listener knows when it decides by a frame after the first, and what the premise with it
 -- says when that frame is over.
 pub record Learner (sc : Scenario) (hands : List HandIn) (ear : Ear) (f : ℕ) (records : List Sense) : Type 0 where
   pub law : IsLawful sc
@@ -187,7 +187,7 @@ value-at-end sc hands ear f records c kind i count s =
         came_from sc hands k m s.shared s.setting.agree
         Rmu c.g l.st (subst (λ m. IsGoodNode sc m Rmu c.g l.st) s.step.is l.was)
 
--- all trust whom they trust at the frame's end
+-- all good nodes trust the nodes that they trust at the frame's end
 pub trust-end : (sc : Scenario) (hands : List HandIn) (ear : Ear) (f : ℕ) (records : List Sense) (c : Learner sc hands ear f records) (k : ℕ) → IsIn sc hands (suc f) k
     → (me : Side) (i : ℕ) (st : NodeState) → IsGoodNode sc (moment sc hands k) me i st → (kind : Side) → trusted_of kind me st ≡ c.end.shared.trusted kind
 trust-end sc hands ear f records c k here me i st node kind =

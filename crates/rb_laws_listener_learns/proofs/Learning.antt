@@ -103,7 +103,7 @@ begun sc hands ear k n number since at call soon before = record {
   fixed = λ tick is. let none : None ≡ Some tick = is in cc;
 }
 
--- It goes on.
+-- A lesson goes on.
 
 -- `LearnsFrom` holds with the records of later messages too
 with-noted : (sc : Scenario) (hands : List HandIn) (ear : Ear) (k n l o : ℕ) (a b : Lesson) → (h : LearnsFrom sc hands ear k n a) → b.frame ≡ a.frame → b.decides ≡ a.decides

@@ -1,4 +1,4 @@
--- What a listener has learned where it decides by a frame that comes to its end before the first
+-- What a listener has learned when it decides by a frame that comes to its end before the first
 -- breach of the premise with it.
 use Rattle.std.proofs.Common.{◌≡◌, ℕ, zero, suc, ◌+◌, ◌-◌, ◌*◌, ◌%◌, ◌≤◌, ◌==◌, ◌&&◌, Bool, true, Some, None, if◌then◌else◌, List, refl, sym, ◌∙◌, ap, subst, arith}
 use Rattle.std.proofs.lemmas.Bool.{and_from, eq-eqb}

@@ -10,7 +10,7 @@ use Rattle.rb_base.proofs.SetSizes.{size_apart, size_first}
 use Rattle.rb_listen.specs.Passes.{are_most}
 use Rattle.rb_laws_agreement.proofs.Tests.{Passing, passes_at, passing, true_or_false}
 
--- the nodes of a set are those of the bus
+-- the nodes of the set are RMUs of the bus
 abbrev pub AreRmus : Sizes → ℕ → Type 0
 AreRmus sizes set = (j : ℕ) → j < 16 → has set j ≡ true → j < sizes.rmus
 

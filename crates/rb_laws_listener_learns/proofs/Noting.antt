@@ -16,7 +16,7 @@ use Rattle.rb_laws_listener_learns.specs.Ears.{Ear}
 use Rattle.rb_laws_listener_learns.proofs.Latest.{earlier-by, earlier-split, whole-earlier}
 use Rattle.rb_laws_listener_learns.proofs.Recorded.{IsEarlier, nothing-there, same-place}
 
--- message i of a stamp is of RMU j and has a place in this slot of the lesson on a frame
+-- message `i` of stamp `at` is from RMU `j`, and has a place in this slot of the lesson on a frame
 pub record IsPlacedAt (sc : Scenario) (ear : Ear) (frame slot j at i : ℕ) (m : Message) : Type 0 where
   pub coming : Coming
   pub there : slice_get (ear.heard at) i ≡ Some coming
@@ -25,7 +25,7 @@ pub record IsPlacedAt (sc : Scenario) (ear : Ear) (frame slot j at i : ℕ) (m :
   pub place : has_place sc.sizes frame m ≡ true
   pub slot_is : m.slot ≡ slot
 
--- what came after this stamp and before message n of stamp k
+-- message `i` of stamp `at` came after stamp `since` and before message `n` of stamp `k`
 abbrev pub IsSince : ℕ → ℕ → ℕ → ℕ → ℕ → Type 0
 IsSince since at i k n = (since < at) × IsEarlier at i k n
 
@@ -67,9 +67,9 @@ begun-noted sc ear since k n lesson none before j below slot few =
     subst (IsNotedBy sc ear since k n lesson.frame slot j) (sym (ap (λ (r : List Sense). record_of r slot j) none ∙ nothing-there slot j))
     (λ at i m span placed. omega (arith, span.0, before at i span.1))
 
--- It goes on.
+-- A lesson goes on.
 
--- places that are earlier now were so before
+-- what is noted stays right if the places that are earlier now were so before
 pub on-noted : (sc : Scenario) (ear : Ear) (since k n l o frame slot j : ℕ) → ((at i : ℕ) → IsEarlier at i k n → IsEarlier at i l o)
     → ((at i : ℕ) (m : Message) → IsPlacedAt sc ear frame slot j at i m → IsEarlier at i l o → IsEarlier at i k n) → (r : Sense) → IsNotedBy sc ear since k n frame slot j r
     → IsNotedBy sc ear since l o frame slot j r
@@ -98,7 +98,7 @@ tick-noted sc ear since k n lesson whole h j below slot few =
     on-noted sc ear since k n (suc k) 0 lesson.frame slot j (tick-earlier k n)
     (λ at i m placed before. whole-earlier ear at i k n placed.coming placed.there whole (earlier-by at i k before)) (record_of lesson.records slot j) (h j below slot few)
 
--- message n of stamp k has no place here
+-- a message without a place in the slot keeps `IsNotedBy`
 other-noted : (sc : Scenario) (ear : Ear) (since k n frame slot j : ℕ) → ((m : Message) → IsPlacedAt sc ear frame slot j k n m → ⊥) → (r : Sense)
     → IsNotedBy sc ear since k n frame slot j r → IsNotedBy sc ear since k (suc n) frame slot j r
 other-noted sc ear since k n frame slot j none =
@@ -135,7 +135,7 @@ more-noted sc ear since k n frame slot j m placed (One at old) h =
 more-noted sc ear since k n frame slot j m placed Bad h =
     record { at = h.at; i = h.i; message = h.message; placed = h.placed; earlier = step-earlier k n h.at h.i h.earlier; by = h.by }
 
--- what is at a place after one is set: the new one, or there it is another place and as before
+-- after item `p` is set, item `q` is the new one, or another one and as before
 set-either-apart : (xs : List Sense) (p q : ℕ) (x : Sense) → p < length xs
     → ((q ≡ p) × (get_or (slice_set xs p x) q Silent ≡ x)) ⊎ ((q ≡ p → ⊥) × (get_or (slice_set xs p x) q Silent ≡ get_or xs q Silent))
 set-either-apart [] p q x within = absurd (omega (arith, within))
@@ -145,7 +145,7 @@ set-either-apart (y ∷ ys) (suc p) zero x within = inr ((λ e. omega (arith, e)
 set-either-apart (y ∷ ys) (suc p) (suc q) x within =
     elim (set-either-apart ys p q x (omega (arith, within))) [ inl both ↦ inl (ap suc both.0, both.1) | inr same ↦ inr ((λ e. same.0 (omega (arith, e))), same.1) ]
 
--- the list is long enough for all places
+-- the records of the lesson have room for all places
 abbrev pub HasRoom : Sizes → Lesson → Type 0
 HasRoom sizes lesson = 16 * sync_slot_of sizes + 16 ≤ length lesson.records
 

@@ -22,8 +22,7 @@ use Rattle.rb_laws_listener_learns.specs.Records.{IsOfPlace}
 use Rattle.rb_laws_listener_learns.proofs.Moments.{same-coming}
 use Rattle.rb_laws_listener_learns.proofs.Sendings.{in-place}
 
--- the message came at that place among those of that stamp, which are heard before place n of stamp
--- k
+-- message `nth` of stamp `at` is heard before message `n` of stamp `k`
 abbrev pub IsEarlier : ℕ → ℕ → ℕ → ℕ → Type 0
 IsEarlier at nth k n = (at < k) ⊎ ((at ≡ k) × (nth < n))
 
@@ -104,7 +103,7 @@ begun-true sc hands ear k n lesson none j below good slot =
 
 -- A message more.
 
--- message n of stamp k is of an RMU that is good, and reads so
+-- message `n` of stamp `k` is from a good RMU, and reads as `m`
 pub record IsNext (sc : Scenario) (hands : List HandIn) (ear : Ear) (k n j : ℕ) (m : Message) : Type 0 where
   pub coming : Coming
   pub there : slice_get (ear.heard k) n ≡ Some coming

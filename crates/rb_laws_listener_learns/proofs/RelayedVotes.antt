@@ -164,7 +164,7 @@ biu-vote sc hands ear f records c i count t = by a.side refl ∙ sym (value-at-e
     a : SideAlike (seen_learned sc ear (suc f) records) (moment sc hands (3 * sync_slot_of sc.sizes + 3 + first_of_frame sc (suc f))).book.stages
     a = side_alike (seen_learned sc ear (suc f) records) (moment sc hands (3 * sync_slot_of sc.sizes + 3 + first_of_frame sc (suc f))).book.stages c.verdict
 
-    -- a good BIU, and its vote
+    -- some BIU is good
     b : GoodOne sc m3 Biu
     b = some_good sc hands n3 m3 s3.shared slot 2 s3.setting Biu
 
@@ -195,7 +195,7 @@ biu-vote sc hands ear f records c i count t = by a.side refl ∙ sym (value-at-e
     sender : sender_of sc.sizes s2.shared slot ≡ Node i
     sender = ap (sender_in (s2.shared.trusted Biu) (s2.shared.trusted Rmu) s2.shared.owners) role ∙ role-sender s2.shared.trusted s2.shared.owners Biu i trusted
 
-    -- what an RMU says
+    -- a good RMU says what it has got
     said : (j : ℕ) (st : NodeState) → IsGoodNode sc m Rmu j st
         → says sc.sizes Rmu j st slot (1 + 1) (word_at sc m slot j) ≡ Some (unwrap_or st.got Fault)
     said j st node =
@@ -300,7 +300,7 @@ biu-vote sc hands ear f records c i count t = by a.side refl ∙ sym (value-at-e
         not_sync : (slot == sync_slot_of sc.sizes) ≡ false
         not_sync = less-differs slot (sync_slot_of sc.sizes) below
 
-        -- what the listener saw
+        -- the listener saw what is recorded
         sight-is : (j : ℕ) → see_learned sc ear (suc f) records slot (judged_of sc (place_at sc m) (rows_of sc m)) j ≡ see_value (value_in (record_of records slot j))
         sight-is j =
             ap (λ x. if x then Nothing else timed_see sc ear (suc f) j (see_recorded sc.sizes records slot j)) idle

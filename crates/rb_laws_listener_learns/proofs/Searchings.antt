@@ -34,7 +34,7 @@ pass-by plan frame s Q cases = by (s.learns && (frame == s.lesson.frame)) refl (
 
 -- What stays.
 
--- the search is the same but for what is recorded
+-- the two searches differ in their records alone
 pub record RecordsOnly (a b : Search) : Type 0 where
   pub had : b.had ≡ a.had
   pub newest : b.newest ≡ a.newest

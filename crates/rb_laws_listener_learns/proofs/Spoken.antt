@@ -52,7 +52,7 @@ sends-said sc hands m j slot q st v e running node said =
           (said-sending sc.sizes sc.plan j st slot (q + 1) (word_at sc (moment sc hands m) slot j) v e.below said);
     }
 
--- what is recorded of it
+-- the value `v` is recorded of RMU `j` in the slot
 pub record IsValued (records : List Sense) (slot j : ℕ) (v : Heard) : Type 0 where
   pub value : value_in (record_of records slot j) ≡ Some v
   pub one : is_one (record_of records slot j) ≡ true

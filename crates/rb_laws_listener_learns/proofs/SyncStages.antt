@@ -24,7 +24,7 @@ use Rattle.rb_laws_agreement.proofs.SyncAgrees.{SyncSetting, agree_sync, book_sy
 use Rattle.rb_laws_agreement.proofs.SyncWindows.{tail_keeps_epoch}
 use Rattle.rb_laws_synchrony.proofs.SyncSteps.{IsPassedStage, passed_stage}
 
--- a stage of the sync slot that passes
+-- moment `k` is before a stage of the sync slot that passes
 pub record StageIs (sc : Scenario) (hands : List HandIn) (k : ℕ) (s : Shared) (q : ℕ) : Type 0 where
   pub next_is : next sc (moment sc hands k) ≡ moment sc hands (suc k)
   pub through : IsPassed sc (record { frame = (moment sc hands k).frame; slot = sync_slot_of sc.sizes; stage = q + 1 }) (rows_of sc (moment sc hands k)) (moment sc hands k).book
@@ -58,7 +58,7 @@ stage_is sc hands law k s q agree small at running =
               (agree_sync sc hands k (moment sc hands k) s q (sync_windows_are sc (moment sc hands k) q passes.stage.small passes.stage.at) set next_is);
         }
 
--- the node was good at moment k, and begins its next frame when it knew it then
+-- the node was good at moment `k`, and begins its next frame with the epoch that it knew then
 pub record TurnsAt (sc : Scenario) (hands : List HandIn) (k : ℕ) (me : Side) (i : ℕ) (now : NodeState) : Type 0 where
   pub st : NodeState
   pub was : IsGoodNode sc (moment sc hands k) me i st

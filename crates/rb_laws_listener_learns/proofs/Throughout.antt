@@ -1,4 +1,4 @@
--- An RMU is good in the whole run just where it is good in each slot to which the run comes.
+-- An RMU is good in the whole run if and only if it is good in each slot to which the run comes.
 use Rattle.std.proofs.Common.{◌≡◌, ℕ, ◌==◌, ◌&&◌, ◌||◌, not, nat_lt, Bool, true, false, Option, Some, None, get_or, refl, sym, ◌∙◌, ap, arith}
 use Rattle.std.proofs.lemmas.Bool.{and_from, lt-ltb}
 use Rattle.std.proofs.lemmas.Bool.Decides.{nat_tests}

@@ -54,7 +54,7 @@ use Rattle.rb_laws_listener_learns.proofs.Within.{IsExactAt}
 
 -- Moments of the learned frame.
 
--- the run comes to this moment, and it is of the frame
+-- the run comes to moment `n`, and it is of the frame
 pub record IsIn (sc : Scenario) (hands : List HandIn) (frame n : ℕ) : Type 0 where
   pub running : IsRunning (moment sc hands n)
   pub frame_is : (moment sc hands n).frame ≡ frame
@@ -135,7 +135,7 @@ told-sender Biu sizes i st h t =
 told-sender Rmu sizes i st h t =
     ap (sender_in (trusted_of Biu Rmu st) (trusted_of Rmu Rmu st) st.owners) (diagnosis-role sizes i h) ∙ ap (λ b. if b then Node i else Nobody) t
 
--- what an RMU says there
+-- RMU `j` says some value in the stage in which the trust in node `i` is heard
 pub record SaysSome (sizes : Sizes) (kind : Side) (i j : ℕ) (st : NodeState) (word : ℕ) : Type 0 where
   pub value : Heard
   pub is : says sizes Rmu j st (told_in kind sizes i) (told_stage kind + 1) word ≡ Some value
@@ -151,7 +151,7 @@ says-some sizes Rmu i j st word h t =
 
 -- What is known.
 
--- an RMU that is good in the whole run
+-- some RMU is good in the whole run
 pub record SomeGood (sc : Scenario) (hands : List HandIn) : Type 0 where
   pub j : ℕ
   pub good : is_always_good sc hands j ≡ true
@@ -169,7 +169,7 @@ trusts-true : (kind : Side) (sizes : Sizes) (records : List Sense) (i : ℕ) →
 trusts-true Biu sizes records i h most = and_from (nat_lt i sizes.bius) (are_most sizes (ones_in records i)) (lt-ltb i sizes.bius h) most
 trusts-true Rmu sizes records i h most = and_from (nat_lt i sizes.rmus) (are_most sizes (ones_in records (first_diagnosis_of Rmu sizes + i))) (lt-ltb i sizes.rmus h) most
 
--- whom the bus trusts the listener does
+-- the listener trusts each node that the bus trusts
 pub trusts-all : (sc : Scenario) (hands : List HandIn) → IsLawful sc → (ear : Ear) → are_most sc.sizes (set_of (is_always_good sc hands)) ≡ true → (learned : ℕ) (records : List Sense)
     → RecordsAreWhole sc hands ear learned records → IsRunning (before_stage sc hands learned (sync_slot_of sc.sizes) 2) → (n j : ℕ) (st : NodeState) → IsIn sc hands learned n → is_always_good sc hands j ≡ true
     → IsGoodNode sc (moment sc hands n) Rmu j st → (kind : Side) (i : ℕ) → has (trusted_of kind Rmu st) i ≡ true → trusts_of kind sc.sizes records i ≡ true
@@ -227,7 +227,7 @@ trusted-there sc hands law learned slot q below small few number is n j st here 
 
 -- Sets as numbers.
 
--- whom a good node trusts in a frame after the first is a set of nodes
+-- a good RMU's mask of trusted nodes has 16 bits in each frame after the first
 trusted-lt : (sc : Scenario) (hands : List HandIn) → IsLawful sc → (f n j : ℕ) (st : NodeState) → IsComplete sc hands f (sync_slot_of sc.sizes) → suc f * (windows_in sc.sizes + 1) ≤ n → IsIn sc hands (suc f) n
     → is_always_good sc hands j ≡ true → IsGoodNode sc (moment sc hands n) Rmu j st → (kind : Side) → trusted_of kind Rmu st < 2 ^ 16
 trusted-lt sc hands law f n j st complete le here good node kind =

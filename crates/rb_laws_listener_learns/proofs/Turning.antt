@@ -17,7 +17,7 @@ use Rattle.rb_laws_agreement.proofs.Invariant.{IsGoodNode, Shared}
 use Rattle.rb_laws_agreement.proofs.Places.{IsPlaced, good_before_slot, placed, running_earlier}
 use Rattle.rb_laws_agreement.proofs.SlotRuns.{next-frame, next-window}
 
--- the moment before the turn
+-- moment `n` is the one before the turn of the frame
 pub record EndOf (sc : Scenario) (hands : List HandIn) (frame : ℕ) : Type 0 where
   pub n : ℕ
   pub place : n ≡ frame * (windows_in sc.sizes + 1) + (3 * sync_slot_of sc.sizes + 4)

@@ -18,7 +18,7 @@ use Rattle.rb_laws_listener_learns.proofs.Latest.{not-yet}
 use Rattle.rb_laws_listener_learns.proofs.Learning.{IsFresh, fresh-at}
 use Rattle.rb_laws_listener_learns.proofs.Walks.{HoldsAt, HoldsIn}
 
--- what it hears then changes nothing
+-- what a waiting listener hears changes nothing
 hears-nothing : (sc : Scenario) (cs : List Coming) (had : ℕ) (first : First) → hears sc cs (now.Waiting had first) ≡ now.Waiting had first
 unfolding hear
 hears-nothing sc [] had first = refl

@@ -186,7 +186,7 @@ not-faulty sc hands law ear is i number b c j good k soon x from at le stamped f
 
 -- The decision.
 
--- what is known where a listener decides: it has what came since soon after the calls of the frame
+-- what is known when a listener decides: it has what came since soon after the calls of the frame
 -- before, and until the calls of the learned frame had come
 pub record HasLesson (sc : Scenario) (hands : List HandIn) (ear : Ear) (learned k n : ℕ) (s : Search) : Type 0 where
   pub whole : slice_get (ear.heard k) n ≡ None
@@ -326,7 +326,7 @@ never-spoilt sc hands law ear is run k n frame slot j in_time good h = by h.by
 
 -- Records.
 
--- a message that came since then is recorded
+-- a message that came since then is the one that is recorded at its place
 recorded-one : (sc : Scenario) (hands : List HandIn) → IsLawful sc → (ear : Ear) → IsEar sc ear → HearsTheRun sc hands ear → (since k n frame slot j : ℕ) → k < ear.ticks
     → ((at : ℕ) (c : Coming) → at ≤ k → c.from ≡ j → IsHeard ear at c → IsOfGood sc hands ear c) → (at i : ℕ) (m : Message) → since < at → IsEarlier at i k n
     → IsPlacedAt sc ear frame slot j at i m → (r : Sense) → IsNotedBy sc ear since k n frame slot j r → r ≡ One at m

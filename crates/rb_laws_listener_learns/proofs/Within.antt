@@ -86,7 +86,7 @@ in-time : (low then_at p f h l v z u d least most eps w : ℕ) → most ≡ leas
     → low + p + (f + h) * (u + d) + most + (u + d) + l * (u + d) + most + (u + d) + w * (u + d) < then_at + (l + h) * u + least
 in-time low then_at p f h l v z u d least most eps w e some c1 c2 c4 c7 wu wd later = omega (arith, e, some, c1, c2, c4, c7, wu, wd, later)
 
--- the first of them are sent so late
+-- the sending tick of a window after the first is at least l + h
 from-second : (k l h : ℕ) → 1 ≤ k → l + h ≤ k * l + h
 from-second k l h some = let le : 1 * l ≤ k * l = mul-le-mul_right l some in omega (arith, le)
 

@@ -52,7 +52,8 @@ use Rattle.rb_laws_listener_near.proofs.Tracking.{outnumbered}
 
 -- ---- what a listener takes
 
--- what it takes of each RMU, and when that came, by its clock. Of a good RMU it takes the call
+-- `taken` and `time` are what the listener takes from each RMU, and when it came: from a good RMU
+-- its call
 pub record TakesCalls (sc : Scenario) (m : Moment) (s : Shared) (clock : Timeline) (taken : ℕ → Option ℕ) (time : ℕ → ℕ) : Type 0 where
   pub trusts : (j : ℕ) → is_some (taken j) ≡ true → has (s.trusted Rmu) j ≡ true
   pub stamped : (j k : ℕ) → taken j ≡ Some k → (1 ≤ k) × (stamp_of clock (time j) ≡ k)
@@ -63,7 +64,7 @@ pub record TakesCalls (sc : Scenario) (m : Moment) (s : Shared) (clock : Timelin
 abbrev pub MostGood : Scenario → Moment → Type 0
 MostGood sc m = sc.sizes.rmus < 2 * how_many (is_good_now sc m Rmu)
 
--- if more than half of the numbers below `n` are good, fewer of them are not
+-- if more than half of the numbers below `n` are good, the others among them are fewer
 pub others_fewer : (n : ℕ) (good some : ℕ → Bool) → n ≤ 16 → ((j : ℕ) → j < 16 → good j ≡ true → j < n) → ((j : ℕ) → j < 16 → some j ≡ true → j < n) → n < 2 * how_many good
     → count_if (λ j. not (good j) && some j) (numbers 16) < count_if good (numbers 16)
 others_fewer n good some few below_good below_some most =
@@ -151,8 +152,8 @@ middle_past f (suc tick) late is = omega arith
 apart : (eps least most t x y : ℕ) → most ≡ least + eps → IsBetween (t + least) (t + most) x → IsBetween (t + least) (t + most) y → AreNear eps x y
 apart eps least most t x y e p q = record { above = omega (arith, e, p.most, q.least); under = omega (arith, e, p.least, q.most) }
 
--- what a listener and a good BIU took of an RMU that is not good came at near times, or neither
--- took anything
+-- the listener and a good BIU took something at near times from an RMU that is not good, or neither
+-- did
 abbrev pub TakesAlike : (sc : Scenario) (m : Moment) (s : Shared) → Windows sc m (sync_slot_of sc.sizes) 2 → (ℕ → Option ℕ) → (ℕ → ℕ) → Type 0
 TakesAlike sc m s ws taken time =
     (j : ℕ) → j < 16 → has (s.trusted Rmu) j ≡ true → is_good sc Rmu j m.frame (sync_slot_of sc.sizes) ≡ false → (i : ℕ) (b : NodeState) → IsGoodNode sc m Biu i b

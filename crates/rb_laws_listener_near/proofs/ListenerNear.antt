@@ -45,7 +45,7 @@ use Rattle.rb_laws_listener_near.proofs.Sides.{SideAlike, bius_alike, rmus_alike
 
 -- ---- whom the judge takes for suspects
 
--- the judge is told whom all trust
+-- the judge is told whom all good nodes trust
 trusted_told : (sc : Scenario) (hands : List HandIn) (n : ℕ) (m : Moment) (s : Shared) (c : IsPassedStage sc hands n m s 1) → verdict_of (stages_with sc m 1) ≡ None → (kind : Side)
     → trusted_now kind (stages_with sc m 1) ≡ s.trusted kind
 trusted_told sc hands n m s c none kind = go (present (in_order (rows_of sc m))) refl
@@ -73,7 +73,7 @@ heard-second sc hands n m s c = record { stage = c.stage; listening = refl; prem
 
 -- ---- what was seen
 
--- what the listener saw in stage 2 are the times of what it took
+-- the listener saw the times of what it took in stage 2
 pub record SawTimes (sc : Scenario) (m : Moment) (taken : ℕ → Option ℕ) (time : ℕ → ℕ) (seen : ℕ → JudgedStage → Option (ℕ → See)) : Type 0 where
   pub sight : ℕ → See
   pub here : seen (length m.book.stages) (judged_of sc (place_of sc m 1) (rows_of sc m)) ≡ Some sight
@@ -106,7 +106,7 @@ takes_alike sc hands n m s c none taken time seen saw alike j below t faulty i b
 
 -- ---- both
 
--- what is so of a listener in stage 2 of the sync slot
+-- the listener takes calls in stage 2 of the sync slot, and the premise with it holds
 pub record IsCalled (sc : Scenario) (m : Moment) (s : Shared) (clock : Timeline) (taken : ℕ → Option ℕ) (time : ℕ → ℕ) (seen : ℕ → JudgedStage → Option (ℕ → See)) : Type 0 where
   pub most : MostGood sc m
   pub steady : Steady (shortest_of sc.plan) (drift_of sc.plan) clock

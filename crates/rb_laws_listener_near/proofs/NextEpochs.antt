@@ -79,7 +79,7 @@ call_together sc hands n m s low c sync clock steady_clock l near = go found.hel
     here : (j : ℕ) → is_good_now sc m Biu j ≡ true → IsCaller sc m Biu 3 j
     here j g = caller sc hands n m s 2 Rmu (heard-third sc hands n m s c) j (ap (is_good sc Biu j m.frame) (sym (slot_last sc.sizes m.window 2 c.stage.at)) ∙ g)
 
-    -- the listener's call would be near each
+    -- the listener's call would be near that of each good BIU
     close : (j : ℕ) → is_good_now sc m Biu j ≡ true → AreNear (near_3 sc.plan) (time_of clock (l + sc.plan.v)) (calls_at sc m j)
     close j g =
         let by : IsCaller sc m Biu 3 j = here j g in
@@ -133,8 +133,8 @@ call_together sc hands n m s low c sync clock steady_clock l near = go found.hel
 
 -- The next frame.
 
--- all good nodes know when it begins, from this time on and within p, and so would a node with this
--- middle
+-- all good nodes begin the next frame from time `later` on and within p, and so would a node with
+-- this middle
 pub record BeginTogether (sc : Scenario) (m : Moment) (clock : Timeline) (epoch : ℕ) : Type 0 where
   pub later : ℕ
   pub good : (me : Side) (i : ℕ) (st : NodeState) → IsGoodNode sc m me i st → KnowsEpoch sc me i st later

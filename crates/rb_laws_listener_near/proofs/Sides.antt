@@ -1,5 +1,5 @@
--- What the premise with a listener says where it holds: of one kind no node that is not good was
--- seen unlike, by the listener neither.
+-- What the premise with a listener says if it holds: of one kind no node that is not good was seen
+-- unlike, by the listener neither.
 use Rattle.std.proofs.Common.{◌≡◌, ℕ, ◌<◌, ◌&&◌, ◌⊎◌, inl, inr, not, Bool, true, false, if◌then◌else◌, List, [], ◌∷◌, length, Option, Some, None, refl, sym, ◌∙◌, ap, arith}
 use Rattle.std.specs.List.{list_any}
 use Rattle.std.proofs.lemmas.Bool.{and_from, not_from_false, or_from}
@@ -64,7 +64,7 @@ bius_alike seen (s ∷ earlier) j h =
     (or_neither_first (was_unlike Biu j s) (unlike_some Biu j s heard.seen) (or_neither_first (was_unlike_with Biu j heard) (list_any (was_unlike_with Biu j) rest) h))
     (bius_alike seen earlier j (or_neither_second (was_unlike_with Biu j heard) (list_any (was_unlike_with Biu j) rest) h))
 
--- no good BIU saw it unlike the listener
+-- no good BIU saw RMU `j` unlike the listener
 seen_alike : (s : JudgedStage) (sight : ℕ → See) (j : ℕ) → unlike_some Rmu j s (Some sight) ≡ false
     → (i : ℕ) → i < 16 → has (s.good Biu) i ≡ true → are_alike s.eps (s.sight Biu i j) (sight j) ≡ true
 seen_alike s sight j none i small good =
@@ -77,7 +77,7 @@ seen_alike s sight j none i small good =
           cc
     ]
 
--- In the newest stage, where the listener is a receiver, it saw an RMU as each good BIU did
+-- in a newest stage in which the listener is a receiver, it saw an RMU as each good BIU did
 pub rmus_alike : (seen : ℕ → JudgedStage → Option (ℕ → See)) (s : JudgedStage) (earlier : List JudgedStage) (j : ℕ) (sight : ℕ → See)
     → seen (length earlier) s ≡ Some sight → list_any (was_unlike_with Rmu j) (heard_stages seen (s ∷ earlier)) ≡ false
     → (i : ℕ) → i < 16 → has (s.good Biu) i ≡ true → are_alike s.eps (s.sight Biu i j) (sight j) ≡ true

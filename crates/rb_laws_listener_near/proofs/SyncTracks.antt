@@ -33,7 +33,7 @@ use Rattle.rb_laws_listener_near.proofs.Tracking.{Tracks, stays_good}
 
 -- ---- windows of the sync slot
 
--- a node that changes in none of these is alike as before
+-- a node that changes in none of these parts holds alike as before
 alike_still : (a b c : NodeState) → c.frame ≡ a.frame → c.near ≡ a.near → c.far.trusted ≡ a.far.trusted → c.votes ≡ a.votes → c.owners ≡ a.owners → HoldAlike a b → HoldAlike c b
 alike_still a b c e1 e2 e3 e4 e5 h = record { frame = e1 ∙ h.frame; near = e2 ∙ h.near; far = e3 ∙ h.far; votes = e4 ∙ h.votes; owners = e5 ∙ h.owners }
 
@@ -54,7 +54,7 @@ like_next sc hands n m s q ws c st like i now h =
     alike_turned st from.st now (sym stays.frame ∙ ap (λ x. x.frame) from.is) (sym stays.near ∙ ap (λ x. x.near) from.is) (sym stays.trusted ∙ ap (λ x. x.far.trusted) from.is)
     (sym left.votes ∙ ap (λ x. x.votes) from.is) (sym left.owners ∙ ap (λ x. x.owners) from.is) (like i from.st from.was)
 
--- no tick of the window, as it may be with the tail
+-- a listener keeps track over a window that has no tick, as the tail may have none
 pub tracks_over : (sc : Scenario) (hands : List HandIn) (n : ℕ) (m : Moment) (s : Shared) (q : ℕ) (ws : Windows sc m (sync_slot_of sc.sizes) (q + 1)) → SyncSetting sc hands n m s q ws
     → (st : NodeState) → Tracks sc m st → Tracks sc (next sc m) st
 tracks_over sc hands n m s q ws c st t = record {
@@ -62,21 +62,21 @@ tracks_over sc hands n m s q ws c st t = record {
   spares = λ j good. t.spares j (was_good sc m Rmu j good);
 }
 
--- what a listener makes of the window is like them, too
+-- after the close of a stage of the sync slot a listener is still like the good BIUs
 pub like_sync : (sc : Scenario) (hands : List HandIn) (n : ℕ) (m : Moment) (s : Shared) (q : ℕ) (ws : Windows sc m (sync_slot_of sc.sizes) (q + 1)) → SyncSetting sc hands n m s q ws
     → (st : NodeState) → IsLike sc m st → (first : ℕ) (sense : ℕ → Sense) → IsLike sc (next sc m) (close_sync sc.sizes Biu st (q + 1) first sense).state
 unfolding close_sync sync_outcome_of
 like_sync sc hands n m s q ws c st like first sense i now h =
     alike_still st now (close_sync sc.sizes Biu st (q + 1) first sense).state refl refl refl refl refl (like_next sc hands n m s q ws c st like i now h)
 
--- an RMU that does no wrong in it is not accused
+-- an RMU that does no wrong in the stage is not accused
 pub spares_sync : (sizes : Sizes) (st : NodeState) (stage first : ℕ) (sense : ℕ → Sense) (j : ℕ) → j < 16 → does_wrong (expects_call Biu st stage j) (sense j) ≡ false → has st.far.direct j ≡ false
     → has (close_sync sizes Biu st stage first sense).state.far.direct j ≡ false
 unfolding close_sync sync_outcome_of
 spares_sync sizes st stage first sense j below right clear =
     others_stay (has_evidence st.far (expects_call Biu st stage) sense) st.far j below (right_is_no_evidence st.far (expects_call Biu st stage) sense j right) ∙ clear
 
--- what a listener makes of the window of which this came
+-- a listener keeps track over a stage of the sync slot in which no good RMU does wrong
 pub tracks_sync : (sc : Scenario) (hands : List HandIn) (n : ℕ) (m : Moment) (s : Shared) (q : ℕ) (ws : Windows sc m (sync_slot_of sc.sizes) (q + 1)) → SyncSetting sc hands n m s q ws
     → (st : NodeState) → Tracks sc m st → (first : ℕ) (sense : ℕ → Sense) → ((j : ℕ) → stays_good sc m j ≡ true → does_wrong (expects_call Biu st (q + 1) j) (sense j) ≡ false)
     → Tracks sc (next sc m) (close_sync sc.sizes Biu st (q + 1) first sense).state

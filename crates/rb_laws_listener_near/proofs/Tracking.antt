@@ -1,5 +1,5 @@
 -- A listener before a window below the sync slot, beside nodes that agree: what it takes of good
--- RMUs, and what it votes where they say one value.
+-- RMUs, and what it votes if they say one value.
 use Rattle.std.proofs.Common.{◌≡◌, ℕ, ◌+◌, ◌*◌, ◌<◌, ◌≤◌, ◌&&◌, not, nat_lt, Bool, true, false, List, Option, Some, is_some, length, slice_get, sym, ◌∙◌, ap, arith}
 use Rattle.std.proofs.lemmas.Bool.{lt-ltb, not-true}
 use Rattle.rb_base.specs.Counting.{count_if, numbers}
@@ -38,7 +38,7 @@ pub record Tracks (sc : Scenario) (m : Moment) (st : NodeState) : Type 0 where
   pub like : (i : ℕ) (b : NodeState) → IsGoodNode sc m Biu i b → HoldAlike st b
   pub spares : (j : ℕ) → is_good_now sc m Rmu j ≡ true → has st.far.direct j ≡ false
 
--- RMU j is good, and will be when the window has passed
+-- RMU `j` is good in the next moment
 abbrev pub stays_good : Scenario → Moment → ℕ → Bool
 stays_good sc m j = is_good_now sc (next sc m) Rmu j
 
@@ -52,7 +52,7 @@ Senses sc m slot q sense =
 abbrev pub MostStay : Scenario → Moment → Type 0
 MostStay sc m = sc.sizes.rmus < 2 * how_many (stays_good sc m)
 
--- what it holds of what all good nodes hold
+-- the state holds what all good nodes share
 pub record Held (sc : Scenario) (m : Moment) (s : Shared) (st : NodeState) : Type 0 where
   pub frame : st.frame ≡ m.frame
   pub near : st.near ≡ s.trusted Biu

@@ -41,7 +41,7 @@ use Rattle.rb_laws_listener_near.proofs.Tracking.{Held, MostStay, Senses, Tracks
 
 -- Whom the judge takes for suspects.
 
--- the judge is told whom all trust
+-- the judge is told whom all good nodes trust
 trusted_told : (sc : Scenario) (hands : List HandIn) (n : ℕ) (m : Moment) (s : Shared) (slot q : ℕ) → Setting sc hands n m s slot q → (kind : Side)
     → trusted_now kind (stages_with sc m slot (q + 1)) ≡ s.trusted kind
 trusted_told sc hands n m s slot q c kind = go (present (in_order (rows_of sc m))) refl

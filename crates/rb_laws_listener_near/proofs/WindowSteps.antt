@@ -63,7 +63,7 @@ same_owners sizes a b slot stage v w near owners votes = go ((stage == 3) && (sl
 
 -- The step.
 
--- what is so of a listener's window
+-- the listener senses the window, the premise with it holds, and it saw what it took
 pub record IsWatched (sc : Scenario) (m : Moment) (slot q : ℕ) (st : NodeState) (sense : ℕ → Sense) (seen : ℕ → JudgedStage → Option (ℕ → See)) : Type 0 where
   pub most : MostStay sc m
   pub tracks : Tracks sc m st

@@ -33,7 +33,7 @@ step-ended : (sc : Scenario) (w : World) → w.book.ended ≡ true → first_ste
 unfolding first_step go_on
 step-ended sc w h = ap (step_with sc w) (due-ended sc w h) ∙ ap (λ b. elim b as (λ _. World) [ true ↦ w | false ↦ settle sc ByItself 2 w ]) h
 
--- the world stays, and nothing is given
+-- from step `m` to step `n` the world stays, and nothing is given
 pub record Stays (sc : Scenario) (name : NodeName) (m n : ℕ) : Type 0 where
   pub world : first_run sc n ≡ first_run sc m
   pub given : given_in sc name n ≡ given_in sc name m

@@ -1,5 +1,5 @@
 -- For the law of record and replay: what a text takes of the items of a list, each with its number,
--- where it takes something of one alone.
+-- if it takes something of one alone.
 use Rattle.std.proofs.Common.{◌≡◌, ℕ, zero, suc, ◌+◌, ◌≤◌, ◌==◌, false, List, [], ◌∷◌, ◌++◌, refl, ap, ◌∙◌, arith, Option, Some, None, slice_get}
 use Rattle.std.specs.List.{cons_option}
 use Rattle.std.specs.Prelude.{flat_map, filter_map, map}
@@ -13,7 +13,7 @@ abbrev pub gather : {X : Type 0} → ℕ → (ℕ → X → List ℕ) → List X
 gather n take [] = []
 gather n take (x ∷ xs) = take n x ++ gather (n + 1) take xs
 
--- what is taken of something that may be missing
+-- what is taken of a value, and nothing if there is none
 abbrev pub if_there : {X : Type 0} → (X → List ℕ) → Option X → List ℕ
 if_there take None = []
 if_there take (Some x) = take x
@@ -54,7 +54,7 @@ present-append [] ys = refl
 present-append (None ∷ xs) ys = present-append xs ys
 present-append (Some x ∷ xs) ys = ap (λ l. x ∷ l) (present-append xs ys)
 
--- if the items themselves are made
+-- what is taken of made items is what is taken of each item as it is made
 pub gather-made : {X Y : Type 0} (n : ℕ) (take : ℕ → Y → List ℕ) (make : ℕ → X → Y) (xs : List X)
     → gather n take (map_from n make xs) ≡ gather n (λ k x. take k (make k x)) xs
 gather-made n take make [] = refl

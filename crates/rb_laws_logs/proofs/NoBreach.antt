@@ -52,7 +52,7 @@ number-below sc p h =
     let more : (m.frame + 1) * n ≡ m.frame * n + n = times-more m.frame n in
     omega (arith, at.0, at.1, up, more)
 
--- the frame after the last begins with it
+-- moment `p` is the start of the frame after the last
 pub record IsLastBegin (sc : Scenario) (p : ℕ) : Type 0 where
   pub frame : (moment sc [] p).frame ≡ sc.frames
   pub window : (moment sc [] p).window ≡ 0
@@ -173,7 +173,7 @@ breaks-not sc lawful none b q off =
 
 -- The worlds.
 
--- what is chosen in each step
+-- the choice in a step: the first due event, or to go on without one
 abbrev pub choice_with : List Due → Choice
 choice_with [] = GoOn
 choice_with (d ∷ ds) = Take 0

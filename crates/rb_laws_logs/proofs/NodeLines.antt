@@ -44,7 +44,7 @@ row_in sc m me i st = (go_through sc m (sent_in sc m) me i st (window_in sc m me
 abbrev pub state_of : NodeName → Moment → Option NodeState
 state_of name m = slice_get (of_kind (kind_of name) m.nodes) (index_of name)
 
--- what it tells of a moment's window
+-- what the node tells of a moment's window
 abbrev pub window_text : Scenario → NodeName → Moment → List ℕ
 window_text sc name m =
     if_there (λ st. line_text m.frame (slot_numbered sc.sizes m.window) (line_in (row_in sc m (kind_of name) (index_of name) st))) (state_of name m)
@@ -52,11 +52,11 @@ window_text sc name m =
 abbrev pub block_text : Scenario → NodeName → Moment → List ℕ
 block_text sc name m = if_there (λ st. epoch_lines name (Some (epoch_of sc.sizes (kind_of name) st))) (state_of name m)
 
--- what it tells between two moments in a row
+-- what the node tells between two moments in a row
 abbrev pub step_text : Scenario → NodeName → Moment → Moment → List ℕ
 step_text sc name m next = if nat_lt m.window (windows_in sc.sizes) then window_text sc name m else block_text sc name next
 
--- all that it tells up to the start of a moment's window
+-- all that the node tells up to the start of a moment's window
 abbrev pub told_up_to : Scenario → NodeName → ℕ → List ℕ
 told_up_to sc name zero = block_text sc name (moment sc [] 0)
 told_up_to sc name (suc p) = told_up_to sc name p ++ step_text sc name (moment sc [] p) (moment sc [] (suc p))
@@ -96,7 +96,7 @@ newest-append newest (Breach place cause ∷ xs) ys = newest-append newest xs ys
 
 -- A slot.
 
--- what a node that is not the one tells leaves no line
+-- what another node tells leaves no line of the named one
 other-line : (name : NodeName) (frame slot i : ℕ) → same_node (Biu i) name ≡ false → (o : Option SlotLine) → ((l : SlotLine) → o ≡ Some l → l.receiver ≡ i)
     → if_there (delivered_by name frame slot) o ≡ []
 other-line name frame slot i other None of = refl
@@ -153,7 +153,7 @@ silent-window sc m name st there silent =
 
 -- A frame.
 
--- the node's own among what all tell of the start of a frame
+-- the part of the named node is taken of all that is told of the start of a frame
 pub of-one : (sc : Scenario) (frame : ℕ) (ports : List PortState) (nodes : Each NodeState) (name : NodeName) (st : NodeState) (take : Begun → List ℕ)
     → slice_get (of_kind (kind_of name) nodes) (index_of name) ≡ Some st → is_good sc (kind_of name) (index_of name) frame 0 ≡ true
     → ((side : Side) (k : ℕ) (z : NodeState) → is_node (kind_of name) (index_of name) side k ≡ false → take (begun_of sc ports side k (epoch_of sc.sizes side z)) ≡ [])
@@ -200,7 +200,7 @@ named-itself : (name : NodeName) → same_node (name_of (kind_of name) (index_of
 named-itself (Biu i) = eq_self i
 named-itself (Rmu i) = eq_self i
 
--- the record of a frame
+-- the record of a frame has the lines of the node, and its block is the newest
 pub record FrameLines (sc : Scenario) (name : NodeName) (frame newest : ℕ) (st : NodeState) (records : List Record) : Type 0 where
   pub lines : lines_after name newest records ≡ epoch_lines name (Some (epoch_of sc.sizes (kind_of name) st))
   pub newest_is : newest_after newest records ≡ frame

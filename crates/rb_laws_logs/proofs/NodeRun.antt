@@ -72,7 +72,7 @@ go-on-sites sc w = by w.book.ended
     by true = refl
     by false = settle-sites sc ByItself 2 w
 
--- what a step makes of the sites
+-- a step leaves the sites, or they are those after the first due event
 pub data StepSites (sc : Scenario) (n : ℕ) : Type 0 where
   Still : (none : slice_get (due_of sc (first_run sc n)) 0 ≡ None) (same : (first_run sc (suc n)).sites ≡ (first_run sc n).sites) → StepSites sc n
   Taken : (d : Due) (first : slice_get (due_of sc (first_run sc n)) 0 ≡ Some d) (is : (first_run sc (suc n)).sites ≡ (happens sc (first_run sc n) d).sites) → StepSites sc n

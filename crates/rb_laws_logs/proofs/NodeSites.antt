@@ -29,7 +29,7 @@ use Rattle.rb_laws_events.proofs.ToldSoFar.{entered-core}
 
 -- An event elsewhere.
 
--- what stays of a site
+-- the core and the pending tick stay
 pub record Unmoved (s z : Site) : Type 0 where
   pub core : z.core ≡ s.core
   pub ahead : z.ahead ≡ s.ahead

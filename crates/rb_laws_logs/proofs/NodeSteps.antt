@@ -55,7 +55,7 @@ use Rattle.rb_laws_logs.proofs.Worlds.{MayTake, first-due, may-take, no-hands, t
 
 -- Where the node stands.
 
--- the moment in which the world has it is the one that is known
+-- the world has the node in moment `p`
 pub record Here (sc : Scenario) (name : NodeName) (w : World) (h : StandsInRounds sc w) (s : Site) (p : ℕ) (st : NodeState) (a : Timed) : Type 0 where
   pub is : h.at (kind_of name) (index_of name) ≡ p
   pub sent : Side → ℕ → ℕ → Bool
@@ -75,7 +75,7 @@ here sc name w h s p st a ticks empty there at ahead =
     let st_is : up.st ≡ st = same_Some up.st st (sym moved.state ∙ at.state) in
     record { is = p_is; sent = sent; stands = subst (λ z. NodeStands sc [] sent h.now me i p s z a) st_is moved }
 
--- what a tick is there
+-- the tick leaves the window open, or closes it as its last one
 record Ticked (sc : Scenario) (hands : List HandIn) (w : World) (me : Side) (i p : ℕ) (s : Site) (a : Timed) (x : Act) : Type 0 where
   sent : Side → ℕ → ℕ → Bool
   st : NodeState
@@ -93,7 +93,7 @@ ticked sc w at me i s a x h = record {
 
 -- A tick of its own.
 
--- the lines of the tick come after those before it
+-- with the lines of the tick behind `lines` the node has told all up to moment `q`
 record ToldBy (sc : Scenario) (name : NodeName) (lines : List ℕ) (frames q : ℕ) (begins : Option Epoch) (x : Act) : Type 0 where
   told : (lines ++ act_lines name x) ++ epoch_lines name begins ≡ told_up_to sc name q
   count : frames + frames_with x.epoch + frames_with begins ≡ (moment sc [] q).frame
@@ -112,7 +112,7 @@ after-told sc name n s z x u after =
       count = ap (λ o. u.frames + frames_with o + k) after.epoch ∙ ap (λ m. m + k) u.count ∙ after.count;
     }
 
--- the node goes on
+-- a node in a frame of the scenario is still under way after the tick
 still-underway : (sc : Scenario) (name : NodeName) (n : ℕ) (s z : Site) (x : Act) (e : Event) (u : Underway sc name n s) → AfterTick sc name u.p u.st u.a x z → z.core ≡ x.core
     → given_next sc name (first_run sc n) ≡ e ∷ [] → Makes sc.sizes sc.plan name (kind_of name) (index_of name) s.core (given e) x.core (act_lines name x) (frames_with x.epoch)
     → (moment sc [] u.p).frame < sc.frames → Underway sc name (suc n) z
@@ -264,7 +264,7 @@ arrival-core : (sc : Scenario) (me : Side) (i place : ℕ) (c : Coming) (s : Sit
 unfolding after_arrival
 arrival-core sc me i place c s = (refl, refl)
 
--- the node stands where it stood
+-- after an arrival the node stands where it stood
 pub arrival-stands : (sc : Scenario) (name : NodeName) (n place : ℕ) (c : Coming) (s : Site) → IsLawful sc → EndsWithoutBreach sc → site_of name (first_run sc n) ≡ Some s → (u : Underway sc name n s)
     → slice_get (due_of sc (first_run sc n)) 0 ≡ Some (record { side = kind_of name; node = index_of name; pending = Arrival place c })
     → StandsAt sc (kind_of name) (index_of name) u.p (after_arrival sc (kind_of name) (index_of name) place c s).core u.st u.a
@@ -383,7 +383,7 @@ node-step sc name n lawful none good node = by (step-sites sc n)
           ];
         }
 
-    -- the event of a node that is done is not given to it any more
+    -- an event is not given to a node that is done
     when-done : (d : Due) → slice_get (due_of sc w) 0 ≡ Some d → (first_run sc (suc n)).sites ≡ (happens sc w d).sites → IsDone sc name n s → NodeAt sc name (suc n)
     when-done d first is over =
         let due : IsDue w d = first-due sc n d first in

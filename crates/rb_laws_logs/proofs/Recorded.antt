@@ -190,7 +190,7 @@ next-given sc name n node = by (step-sites sc n)
       | inr done ↦ over d first done
     ]
 
--- It can happen.
+-- What a node is given can happen.
 
 can-happen : (sc : Scenario) (ports : List PortState) (me : Side) (i t : ℕ) (s : Site) (p : Pending) → IsLawful sc → IsReady t s p → Every (λ (c : Coming). c.from < count_of (other me) sc.sizes) s.coming
     → AreSized s.coming → MayHappen (count_of (other me) sc.sizes) (event_of sc ports me i s.core p).kind

@@ -210,7 +210,7 @@ settle-end sc way (suc n) w h = by (settle-end sc way n (settle_next sc way w)) 
     by rest None h = before (rest h)
     by rest (Some r) h = next-end sc way w h
 
--- a step, by what it settles
+-- `EndsNext` holds if the end comes next after a step without an event
 go-on-end : (sc : Scenario) (w : World) → (go_on sc w).book.upcoming ≡ End → EndsNext sc w
 unfolding go_on
 go-on-end sc w = by w.book.ended

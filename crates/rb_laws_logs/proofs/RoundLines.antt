@@ -64,7 +64,7 @@ not-over sc p h = by ((moment sc [] p).frame == sc.frames) refl
     by true e =
         true-false (sym (ap (λ b. (stepped sc [] (moment sc [] p) b (nat_lt (moment sc [] p).window (windows_in sc.sizes))).book.ended) e ∙ ended-end (moment sc [] p).book) ∙ h)
 
--- the node is good in each moment of it
+-- a node that is good throughout is good at the start of each frame
 pub good-begin : (sc : Scenario) (name : NodeName) (frame : ℕ) → IsGoodThroughout sc name → frame ≤ sc.frames → is_good sc (kind_of name) (index_of name) frame 0 ≡ true
 good-begin sc name frame good le = elim (cases_lt frame sc.frames) [
   | inl lt ↦ good_before sc (kind_of name) (index_of name) frame sc.frames 0 0 lt good
@@ -157,7 +157,7 @@ pub record AreTold (sc : Scenario) (name : NodeName) (p : ℕ) : Type 0 where
   pub lines : lines_after name 0 (moment sc [] p).book.given ++ waiting sc name (moment sc [] p) ≡ told_up_to sc name p
   pub newest : newest_after 0 (moment sc [] p).book.given ≡ (moment sc [] p).frame
 
--- what a step adds to the records
+-- a step adds what the node tells to the records, or to what waits for one
 pub record Adds (sc : Scenario) (name : NodeName) (m next : Moment) : Type 0 where
   pub more : List Record
   pub given : next.book.given ≡ m.book.given ++ more
@@ -200,7 +200,7 @@ stage-book sc place rows b = by b.ended refl (verdict_of stages)
 all-empty : (a b c d : List ℕ) → a ≡ [] → b ≡ [] → c ≡ [] → d ≡ [] → a ++ b ≡ c ++ d
 all-empty a b c d e f g h = rw (e, f, g, h) refl
 
--- a slot's record, by whether it comes
+-- the record of a slot adds its lines if it is given, and nothing else
 slot-record : (name : NodeName) (newest frame slot : ℕ) (lines : List SlotLine) (b : Bool)
     → (lines_after name newest (if b then Slot frame slot lines ∷ [] else []) ≡ (if b then flat_map (delivered_by name frame slot) lines else []))
     × (newest_after newest (if b then Slot frame slot lines ∷ [] else []) ≡ newest)
@@ -237,7 +237,7 @@ counts sizes n = record {
     and-true true = refl
     and-true false = refl
 
--- what a stage adds
+-- a stage adds what its window told
 stage-adds : (sc : Scenario) (name : NodeName) (p : ℕ) → HasState sc name (moment sc [] p) → (moment sc [] p).window < stages_in sc.sizes
     → (moment sc [] (suc p)).book.ended ≡ false → newest_after 0 (moment sc [] p).book.given ≡ (moment sc [] p).frame
     → Adds sc name (moment sc [] p) (moment sc [] (suc p))

@@ -63,7 +63,7 @@ plus-none n = omega arith
 
 -- Begins.
 
--- what a node says of its frame does not change within it
+-- what a node says of the convicted nodes does not change within a frame
 convicted-stay : (sizes : Sizes) (side me : Side) (a b : NodeState) → Stays a b → convicted_of sizes side me b ≡ convicted_of sizes side me a
 convicted-stay sizes Biu Biu a b h = rw (h.near) refl
 convicted-stay sizes Rmu Rmu a b h = rw (h.near) refl
@@ -89,15 +89,14 @@ begin-stays sizes me a b k h =
     ap (λ t. elim (t == k) as (λ _. Option Epoch) [ true ↦ Some (epoch_of sizes me b) | false ↦ None ]) h.epoch
     ∙ ap (λ e. elim (a.epoch == k) as (λ _. Option Epoch) [ true ↦ Some e | false ↦ None ]) (epoch-stays sizes me a b h)
 
--- no frame begins later
+-- no frame begins with a tick after the epoch
 none-begins : (sizes : Sizes) (me : Side) (st : NodeState) (k : ℕ) → st.epoch < k → epoch_at sizes me st k ≡ None
 none-begins sizes me st k h = ap (λ b. elim b as (λ _. Option Epoch) [ true ↦ Some (epoch_of sizes me st) | false ↦ None ]) (less-differs st.epoch k h)
 
 pub now-begins : (sizes : Sizes) (me : Side) (st : NodeState) (k : ℕ) → st.epoch ≡ k → epoch_at sizes me st k ≡ Some (epoch_of sizes me st)
 now-begins sizes me st k h = ap (λ b. elim b as (λ _. Option Epoch) [ true ↦ Some (epoch_of sizes me st) | false ↦ None ]) (eq-eqb st.epoch k h)
 
--- a node that is not in a frame yet whose moment it is in turns with its pending tick, which is the
--- frame's first
+-- moment `p` is the first window of the frame, and the pending tick is the node's epoch
 pub record Turns (sc : Scenario) (p frame : ℕ) (st : NodeState) (a : Timed) : Type 0 where
   pub first : st.epoch ≡ a.tick
   pub window : (moment sc [] p).window ≡ 0
@@ -162,7 +161,7 @@ delivered-text sc name p sent ports s st a x there frame closes =
 
 -- After a tick.
 
--- where a node stands after a tick, and what it has told by then
+-- after the tick the node stands in moment `q`, and with the tick it has told all up to there
 pub record AfterTick (sc : Scenario) (name : NodeName) (p : ℕ) (st : NodeState) (a : Timed) (x : Act) (z : Site) : Type 0 where
   pub q : ℕ
   pub then_st : NodeState
@@ -223,8 +222,8 @@ frame-step sc name p h =
     ap (λ l. told_up_to sc name p ++ l) (cond-false (nat_lt (moment sc [] p).window (windows_in sc.sizes)) (window_text sc name (moment sc [] p)) (block_text sc name (moment sc [] (suc p)))
     (le-ltb (moment sc [] p).window (windows_in sc.sizes) h))
 
--- where a node stands after it has closed a window: in the next window of the frame, or at the
--- start of the next frame
+-- a node that has closed a window is in the next window of the frame, or at the start of the next
+-- frame
 pub data Place (sc : Scenario) (name : NodeName) (p q : ℕ) : Type 0 where
   Inside : (same : (moment sc [] q).frame ≡ (moment sc [] p).frame) (some : 1 ≤ (moment sc [] q).window) (within : (moment sc [] q).window ≤ stages_in sc.sizes)
       (told : told_up_to sc name q ≡ told_up_to sc name p ++ window_text sc name (moment sc [] p)) → Place sc name p q
@@ -274,7 +273,7 @@ from-last sc name p ticks good inside h =
     past-exact : (n s : ℕ) → 3 * s ≤ n → (nat_lt n (3 * s) && (n % 3 == 1)) ≡ false
     past-exact n s h = ap (λ b. b && (n % 3 == 1)) (le-ltb n (3 * s) h)
 
--- the place of one that has closed the window of moment p
+-- a node that has closed the window of moment `p` has its place in moment `q`
 closes-to : (sc : Scenario) (name : NodeName) (p q : ℕ) → HasTicks sc.plan → IsGoodThroughout sc name → (moment sc [] p).frame < sc.frames → (moment sc [] p).window ≤ stages_in sc.sizes
     → (q ≡ next_stage sc.sizes (moment sc [] p) p) ⊎ ((q ≡ suc p) × ((moment sc [] q).window ≡ stages_in sc.sizes)) → Place sc name p q
 closes-to sc name p q ticks good inside within (inr tail) =
@@ -301,7 +300,7 @@ closes-to sc name p q ticks good inside within (inl stage) =
       ]
     ]
 
--- the node is good there
+-- the node is good in its place
 good-there : (sc : Scenario) (name : NodeName) (p q : ℕ) → IsGoodThroughout sc name → (moment sc [] p).frame < sc.frames → Place sc name p q
     → is_good_at sc (moment sc [] q) (kind_of name) (index_of name) ≡ true
 good-there sc name p q good inside (Inside same some within told) = good-inside sc name q good (omega (arith, same, inside))
@@ -310,7 +309,7 @@ good-there sc name p q good inside (Next frame first told) =
     ap (λ w. is_good sc (kind_of name) (index_of name) (moment sc [] q).frame (slot_numbered sc.sizes w)) first
     ∙ ap (is_good sc (kind_of name) (index_of name) (moment sc [] q).frame) z ∙ good-begin sc name (moment sc [] q).frame good (omega (arith, frame, inside))
 
--- what it has told by then
+-- the text and the frame that begins are all that the node tells between moments `p` and `q`
 pub record ToldThere (sc : Scenario) (name : NodeName) (p q : ℕ) (text : List ℕ) (begins : Option Epoch) : Type 0 where
   pub told : told_up_to sc name p ++ (text ++ epoch_lines name begins) ≡ told_up_to sc name q
   pub count : (moment sc [] p).frame + frames_with begins ≡ (moment sc [] q).frame

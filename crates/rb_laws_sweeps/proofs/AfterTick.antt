@@ -122,8 +122,7 @@ span-first sizes plan me st k span e = by (it.first == k) refl e
         none-some : (s : Span) → None ≡ Some s → ⊥
         none-some s e = cc
 
--- what is known of a node that goes on after a tick at time t: all that comes to it comes later,
--- and its next tick too
+-- all that comes to the node comes after time `t`, and so does its next tick
 pub record Later (t : ℕ) (s : Site) : Type 0 where
   pub coming : Every (λ c. t + 1 ≤ c.time) s.coming
   pub tick : (b : Timed) → s.ahead ≡ Some b → t + 1 ≤ b.time

@@ -176,7 +176,7 @@ takes-one sc me i until s z p e lt had may t =
           (p.coming.from == j) (due-is j until p.coming lt);
     }
 
--- what is left may be heard after it
+-- after the first arrival what is left may still be heard
 heard-after : (sc : Scenario) (me : Side) (i until : ℕ) (s : Site) (p : Placed) → first_of s.coming ≡ Some p → p.coming.time < until
     → s.core.had < 2 ^ 31 → Every (IsHeardIfDue sc me i until) s.coming
     → ((after_arrival sc me i p.place p.coming s).core.had < 2 ^ 31) × Every (IsHeardIfDue sc me i until) (after_arrival sc me i p.place p.coming s).coming

@@ -155,7 +155,7 @@ none-begins d rest e = absurd (no d rest e)
     no : {X : Type 0} (d : X) (rest : List X) → [] ≡ d ∷ rest → ⊥
     no d rest e = cc
 
--- a tick at this time is ready where nothing else is
+-- a tick at time `t` is among what is ready at that time
 tick-there : {P : Type 0} (me : Side) (i t : ℕ) (o : Option Timed) (a : Timed) → o ≡ Some a → a.time ≡ t → tick_at me i t o ≡ [] → P
 tick-there me i t o a e time none =
     none-begins (record { side = me; node = i; pending = Tick a.tick }) []

@@ -29,7 +29,7 @@ other-first a b e = grind (arith, nat_tests)
 
 -- The first.
 
--- the first of c and what comes after it, by the test
+-- arrival `c` if `b` holds, and else the first of the others
 abbrev pub pick : Coming → Placed → Bool → Placed
 pick c q b = if b then (record { place = 0; coming = c }) else (record { place = suc q.place; coming = q.coming })
 
@@ -94,7 +94,7 @@ first-is (suc n) c (x ∷ xs) s all before =
     ap (λ o. Some (first_with x o)) (first-is n c xs s all.1 (λ m d lt at. before (suc m) d (omega (arith, lt)) at))
     ∙ ap (λ b. Some (pick x q b)) (before 0 x (omega arith) refl)
 
--- more that comes later changes nothing
+-- arrivals that come later leave the first one
 pub first-append : (cs more : List Coming) (p : Placed) → first_of cs ≡ Some p → Every (λ d. p.coming.time < d.time) more → first_of (cs ++ more) ≡ Some p
 unfolding first_of
 first-append [] more p e later = cc

@@ -67,7 +67,7 @@ message-passes sc lawful until me i frame k (Some m) sites le =
     each-fuse sent (sweep_to sc until) both sites (λ side n s. sym (sent-passes sc lawful me side i n frame (until side n) (record { tick = k; message = m }) s (le side n)))
     ∙ sym (each-fuse (sweep_to sc until) sent both sites (λ side n s. refl))
 
--- a change of one node
+-- the site after a change of node `i` of kind `me`
 abbrev pub one_changes : (Site → Site) → Side → ℕ → Side → ℕ → Site → Site
 one_changes change me i side n s = elim (is_node me i side n) as (λ _. Site) [ true ↦ change s | false ↦ s ]
 
@@ -111,7 +111,7 @@ message-back sc me i frame k (Some m) sites side n y there =
     let was = option_map-back (sent side n) (slice_get (of_kind side sites) n) y (sym (get-each sent sites side n) ∙ there) in
     (was.0, (was.1.0, ap (λ (s : Site). s.ahead) (sym was.1.1) ∙ sent-ahead sc me i frame x side n was.0))
 
--- a node with it, if there is one, hears in a sweep through its tick what it hears without it
+-- a message that goes out with the tick is not heard in a sweep through that tick
 message-unheard : (sc : Scenario) → IsLawful sc → (me side : Side) (i j frame k until : ℕ) (m : Option Message) (sites : Each Site) (s : Site) → slice_get (of_kind side sites) j ≡ Some s
     → until ≤ time_of (clock_of sc me i) k + 1
     → (y : Site) × ((slice_get (of_kind side (with_message sc me i frame k m sites)) j ≡ Some y) × (heard sc side j until y ≡ heard sc side j until s))
@@ -218,7 +218,7 @@ goes-on sc lawful choices until w is event me i a first le = record { leads = le
     acted : Later a.time (act z)
     acted = act-later sc lawful w.ports me i a z ticks (all-every (λ c. a.time + 1 ≤ c.time) z.coming (sweeps-keep sc me i (a.time + 1) first.node).left)
 
-    -- the world behind, in which this node alone is swept
+    -- the world behind, in which the node of the tick alone is swept
     alone : World
     alone = record w { sites = at_node me i sweep w.sites }
 
@@ -294,7 +294,7 @@ goes-on sc lawful choices until w is event me i a first le = record { leads = le
             get-at me side i j act (at_node me i sweep w.sites)
             ∙ ap (option_map (one_changes act me i side j)) (get-at me side i j sweep w.sites ∙ ap (option_map (one_changes sweep me i side j)) here)
 
-        -- what is told of the tick
+        -- the node of the tick is told of it, and no other node is
         tick-told : (side : Side) (j : ℕ) (s : Site) → slice_get (of_kind side w.sites) j ≡ Some s
             → told_next sc side j there
             ≡ (if same_node (name_of me i) (name_of side j)

@@ -34,7 +34,7 @@ use Rattle.rb_laws_sweeps.proofs.EachNode.{each-alike}
 use Rattle.rb_laws_sweeps.proofs.HadThere.{had-where-it-stands, had_of, is_known}
 use Rattle.rb_laws_sweeps.proofs.Settles.{each-fuse}
 
--- a node to which what came still comes
+-- the site to which what came still comes
 abbrev pub with_had : Sizes → Side → ℕ → Site → Site
 with_had sizes side n s = record s { coming = had_of sizes side s ++ s.coming }
 
@@ -55,7 +55,7 @@ rooms-had sc q hands b sent sites h me i s there =
     let long = length-append (had_of sc.sizes me s) s.coming in
     omega (arith, room, long)
 
--- It begins.
+-- The first close.
 
 begins-had : (sc : Scenario) (q : ℕ) (hands : List HandIn) (b now : ℕ) (at : Side → ℕ → ℕ) (sites : Each Site) (t : ℕ) → FirstCloses sc hands now at sites b t → HadOff sc q hands b sites
 begins-had sc q hands b now at sites t h = record {
@@ -95,7 +95,7 @@ begins-had sc q hands b now at sites t h = record {
 
 -- Messages and arrivals.
 
--- what came to the nodes, after one of them changes and a message is on its way
+-- What came to the nodes after one of them changes and a message is on its way.
 
 had-sent : (sc : Scenario) (me : Side) (i frame : ℕ) (x : Sending) (side : Side) (n : ℕ) (s : Site)
     → with_had sc.sizes side n (sent_to sc me i frame x side n s) ≡ sent_to sc me i frame x side n (with_had sc.sizes side n s)

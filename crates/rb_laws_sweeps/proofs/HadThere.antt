@@ -1,5 +1,5 @@
--- What came to a node for its open window and what is pending there are few together, where the
--- nodes stand in the rounds.
+-- What came to a node for its open window and what is pending there are few together, if the nodes
+-- stand in the rounds.
 use Rattle.std.proofs.Common.{◌≡◌, ℕ, zero, suc, ◌+◌, ◌*◌, ◌≤◌, ◌==◌, nat_lt, Bool, true, false, List, [], ◌∷◌, cond, filter, length, refl, ap, sym, subst, arith}
 use Rattle.std.proofs.lemmas.Bool.{ltb-true}
 use Rattle.std.proofs.lemmas.Bool.Decides.{nat_tests}
@@ -18,7 +18,7 @@ use Rattle.rb_laws_events.proofs.Invariant.{NodeStands, ahead_so_far, heard_so_f
 use Rattle.rb_laws_events.proofs.PendingLists.{Hears}
 use Rattle.rb_laws_events.proofs.SourceSums.{all-of-sources, coming_of_source, items-once, sum-larger, sum-le, sum-plus, sum-twos, sum_to}
 
--- whether it is from a node that there is
+-- the entry is from a node of the bus
 abbrev pub is_known : Sizes → Side → Coming → Bool
 is_known sizes me c = nat_lt c.from (count_of (other me) sizes)
 
@@ -26,7 +26,7 @@ is_known sizes me c = nat_lt c.from (count_of (other me) sizes)
 abbrev pub had_of : Sizes → Side → Site → List Coming
 had_of sizes me s = elim s.runs as (λ _. List Coming) [ true ↦ filter (is_known sizes me) s.got | false ↦ [] ]
 
--- what came of all sources
+-- at most as much came as came from all sources together
 got-of-sources : (n : ℕ) (got : List Coming) → length (filter (λ (c : Coming). nat_lt c.from n) got) ≤ sum_to (λ j. length (coming_from got j)) n
 got-of-sources n [] = omega arith
 got-of-sources n (c ∷ cs) = by (nat_lt c.from n) refl (got-of-sources n cs)

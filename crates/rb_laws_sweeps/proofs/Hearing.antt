@@ -47,7 +47,7 @@ pub hears-none : (sc : Scenario) (me : Side) (i until : ℕ) (s : Site) → Ever
 unfolding heard
 hears-none sc me i until s late = by-silent sc me i until (length s.coming) s late
 
--- the first is heard first
+-- the first arrival is heard first
 pub hears-first : (sc : Scenario) (me : Side) (i until : ℕ) (s : Site) (p : Placed) → first_of s.coming ≡ Some p → p.coming.time < until
     → heard sc me i until s ≡ telling sc [] me i s (Arrival p.place p.coming) ∷ heard sc me i until (after_arrival sc me i p.place p.coming s)
 unfolding heard heard_by after_arrival

@@ -71,7 +71,7 @@ arrives-swept sc until sites me i s p there step =
         (subst (λ k. swept sc k n (until k n) (change s) ≡ swept sc k n (until k n) s) (sym is.0)
         (subst (λ m. swept sc me m (until me m) (change s) ≡ swept sc me m (until me m) s) (sym is.1) (sym step)))
 
--- what a take tells a node and what it hears after that is what it hears before
+-- what a node hears before a take is what the take tells it, and then what it hears after the take
 abbrev pub TellsOne : Scenario → (Side → ℕ → ℕ) → World → World → Type 0
 TellsOne sc until w x =
     (side : Side) (j : ℕ) (s : Site) → slice_get (of_kind side w.sites) j ≡ Some s

@@ -31,7 +31,7 @@ none-found q k (c ∷ cs) all =
     ap (λ b. cond b ((k, c) ∷ filter (λ (p : ℕ × Coming). q p.1) (enumerate_from (k + 1) cs)) (filter (λ (p : ℕ × Coming). q p.1) (enumerate_from (k + 1) cs))) all.0
     ∙ none-found q (k + 1) cs all.1
 
--- a list with this at its head
+-- `xs` begins with `x`
 abbrev pub Begins : {X : Type 0} → X → List X → Type 0
 Begins x xs = (rest : List _) × (xs ≡ x ∷ rest)
 
@@ -98,7 +98,8 @@ flat-none : {Y : Type 0} (f : ℕ → List Y) (a n : ℕ) → ((k : ℕ) → f k
 flat-none f a zero none = refl
 flat-none f a (suc n) none = ap (λ l. l ++ flat_map f (range_with_len (a + 1) n)) (none a) ∙ flat-none f (a + 1) n none
 
--- the first arrival, or no arrival at this time, and then the tick, if it comes at this time
+-- what is ready at time `t` is first the first arrival, or if none comes then, the tick if it comes
+-- then
 abbrev pub ReadyFirst : Sizes → ℕ → Side → ℕ → Site → Type 0
 ReadyFirst sizes t me i s =
     ((p : Placed) × ((first_of s.coming ≡ Some p) × ((p.coming.time ≡ t) × Begins (record { side = me; node = i; pending = Arrival p.place p.coming }) (ready_at sizes t me i s))))
@@ -150,7 +151,7 @@ ready-first sizes t me i s known late = elim (which-first (t + 1) s.coming) [
 
 -- Among nodes.
 
--- the first node for which something is made: for those before it nothing is
+-- `d` is made first of the first item of which anything is made
 pub record FirstMade {X Y : Type 0} (k : ℕ) (make : ℕ → X → List Y) (xs : List X) (d : Y) : Type 0 where
   pub n : ℕ
   pub x : X

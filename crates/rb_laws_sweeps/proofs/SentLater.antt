@@ -36,7 +36,7 @@ message-later sc lawful me side j i frame x kind =
     let some : 1 ≤ sc.plan.dmin = lawful.plan.dmin.0 in
     omega (arith, time, low, some)
 
--- the node with it, where the test passes
+-- the site with the message on its way to it, if `b` holds
 abbrev pub sent_where : Scenario → Side → ℕ → ℕ → Sending → Side → ℕ → Site → Bool → Site
 sent_where sc me j frame x side i s b = elim b as (λ _. Site) [ true ↦ record s { coming = s.coming ++ coming_of sc side i j frame x ∷ [] } | false ↦ s ]
 

@@ -62,7 +62,7 @@ book-same sc g sites b End keeps = refl
 
 -- Worlds.
 
--- each node changes
+-- the world after a change of each node
 abbrev pub changed : (Side → ℕ → Site → Site) → World → World
 changed g w = record w { sites = map_each g w.sites }
 

@@ -32,7 +32,7 @@ use Rattle.rb_laws_sweeps.specs.Stamps.{StampsMakeNoDifference, restamped, stamp
 
 -- Senses.
 
--- what came of a source, but for its stamp
+-- a sense without its stamp
 abbrev unstamped : Sense → Sense
 unstamped Silent = Silent
 unstamped (One stamp m) = One 0 m
@@ -51,7 +51,7 @@ wrong-unstamped false Silent = refl
 wrong-unstamped false (One stamp m) = refl
 wrong-unstamped false Bad = refl
 
--- the same was sensed from each source, apart from stamps
+-- from each source both sense the same, apart from stamps
 abbrev SenseAlike : (ℕ → Sense) → (ℕ → Sense) → Type 0
 SenseAlike f g = (j : ℕ) → unstamped (f j) ≡ unstamped (g j)
 
@@ -83,7 +83,7 @@ exact-alike sizes me i st slot stage f g same =
 
 -- What came.
 
--- the sense of what came of a source, by the bytes alone
+-- the sense of what came from a source, by the bytes alone
 abbrev sense_by : Expect → List (List ℕ) → Sense
 sense_by e [] = Silent
 sense_by e (bytes ∷ []) = sense_of_one e 0 (message_in e.version bytes)
@@ -102,11 +102,11 @@ sense-is-by e [] = refl
 sense-is-by e (a ∷ []) = one-unstamped e a.stamp (message_in e.version a.bytes)
 sense-is-by e (a ∷ (b ∷ others)) = refl
 
--- what came of source j, each as its bytes
+-- the bytes of each arrival from source `j`
 abbrev pub bytes_from : List (ℕ × Arrival) → ℕ → List (List ℕ)
 bytes_from inbox j = map (λ a. a.bytes) (of_source inbox j)
 
--- the same bytes came from each source
+-- both inboxes have the same bytes from each source
 abbrev pub BytesAlike : List (ℕ × Arrival) → List (ℕ × Arrival) → Type 0
 BytesAlike inbox other = (j : ℕ) → bytes_from inbox j ≡ bytes_from other j
 

@@ -29,7 +29,7 @@ use Rattle.rb_laws_sweeps.specs.Room.{StoppedHaveNothing, StoppedStayEmptyInEach
 use Rattle.rb_laws_sweeps.specs.Sweeping.{swept}
 use Rattle.rb_laws_sweeps.proofs.Sweeps.{sweep-stays, sweeps-keep}
 
--- a node that runs, or at which nothing is pending
+-- the node runs, or nothing is pending at it
 abbrev pub RunsOrEmpty : Site → Type 0
 RunsOrEmpty s = s.runs ≡ false → (s.ahead ≡ None) × (s.coming ≡ [])
 

@@ -51,7 +51,7 @@ pub sweep-stays : (sc : Scenario) (me : Side) (i until : ℕ) (s : Site) → Eve
 unfolding swept
 sweep-stays sc me i until s late = by-stays sc me i until (length s.coming) s late
 
--- the first is taken first
+-- the first arrival is taken first
 pub sweep-takes : (sc : Scenario) (me : Side) (i until : ℕ) (s : Site) (p : Placed) → first_of s.coming ≡ Some p → p.coming.time < until
     → swept sc me i until s ≡ swept sc me i until (after_arrival sc me i p.place p.coming s)
 unfolding swept swept_by after_arrival
@@ -64,8 +64,8 @@ arrival-length : (sc : Scenario) (me : Side) (i : ℕ) (s : Site) (p : Placed) �
 unfolding after_arrival
 arrival-length sc me i s p e = length-without p.place p.coming s.coming (first-stands s.coming p e)
 
--- what holds where nothing comes before the time, and before an arrival where it holds after it,
--- holds of each node
+-- `P` holds for each site if it holds when nothing comes before the time, and before an arrival
+-- whenever it holds after it
 pub sweep-by : (sc : Scenario) (me : Side) (i until : ℕ) (P : Site → Type 0) → ((s : Site) → Every (λ c. until ≤ c.time) s.coming → P s)
     → ((s : Site) (p : Placed) → first_of s.coming ≡ Some p → p.coming.time < until → P (after_arrival sc me i p.place p.coming s) → P s)
     → (n : ℕ) (s : Site) → length s.coming ≤ n → P s
@@ -112,7 +112,7 @@ sweeps-keep sc me i until s =
     (λ s p e lt rest. subst (SweepsFrom sc me i until s) (sym (sweep-takes sc me i until s p e lt))
     (arrival-from sc me i until p.place p.coming s (swept sc me i until (after_arrival sc me i p.place p.coming s)) rest)) s
 
--- what comes later is pushed before an arrival or after it
+-- what comes later may be added before an arrival or after it
 pub arrival-more : (sc : Scenario) (me : Side) (i place : ℕ) (c : Coming) (ahead : Option Timed) (more : List Coming) (s : Site) → StandsAt place c s.coming
     → after_arrival sc me i place c (with_more ahead more s) ≡ with_more ahead more (after_arrival sc me i place c s)
 unfolding after_arrival

@@ -59,7 +59,7 @@ shown sc w d x due there =
     let show : Due → Option Event = λ d. option_map (λ (s : Site). event_of sc w.ports d.side d.node s.core d.pending) (slice_get (of_kind d.side w.sites) d.node) in
     ap (option_and_then show) due ∙ ap (option_map (λ (s : Site). event_of sc w.ports d.side d.node s.core d.pending)) there
 
--- what node j of kind side, which is this, is told where this is due first, at a node that is x
+-- node `j` is told of the first due event if this happens at it
 pub told-one : (sc : Scenario) (w : World) (d : Due) (x : Site) → slice_get (due_of sc w) 0 ≡ Some d → slice_get (of_kind d.side w.sites) d.node ≡ Some x
     → (side : Side) (j : ℕ) (s : Site) → slice_get (of_kind side w.sites) j ≡ Some s
     → told_next sc side j w

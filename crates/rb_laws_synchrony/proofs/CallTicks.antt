@@ -107,7 +107,7 @@ stage-keeps sc hands n m s q c me i st h =
     let good : is_good sc me i m.frame (sync_slot_of sc.sizes) ≡ true = ap (is_good sc me i m.frame) (sym (slot_last sc.sizes m.window q c.at)) ∙ h.good in
     (_, keeps sc m (q + 1) (sync_windows_are sc m q c.small c.at) me i st good ((tick_some sc hands n m s q c).tick me st))
 
--- stage 2 gives the BIUs their middles
+-- all good nodes keep their ticks after stage 2, which gives the BIUs their middles
 after-second : (sc : Scenario) (hands : List HandIn) (n : ℕ) (m : Moment) (s : Shared) → IsStage sc hands n m s 1 → AllKeepTicks sc m → (x : IsSynchronous sc hands (suc n)) → next sc m ≡ moment sc hands (suc n)
     → (moment sc hands (suc n)).window ≡ 3 * sync_slot_of sc.sizes + 2 → AllKeepTicks sc (next sc m)
 after-second sc hands n m s c before x is at Rmu i now h =
@@ -128,7 +128,7 @@ after-second sc hands n m s c before x is at Biu i now h =
           (b.0, swap now.epoch (f + sc.plan.l) sc.plan.z sc.plan.v (t + sc.plan.v) b.1);
     }
 
--- stage 3 leaves both
+-- all good nodes keep their ticks after stage 3
 after-third : (sc : Scenario) (hands : List HandIn) (n : ℕ) (m : Moment) (s : Shared) → IsStage sc hands n m s 2 → AllKeepTicks sc m → AllKeepTicks sc (next sc m)
 after-third sc hands n m s c before Rmu i now h =
     let from : CameFrom sc m Rmu i now = came_from sc hands n m s c.agree Rmu i now h in

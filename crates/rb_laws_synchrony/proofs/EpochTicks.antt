@@ -29,7 +29,7 @@ use Rattle.rb_laws_synchrony.proofs.SyncSteps.{epoch_after}
 use Rattle.rb_laws_synchrony.proofs.Synchronous.{KnowNext, KnowsEpoch}
 use Rattle.rb_laws_synchrony.proofs.Synchrony.{IsSynchronous, synchrony}
 
--- a frame takes fewer ticks than this
+-- a number of ticks that is greater than those of a frame
 abbrev pub frame_ticks : Sizes → Plan → ℕ
 frame_ticks sizes plan = tail_start_of sizes plan + max plan.z (plan.v + plan.c)
 

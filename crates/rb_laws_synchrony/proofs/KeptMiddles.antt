@@ -84,7 +84,7 @@ passed-over sc m slot stage ws me i st none =
     go true false h = refl
     go false false h = refl
 
--- the tail is one
+-- the tail leaves all middles
 pub tail_leaves : (sc : Scenario) (m : Moment) (ws : Windows sc m (sync_slot_of sc.sizes) 4) (me : Side) (i : ℕ) (st : NodeState)
     → is_good sc me i m.frame (sync_slot_of sc.sizes) ≡ true → Leaves st (after sc m me i st)
 tail_leaves sc m ws me i st good =

@@ -34,10 +34,10 @@ use Rattle.rb_laws_synchrony.proofs.TakenCalls.{is_set}
 use Rattle.rb_laws_synchrony.proofs.TimelyWindows.{good_here}
 use Rattle.rb_laws_synchrony.proofs.Times.{Steady, lawful_fits, plan_fits}
 
--- ---- numbers: the next frame's first ticks come from `least + z * u + min (c * u) dmin` on, where
+-- ---- numbers: the next frame's first ticks come from `least + z * u + min (c * u) dmin` on, if
 -- the calls of stage 3 do from `least` on
 
--- a BIU begins it z + c ticks after the call
+-- a BIU begins the next frame z + c ticks after the call
 pub biu_begins : (plan : Plan) (u d f least x : ℕ) → Fits plan u d f
     → IsBetween (least + (plan.z + plan.c) * u) (least + (eps_of plan + (u + d) + d * plan.l + (eps_of plan + (u + d)) + d * plan.v) + (plan.z + plan.c) * (u + d)) x
     → IsBetween (least + plan.z * u + min (plan.c * u) plan.dmin) (least + plan.z * u + min (plan.c * u) plan.dmin + plan.p) x

@@ -13,7 +13,7 @@ use Rattle.rb_rules.proofs.Votes.{length_present}
 
 -- ---- counts
 
--- what is there passes
+-- there is a number, and it passes
 abbrev pub passes : (ℕ → Bool) → Option ℕ → Bool
 passes p None = false
 passes p (Some x) = p x
@@ -27,7 +27,7 @@ counted_present : (p : ℕ → Bool) (f : ℕ → Option ℕ) (js : List ℕ) �
 counted_present p f [] = refl
 counted_present p f (j ∷ js) = one_more p (f j) (present (map f js)) ∙ ap (λ n. cond (passes p (f j)) 1 0 + n) (counted_present p f js)
 
--- good sources and others together are no more than all of which something is there
+-- good sources and others that have something are together at most all that have something
 parts_within : (good some : ℕ → Bool) → ((j : ℕ) → good j ≡ true → some j ≡ true) → (js : List ℕ)
     → count_if good js + count_if (λ j. not (good j) && some j) js ≤ count_if some js
 parts_within good some has [] = omega arith
@@ -47,7 +47,7 @@ pub record HasStamp (low high : ℕ) (o : Option ℕ) : Type 0 where
 not_passed : (p : ℕ → Bool) (low high : ℕ) (o : Option ℕ) → ((y : ℕ) → IsBetween low high y → p y ≡ true → ⊥) → HasStamp low high o → passes p o ≡ true → ⊥
 not_passed p low high o fails has pass = fails has.stamp has.between (sym (ap (passes p) has.is) ∙ pass)
 
--- fewer than half can be up to a number below all good ones
+-- only sources that are not good can have a number below those of all good ones
 few_up_to : (f : ℕ → Option ℕ) (good : ℕ → Bool) (low high m : ℕ) → ((j : ℕ) → good j ≡ true → HasStamp low high (f j)) → m < low → (js : List ℕ)
     → count_if (λ j. passes (λ x. nat_le x m) (f j)) js ≤ count_if (λ j. not (good j) && is_some (f j)) js
 few_up_to f good low high m has less js =
@@ -135,8 +135,8 @@ middle_times_near e x y f g m n rises_x rises_y near is_m is_n =
 
 -- ---- the least of times that are near
 
--- a time of a good one, from which on all lie, and no more than so much later; or there is no good
--- one
+-- `least` is the least time of the good ones, all of whose times are at most `spread` later, or
+-- there is no good one
 pub record HasLeast (good : ℕ → Bool) (time : ℕ → ℕ) (spread n : ℕ) : Type 0 where
   pub least : ℕ
   pub at : (i : ℕ) → i < n → good i ≡ true → IsBetween least (least + spread) (time i)
@@ -148,7 +148,7 @@ last_or_before i n lt = elim (cases_lt i n) [ inl before ↦ inl before | inr ge
 Near : (ℕ → Bool) → (ℕ → ℕ) → ℕ → Type 0
 Near good time spread = (i j : ℕ) → good i ≡ true → good j ≡ true → time i ≤ time j + spread
 
--- the nth is good, and no later than the least so far
+-- if number `n` is good, and no later than all good ones before it, its time is the least
 new_least : (good : ℕ → Bool) (time : ℕ → ℕ) (spread n : ℕ) → Near good time spread → good n ≡ true
     → ((i : ℕ) → i < n → good i ≡ true → time n ≤ time i) → HasLeast good time spread (suc n)
 unfolding Near

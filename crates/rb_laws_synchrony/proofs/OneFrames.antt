@@ -54,7 +54,6 @@ to-3 x low = to-2 x low + x.plan.dmax + tick_of x.plan + x.plan.v * tick_of x.pl
 some-offset : (x : Frame) (low : ℕ) → IsFrame x low → 1 ≤ offset_of x
 some-offset x low is = f0-some x.sizes.bius x.sizes.rmus x.sizes.data_slots x.plan.l is.shape.some_biu is.plan.l.0
 
--- a number that is no more with a further one added
 less-of : (a b c : ℕ) → a + b ≤ c → a ≤ c
 less-of a b c h = omega arith
 
@@ -460,7 +459,7 @@ timely-stage x low q me first ticks from to s i j here good =
     number : (slot q : ℕ) → 3 * slot + q - 3 * slot ≡ q
     number slot q = omega arith
 
--- who listens in such a window
+-- a node that listens in a window of the sync slot listens in its stage
 listens-in : (x : Frame) (q : ℕ) (me : Side) (i first ticks : ℕ) → window_in x (sync_window x q) me i ≡ window_of (sync_slot_of x.sizes) (q + 1) first ticks
     → listens me (role_of x.sizes (window_in x (sync_window x q) me i).slot) (window_in x (sync_window x q) me i).stage ≡ true → listens me Sync (q + 1) ≡ true
 listens-in x q me i first ticks e listening =

@@ -37,8 +37,8 @@ pub record Fits (plan : Plan) (u d f : ℕ) : Type 0 where
   pub next_bc : 2 * eps_of plan + 2 * (u + d) + d * (plan.l + plan.v + plan.z) + (plan.dmax + (u + d)) ≤ plan.p + plan.c * u
   pub next_ba : 2 * eps_of plan + 2 * (u + d) + d * (plan.l + plan.v + plan.z) + (plan.dmax + (u + d)) ≤ plan.p + plan.dmin
 
--- the ticks after the sending tick take at least so long, so with the one that sends and those
--- before it the window takes longer
+-- if the ticks after the sending tick take at least `n`, the window takes at least `n` and the
+-- ticks up to the sending one
 window-rest : (ticks h shortest n : ℕ) → h < ticks → pos n ≤ℤ ((pos ticks -ℤ pos (1 + h)) *ℤ pos shortest)
     → n + (1 + h) * shortest ≤ ticks * shortest
 window-rest ticks h shortest n inside le =

@@ -26,7 +26,7 @@ use Rattle.rb_laws_synchrony.proofs.Times.{Steady, lawful_fits, plan_fits, stead
 
 -- ---- windows by their offsets
 
--- the window of all nodes is this one
+-- the window of each node begins with the offset `first` and has `ticks` ticks
 pub record IsAt (sc : Scenario) (m : Moment) (slot stage : ℕ) (ws : Windows sc m slot stage) (first ticks : ℕ) : Type 0 where
   pub first_is : (me : Side) (st : NodeState) → ws.first me st ≡ first
   pub last_is : (me : Side) (st : NodeState) → ws.last me st ≡ first + ticks - 1
@@ -62,7 +62,7 @@ third_at sc m ws at =
     is-at sc m (sync_slot_of sc.sizes) 3 ws (sync_slot_of sc.sizes) 3 (f0_of sc.sizes sc.plan + sc.plan.l + sc.plan.v) sc.plan.z
     (λ me st. ap (window_numbered sc.sizes sc.plan me st) at ∙ sync-numbered sc.sizes sc.plan me st 2)
 
--- good nodes began the frame from this time on, and within p
+-- good nodes began the frame from time `low` on and within p
 abbrev pub Begun : Scenario → Moment → ℕ → Type 0
 Begun sc m low = (me : Side) (i : ℕ) (st : NodeState) → IsGoodNode sc m me i st → IsBetween low (low + sc.plan.p) (time_of (clock_of sc me i) st.epoch)
 
@@ -162,7 +162,7 @@ third_calls sc law m s low sync late = record {
         after-middle sc law m Biu j st h st.k2 (f0_of sc.sizes sc.plan + sc.plan.l) (f0_of sc.sizes sc.plan + sc.plan.l + sc.plan.v)
         (f0_of sc.sizes sc.plan + sc.plan.l + sc.plan.z) (heard_from sc (from_2 sc low)) (heard_to sc (to_2 sc low)) sc.plan.v tick (sync.second late j st h) at
 
--- the windows of the stages lie about them
+-- The windows of the stages lie about the calls.
 
 pub first_about : (sc : Scenario) (m : Moment) (c : IsSet sc m (sync_slot_of sc.sizes) 1) → m.window ≡ 3 * sync_slot_of sc.sizes + 0 → (low : ℕ) → Begun sc m low
     → LieAbout sc m (sync_slot_of sc.sizes) 1 c.ws (from_1 sc low) (to_1 sc low)

@@ -107,7 +107,7 @@ pub last-is : (x : Frame) (low q : ℕ) (me : Side) (first ticks from to : ℕ) 
     → (span_in x (sync_window x q) kind i).last ≡ (x.before kind i).epoch + (first + ticks - 1)
 last-is x low q me first ticks from to s kind i = ap (λ (w : Window). (x.before kind i).epoch + w.last) (s.window kind i)
 
--- what a good node sends in it comes in it
+-- what a good node sends in the stage comes in its window
 pub in-window : (x : Frame) (low q : ℕ) (me : Side) (first ticks from to : ℕ) → (s : IsStageOf x low q me first ticks from to) → (i j : ℕ) → x.good me i ≡ true
     → (good : x.good (other me) j ≡ true) → (time : ℕ) → MayArrive x.plan (x.clock (other me) j) (s.calls j good).tick time
     → IsTickOf (span_in x (sync_window x q) me i) (stamp_of (x.clock me i) time)
@@ -122,7 +122,7 @@ in-window x low q me first ticks from to s i j here good time may =
     let high_stamp = stamp_to (x.clock me i) clock.moves time ((x.before me i).epoch + (first + ticks - 1)) (omega (arith, end, call.between.most, may.not_late)) in
     (subst (λ k. k ≤ stamp_of (x.clock me i) time) (sym e) low_stamp, subst (λ k. stamp_of (x.clock me i) time ≤ k) (sym f) high_stamp)
 
--- the calls lie between these times, which are no earlier than those of the stage
+-- the calls lie between `least` and `most`, and `least` is no earlier than `from`
 pub record CallsLie (x : Frame) (low q : ℕ) (me : Side) (first ticks from to : ℕ) (s : IsStageOf x low q me first ticks from to) (least most : ℕ) : Type 0 where
   pub not_before : from ≤ least
   pub at : (j : ℕ) (good : x.good (other me) j ≡ true) → IsBetween least most (time_of (x.clock (other me) j) (s.calls j good).tick)
@@ -291,7 +291,7 @@ middles-near x low q me first ticks from to s alike a b good_a good_b =
     middles-are-near x.plan good (from + x.plan.dmin) (to + x.plan.dmax) (listener x q me a) (listener x q me b) near ka.tick kb.tick ka.is kb.is in
     record { above = omega (arith, longest, lie.0); under = omega (arith, longest, lie.1) }
 
--- calls that are near lie between two times
+-- the time of a node's call in the stage after `q` stages
 call-time : Frame → ℕ → Side → ℕ → ℕ
 call-time x q kind j = time_of (x.clock kind j) (unwrap_or (call_tick_of x.sizes x.plan (state_through x q kind j) (q + 1)) 0)
 

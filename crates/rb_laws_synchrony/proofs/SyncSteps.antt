@@ -78,7 +78,7 @@ passed_stage sc hands n m s q c passed = record {
   stages = ap (λ b. b.stages) (book_sync sc m q c.small c.at ∙ passed.is);
 }
 
--- who is not asymmetric after the stage was not before
+-- if no node of the kind was seen unlike with the stage, none was before it
 pub none_before : (sc : Scenario) (m : Moment) (s : Shared) (kind : Side) (stage : JudgedStage) (earlier : List JudgedStage)
     → NoneUnlike sc m s kind (stage ∷ earlier) → NoneUnlike sc m s kind earlier
 none_before sc m s kind stage earlier none j below t faulty =
@@ -88,7 +88,7 @@ pub tick_some : (sc : Scenario) (hands : List HandIn) (n : ℕ) (m : Moment) (s 
     → HasTick sc m (sync_slot_of sc.sizes) (q + 1) (sync_windows_are sc m q c.small c.at)
 tick_some sc hands n m s q c = sync_tick sc m q c.small c.at c.law.plan.l.0 c.law.plan.v.0 c.law.plan.z.0
 
--- what a listener keeps of the stage
+-- a node that listens keeps the middle that it finds in the stage
 pub kept_found : (sc : Scenario) (hands : List HandIn) (n : ℕ) (m : Moment) (s : Shared) (q : ℕ) (me : Side) (c : IsHeardStage sc hands n m s q me) (first last own low high : ℕ)
     → (i : ℕ) (st : NodeState) → IsGoodNode sc m me i st → (k : StageMiddle sc m q (ws_of sc hands n m s q me c) me i st first last own low high)
     → Keeps me (q + 1) k.tick st (after sc m me i st)
@@ -112,7 +112,7 @@ some_more f v h = omega arith
 
 -- ---- stage 1
 
--- the stage as the RMUs hear it
+-- the RMUs listen in stage 1 of the sync slot
 heard-first : (sc : Scenario) (hands : List HandIn) (n : ℕ) (m : Moment) (s : Shared) → IsPassedStage sc hands n m s 0 → IsHeardStage sc hands n m s 0 Rmu
 heard-first sc hands n m s c = record { stage = c.stage; listening = refl; premise = c.premise }
 
@@ -132,7 +132,7 @@ first-middle sc hands n m s low c begun i st here =
     (up_to_delay (to_1 sc low) sc.plan.dmax (tick_of sc.plan) (low + (f + sc.plan.v - 1) * shortest_of sc.plan)
     (second_own low sc.plan.p f sc.plan.h sc.plan.l sc.plan.v (f + sc.plan.v - 1) (shortest_of sc.plan) (drift_of sc.plan) sc.plan.dmax last fit.after_2)) i st here
 
--- a middle that a node has kept
+-- a good node knows the middle that it has kept
 pub kept_middle : (sc : Scenario) (m : Moment) (q : ℕ) (ws : Windows sc m (sync_slot_of sc.sizes) (q + 1)) (me : Side) (i : ℕ) (st now : NodeState) (first last own low high : ℕ)
     → (k : StageMiddle sc m q ws me i st first last own low high) → now.epoch ≡ st.epoch → (kept : Option ℕ) → kept ≡ Some k.tick
     → KnowsMiddle sc me i now kept first last own (heard_from sc low) (heard_to sc high)

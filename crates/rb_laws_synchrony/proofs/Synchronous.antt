@@ -17,9 +17,9 @@ use Rattle.rb_laws_synchrony.proofs.PlanNumbers.{drift_of, eps_of}
 use Rattle.rb_laws_synchrony.proofs.StageMiddles.{NoneUnlike, tick_of}
 use Rattle.rb_laws_synchrony.proofs.Times.{Steady, steady}
 
--- ---- the times of the calls, where the frame's first ticks come from `low` on
+-- ---- the times of the calls if the frame's first ticks come from `low` on
 
--- the calls of stage 1 go out from here on, and by then
+-- the times from which and by which the calls of stage 1 go out
 abbrev pub from_1 : Scenario → ℕ → ℕ
 from_1 sc low = low + (f0_of sc.sizes sc.plan + sc.plan.h) * shortest_of sc.plan
 
@@ -45,8 +45,8 @@ from_3 sc low = heard_from sc (from_2 sc low) + sc.plan.v * shortest_of sc.plan
 abbrev pub to_3 : Scenario → ℕ → ℕ
 to_3 sc low = heard_to sc (to_2 sc low) + sc.plan.v * tick_of sc.plan
 
--- how near the middles of stage 1 are where no BIU is asymmetric, and those of stage 2 where none
--- of one kind is
+-- how near the middles of stage 1 are if no BIU is asymmetric, and those of stage 2 where none of
+-- one kind is
 abbrev pub near_1 : Plan → ℕ
 near_1 plan = eps_of plan + tick_of plan
 
@@ -111,7 +111,7 @@ pub record Synchronous (sc : Scenario) (m : Moment) (s : Shared) (low : ℕ) : T
 
 -- ---- offsets
 
--- the time of an offset, where the frame's first tick comes from `low` on and within p
+-- the time of an offset if the frame's first tick comes from `low` on and within p
 pub at_offset : (u d : ℕ) (clock : Timeline) → Steady u d clock → (low p epoch offset tick : ℕ) → tick ≡ epoch + offset
     → IsBetween low (low + p) (time_of clock epoch) → IsBetween (low + offset * u) (low + p + offset * (u + d)) (time_of clock tick)
 at_offset u d clock steady low p epoch offset tick e between =

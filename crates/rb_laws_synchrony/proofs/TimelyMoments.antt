@@ -31,7 +31,7 @@ use Rattle.rb_laws_synchrony.proofs.Times.{lawful_fits, plan_fits}
 
 -- ---- below the sync slot
 
--- what a good node sends there is sent at the offset of its stage
+-- what a good node sends below the sync slot is sent at the offset of its stage
 exact-tick : (sc : Scenario) (m : Moment) (slot q : ℕ) (me : Side) (i : ℕ) (st : NodeState) (word : ℕ) (s : Sending) → slot < sync_slot_of sc.sizes → m.window ≡ 3 * slot + q
     → sending sc.sizes sc.plan me i st slot (q + 1) word ≡ Some s → s.tick ≡ st.epoch + (m.window * sc.plan.l + sc.plan.h)
 exact-tick sc m slot q me i st word s below at is =

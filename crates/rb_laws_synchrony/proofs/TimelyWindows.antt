@@ -77,14 +77,14 @@ pub record IsSet (sc : Scenario) (m : Moment) (slot stage : ℕ) : Type 0 where
   pub slot_is : slot_numbered sc.sizes m.window ≡ slot
   pub frames : (me : Side) (i : ℕ) (st : NodeState) → IsGoodNode sc m me i st → st.frame ≡ m.frame
 
--- what good nodes send in it is sent at their own ticks of it, and between two times
+-- what good nodes send in the window is sent at their own ticks of it, and between two times
 pub record IsSentBetween (sc : Scenario) (m : Moment) (slot stage : ℕ) (ws : Windows sc m slot stage) (low high : ℕ) : Type 0 where
   pub own : (me : Side) (i : ℕ) (st : NodeState) → IsGoodNode sc m me i st → (s : Sending)
       → sending sc.sizes sc.plan me i st slot stage (word_at sc m slot i) ≡ Some s → IsTickOf (span_of st (own_window sc m slot stage ws me st)) s.tick
   pub between : (me : Side) (i : ℕ) (st : NodeState) → IsGoodNode sc m me i st → (s : Sending)
       → sending sc.sizes sc.plan me i st slot stage (word_at sc m slot i) ≡ Some s → IsBetween low high (time_of (clock_of sc me i) s.tick)
 
--- the windows of all good nodes lie about these times and the delays
+-- the windows of all good nodes lie about the times from `low` to `high` with the delays
 pub record LieAbout (sc : Scenario) (m : Moment) (slot stage : ℕ) (ws : Windows sc m slot stage) (low high : ℕ) : Type 0 where
   pub early : (me : Side) (i : ℕ) (st : NodeState) → IsGoodNode sc m me i st → time_of (clock_of sc me i) (st.epoch + ws.first me st) ≤ low + sc.plan.dmin
   pub late : (me : Side) (i : ℕ) (st : NodeState) → IsGoodNode sc m me i st → high + sc.plan.dmax ≤ time_of (clock_of sc me i) (st.epoch + ws.last me st)

@@ -156,6 +156,8 @@ pub record BeginsNext (x : Frame) (me : Side) (i later : ℕ) : Type 0 where
   pub not_early : later ≤ time_of (x.clock me i) takes.epoch
   pub not_late : time_of (x.clock me i) takes.epoch ≤ later + x.plan.p
 
+-- the frame is timely, each good node begins the next frame from time `later` on and within p, and
+-- good nodes of unlike kinds are still eligible at each other
 pub record KeepsTime (x : Frame) : Type 0 where
   pub timely : EachMessageIsTimely x
   pub later : ℕ

@@ -11,12 +11,12 @@ use Rattle.rb_rules.specs.declared.link.Rule.{Rule}
 use Rattle.rb_rules.specs.Links.{applies, covers, delay_after}
 use Rattle.rb_link.specs.Pairs.{delay_or, is_between}
 
--- the delay of the last rule that passes, else the one before them
+-- the delay of the last rule that passes, or else `base`
 abbrev delay_by : (Rule → Bool) → ℕ → List Rule → ℕ
 delay_by passes base [] = base
 delay_by passes base (r ∷ rs) = delay_by passes (if passes r then r.delay else base) rs
 
--- a rule in front of others is found where none of these is
+-- a rule in front of others is found if none of these is
 in_front : (base : ℕ) (passes : Rule → Bool) (r : Rule) (found : Option Rule)
     → delay_or base (option_or found (find passes (r ∷ []))) ≡ delay_or (if passes r then r.delay else base) found
 in_front base passes r (Some rule) = refl

@@ -13,7 +13,7 @@ use Rattle.rb_link.specs.Pairs.{AreLatest, IsLatest, delay_or, is_between, recei
 use Rattle.rb_link.specs.Rows.{PlaceFits, latest_has, rule_has}
 use Rattle.rb_link.proofs.LastRules.{last_of_all}
 
--- the first that passes one test, and the other too, is the first that passes both
+-- if the first rule that passes the first test passes the second, it is the first that passes both
 find_both : (first second : Rule → Bool) (rules : List Rule) (r : Rule) → find first rules ≡ Some r → second r ≡ true
     → find (λ x. first x && second x) rules ≡ Some r
 find_both first second [] r is both = let never : None ≡ Some r = is in absurd cc
@@ -74,7 +74,7 @@ latest_delay_is base rules from to rule place is has = go (find (is_between from
 in_all : (most n : ℕ) → n ≤ most → is_in_range (0, most) n ≡ true
 in_all most n le = ap (λ b. b && nat_le n most) (le-leb 0 n (omega arith)) ∙ le-leb n most le
 
--- these ranges cover the place of every message
+-- ranges up to the last frame, slot and stage cover each place
 pub every_place : (frames slots stages : ℕ) (place : Place) → place.frame ≤ frames → place.slot ≤ slots → place.stage ≤ stages
     → covers (0, frames) (0, slots) (0, stages) place ≡ true
 every_place frames slots stages place frame slot stage =

@@ -71,7 +71,6 @@ in_both low low2 high high2 least most n least_is most_is = same_bool _ _ there 
         let other = parts low2 high2 both.1 in
         inside least most (omega (arith, one.0, other.0, least_is)) (omega (arith, one.1, other.1, most_is))
 
--- three tests twice
 regrouped : (a b c d e f : Bool) → ((a && d) && (b && e) && (c && f)) ≡ ((a && b && c) && (d && e && f))
 regrouped true true true d e f = refl
 regrouped true true false true true f = refl
@@ -93,7 +92,6 @@ covers_both f g h s t u a b c place frames slots stages =
     ∙ regrouped (is_in_range g place.frame) (is_in_range t place.slot) (is_in_range b place.stage)
     (is_in_range h place.frame) (is_in_range u place.slot) (is_in_range c place.stage)
 
--- no rule has less
 pub covers_alone : (f s a : ℕ × ℕ) (place : Place) → covers f s a place ≡ (covers f s a place && true)
 covers_alone f s a place = elim (covers f s a place) as (λ b. b ≡ (b && true)) [ true ↦ refl | false ↦ refl ]
 
@@ -194,7 +192,7 @@ empty_row base rules sender place i delay at = let never : None ≡ Some delay =
 
 pub ruleset row_found = (empty_row)
 
--- the row of the sender has sixteen delays
+-- the row of a sender has sixteen delays if all its latest rules have the place, and else none
 pub sixteen_there : (base : ℕ) (rules : List Rule) (shared : List Ranges) (flat row : List ℕ) (sender : ℕ) (place : Place) (ranges : Ranges)
     → AreRows base rules shared flat → PlaceFits place → sender < 32 → Some ranges ≡ slice_get shared sender
     → covers ranges.frames ranges.slots ranges.stages place ≡ true → row ≡ slice_range flat (16 * sender) (16 * sender + 16)
@@ -229,7 +227,7 @@ none_past_sixteen delays from place row numbered empty =
 
 -- ---- pair by pair
 
--- the ranges are those of one pair more
+-- the shared ranges are those with the latest rule of one more pair
 pub one_rule_more : (latest : List Rule) (sender k : ℕ) (before after : Ranges) (found : Option Rule) → found ≡ slice_get latest (16 * sender + k)
     → IsShared latest sender k before
     → ((place : Place) → covers after.frames after.slots after.stages place ≡ (covers before.frames before.slots before.stages place && rule_has found place))

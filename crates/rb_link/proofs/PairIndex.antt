@@ -97,7 +97,7 @@ one_more before all p xs i d passes lt is by =
     ∙ ap (λ b. before ++ (places_from 0 p (take i xs) ++ cond b (i ∷ []) [])) by
     ∙ ap (λ l. before ++ l) (sym (places_from-more p xs i d lt))
 
--- the places below a pair are the first of those below a later one
+-- the places of the first `n` pairs are the first of those of more pairs
 rest_below : (n more : ℕ) (rules : List Rule) → (rest : List ℕ) × (places_below (n + more) rules ≡ places_below n rules ++ rest)
 unfolding places_below
 rest_below n zero rules =
@@ -137,7 +137,7 @@ starts_at (suc n) k rules lt =
           ∙ ap (λ i. length (places_below i rules)) (sym last)
     ]
 
--- what stands between two parts
+-- the part between the first one and the rest is the middle one
 between : (first here rest : List ℕ) → slice_range (first ++ (here ++ rest)) (length first) (length (first ++ here)) ≡ here
 between first here rest =
     let many : length (first ++ here) - length first ≡ length here = omega (arith, length-append first here) in

@@ -121,7 +121,7 @@ goes-on-following sizes plan s n m l h e f cores tells (c, (core, at)) =
       tells c core ∙ ap told acts ∙ sym (ap (λ (x : Heeding). x.heed) all),
     )
 
--- what is told of a step
+-- a step delivers what the window delivers that it closes, if it closes one
 delivered-by : (shown : Closed) (b : Bool) → option_and_then (λ (c : Closed). c.delivered) (if b then Some shown else None) ≡ (if b then shown.delivered else None)
 delivered-by shown true = refl
 delivered-by shown false = refl

@@ -23,7 +23,7 @@ in-stage st x s n l e at = subst (λ y. IsListeningIn y s n l) e at
 from-stage : (st x : Stage) (s : Search) (n : Running) (l : Listening) → st ≡ x → IsListeningIn x s n l → IsListeningIn st s n l
 from-stage st x s n l e at = subst (λ y. IsListeningIn y s n l) (sym e) at
 
--- It stands for some listener.
+-- A stage stands for some listener.
 
 pub some-searching : (st : Stage) (s : Search) (n : Running) → st ≡ Searching → (l : Listening) × IsListeningIn st s n l
 some-searching st s n e = (now.Searching s, from-stage st Searching s n (now.Searching s) e refl)
@@ -78,7 +78,7 @@ arrive-following sizes plan st s n m from bytes l e sound cores at =
 
 -- Ticks.
 
--- what holds after a tick
+-- after the tick the listener is in the stage `st`, and it tells `h`
 pub record Heeds (sizes : Sizes) (plan : Plan) (l : Listening) (st : Stage) (s : Search) (n : Running) (h : Heed) : Type 0 where
   pub stands : IsListeningIn st s n (heed sizes plan l).listening
   pub heed : h ≡ (heed sizes plan l).heed

@@ -61,7 +61,7 @@ act-by sizes c st o b = elim b [
   }
 ]
 
--- what the window that is closed makes of it
+-- what the close of the window makes of the node
 abbrev closing-of : Seated → NodeState → Window → List (ℕ × Arrival) → Outcome
 closing-of v st w inbox = close_window v.sizes v.plan Biu 16 st w (of_source inbox)
 

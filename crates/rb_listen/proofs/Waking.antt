@@ -95,7 +95,7 @@ soonest-is v w had b1 b2 b3 ticks epoch is s1 s2 s3 =
       here = λ k lo hi. here k lo hi ∙ is;
     }
 
--- It is found.
+-- The next waking tick is found.
 
 finds : (v : Seated) (others had k : ℕ) → had ≤ k → k < had + others → ((m : ℕ) → had ≤ m → m < k → wakes_at v m ≡ false)
     → wakes_at v k ≡ true → wake_among v.sizes v.plan v.state others had ≡ Some k
@@ -153,7 +153,7 @@ passing-is n k next =
           ap (λ o. unwrap_or o (2 ^ 31)) (among-none n.seat n.had k next end) ∙ e
     ]
 
--- Up to it what is kept stays what it is.
+-- What is kept stays as it is up to the next waking tick.
 
 next-on : (v : Seated) (had m k : ℕ) → IsNextWake v had k → had ≤ m → m ≤ k → IsNextWake v m k
 next-on v had m k n lo hi = record {
@@ -216,7 +216,7 @@ turning-same v k h = by (is_tick (new_epoch_of v.plan Biu v.state) k) refl
         cc
     by false e = no-turn v Biu k e
 
--- an act by whether the window is closed and whether a frame begins
+-- an act that closes no window and begins no frame does nothing
 no-act : (sizes : Sizes) (plan : Plan) (c : Core) → (c.state.epoch == c.had) ≡ false → is_last sizes plan Biu c.state c.had ≡ false
     → act_on sizes plan Biu 16 c c.state None c.state ≡ nothing c
 unfolding act_on

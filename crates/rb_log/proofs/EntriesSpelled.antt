@@ -28,7 +28,7 @@ record Says (senders : ℕ) (bytes : List ℕ) (place : ℕ) (entry : Entry) : T
   ticks : ticks_of entry ≡ ticks_told said
   going_on : is_end entry ≡ false
 
--- what an entry at a place tells of the bytes there
+-- an entry at a place says something that the bytes there spell, or it is the end
 data Kind (senders : ℕ) (bytes : List ℕ) (place : ℕ) (entry : Entry) : Type 0 where
   record_is : Says senders bytes place entry → Kind senders bytes place entry
   end_is : entry ≡ End → drop place bytes ≡ 4 ∷ drop (place + 1) bytes → Kind senders bytes place entry
@@ -178,7 +178,7 @@ end_ok bytes place ticks entry others events ends is = go (nat_lt (place + 1) (l
   go true more = absurd (let last = rw more at here in cc)
   go false more = let last : Ok [] ≡ Ok events = rw more at here in (grind (arith, nat_tests), cc)
 
--- what the events from a place on are spelled by
+-- the bytes from the place on spell the events and then the end
 pub record AreSpelled (senders : ℕ) (bytes : List ℕ) (place ticks : ℕ) (all : List CoreEvent) : Type 0 where
   pub told : List Told
   pub may : All (MayBeTold senders) told

@@ -36,6 +36,6 @@ reads_byte bytes rest place n low high is low_enough high_enough =
     let read : number_at bytes place 1 ≡ n = rw is one in
     field_is bytes place 1 n low high (omega arith) read low_enough high_enough
 
--- what stands further on
+-- what is behind `xs` in the bytes is `ys`
 pub further : (bytes xs ys : List ℕ) (place : ℕ) → drop place bytes ≡ xs ++ ys → drop (place + length xs) bytes ≡ ys
 further bytes xs ys place is = sym (drop-drop (length xs) place bytes) ∙ ap (λ (l : List ℕ). drop (length xs) l) is ∙ drop-append_seam xs ys

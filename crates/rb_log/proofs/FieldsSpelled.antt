@@ -10,7 +10,7 @@ use Rattle.rb_rules.specs.Spelling.{AreBytes}
 use Rattle.rb_log.specs.Fields.{◌>>=◌, field, number_at}
 use Rattle.rb_log.specs.declared.refusal.LogRefusal.{LogRefusal}
 
--- a step that went on
+-- the first step gave a value, and the next one gave `last`
 pub record Steps {A B : Type 0} (r : Result A LogRefusal) (next : A → Result B LogRefusal) (last : B) : Type 0 where
   pub value : A
   pub first : r ≡ Ok value

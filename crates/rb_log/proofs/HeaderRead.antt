@@ -144,7 +144,7 @@ first_is_plain plan first = go plan.version plan.probation refl refl where
 
 -- The whole header.
 
--- the header is read, and the rest begins behind it
+-- the header is read, and `rest` begins behind it
 pub record IsHeaderRead (bytes : List ℕ) (t : Timetable) (node : NodeName) (rest : List ℕ) : Type 0 where
   pub size : ℕ
   pub read : header_in bytes ≡ Ok (record { plan = t; node = node; size = size })

@@ -23,7 +23,7 @@ drops (suc n) zero events few = absurd (omega arith)
 drops (suc n) (suc zeros) events few =
     let e : suc zeros - suc n ≡ zeros - n = omega arith in rw e (drops n zeros events (omega arith))
 
--- n of the ticks of the record before are passed
+-- after `n` ticks of the record before have passed, the events left are those without them
 pub some_passed : (c : Cursor) (n : ℕ) → n ≤ c.zeros → (events_left (record c { zeros = c.zeros - n }) ≡ drop n (events_left c))
     × (quiet_in_front (events_left c) ≡ n + quiet_in_front (events_left (record c { zeros = c.zeros - n })))
 unfolding events_left events_behind
@@ -62,7 +62,7 @@ begins c entry size zeros none is all_bytes all_zeros some inside s =
       rw (← told) (sym (left_is c none ∙ passed.1)),
     )
 
--- any other record has no such tick at its front
+-- any other record has no quiet tick at its front
 other_front : (bytes : List ℕ) (place : ℕ) (entry : Entry) (events : List CoreEvent) → is_end entry ≡ false → HasTicks entry → zeros_of entry ≡ 0
     → quiet_in_front (events_of bytes place entry ++ events) ≡ 0
 other_front bytes place (Tick zero) events end some none = absurd (omega arith)
@@ -80,7 +80,7 @@ no_front c entry none is zeros some inside s = go (is_end entry) refl where
       rw (left_is c none ∙ (passes c (size_of entry) (ticks_of entry) entry is end refl refl inside s).1)
       (other_front c.bytes.now c.place entry _ end some zeros)
 
--- the first n of the ticks in front, and what is behind them
+-- the events are the first `n` quiet ticks, and then what is behind them
 pub split_front : (n : ℕ) (events : List CoreEvent) → n ≤ quiet_in_front events → events ≡ replicate n (event.Tick 0) ++ drop n events
 split_front zero events few = refl
 split_front (suc n) [] few = absurd (omega arith)

@@ -46,7 +46,7 @@ unrolls_from (suc most) senders bytes place ticks is =
     same_then (entry_at senders bytes place) _ _ (λ entry. ap (after bytes place ticks entry)
     (let some = some_bytes entry in enough most senders bytes (place + size_of entry) (ticks + ticks_of entry) (omega arith)))
 
--- a record, and then the records behind it
+-- the events from a place on are those of the record there, and then those of the records behind it
 pub unrolls : (senders : ℕ) (bytes : List ℕ) (place ticks : ℕ) → events_at senders bytes place ticks
     ≡ (entry_at senders bytes place
     >>= (λ (entry : Entry). after bytes place ticks entry (events_at senders bytes (place + size_of entry) (ticks + ticks_of entry))))

@@ -27,7 +27,7 @@ text-one frame slot all now lines i d below is =
     ∙ ap (λ t. lines_text frame slot all (take i lines) ++ t) (append-nil (given_text frame slot (get_or lines i d) (letter_of (with_lines all (take i lines)) (get_or lines i d))))
     ∙ ap (λ (o : Open). lines_text frame slot all (take i lines) ++ given_text frame slot (get_or lines i d) (letter_of o (get_or lines i d))) (sym is)
 
--- what one more gives is written
+-- with the letter of one more line the text of the lines up to it is written
 pub heard-more : (frame slot : ℕ) (all now : Open) (lines : List SlotLine) (i : ℕ) (d : SlotLine) (given : Option (List ℕ)) (old mid new : Option (List ℕ)) → i < length lines
     → now ≡ with_lines all (take i lines) → given ≡ letter_of now (get_or lines i d) → Appends old mid (lines_text frame slot all (take i lines))
     → Appends mid new (given_text frame slot (get_or lines i d) given) → Appends old new (lines_text frame slot all (take (i + 1) lines))

@@ -9,7 +9,7 @@ use Rattle.rb_long.specs.Reading.{OpenLetter, open_after, with_value}
 use Rattle.rb_long_run.specs.Hearing.{Open, letter_of, lines_text, read_of, with_line, with_lines}
 use Rattle.rb_long_run.specs.Reports.{given_text, slot_text}
 
--- each receiver holds of each sender the letter that is open after these deliveries
+-- each receiver holds of each sender the letter that is open after the deliveries `past`
 pub record Hears (all : Open) (past : List SlotLine) : Type 0 where
   pub many : length all ≡ 16
   pub each : (r : ℕ) → r < 16 → length (get_or all r []) ≡ 16
@@ -63,7 +63,7 @@ letter-same all past line is = by (is_named line) refl
         ap (λ (o : Option OpenLetter). (with_value line.value o).given) (is.known line.receiver line.sender (ltb-true line.receiver 16 parts.0) (ltb-true line.sender 16 parts.1))
     by false named = refl
 
--- a line of others says nothing of these
+-- a line of other nodes says nothing of receiver `r` and sender `s`
 not-named : (line : SlotLine) (r s : ℕ) → r < 16 → s < 16 → is_named line ≡ false → is_from r s line ≡ false
 not-named line r s below within named = by (cases_eq line.receiver r) (cases_eq line.sender s)
   where
@@ -81,7 +81,7 @@ unnamed all past line named is = record {
   known = λ r s below within. is.known r s below within ∙ sym (open-other r s past line (not-named line r s below within named));
 }
 
--- a list of lists in which one item of one is written
+-- the lists with `o` as item `s` of list `r`
 abbrev written : Open → ℕ → ℕ → Option OpenLetter → Open
 written all r s o = slice_set all r (slice_set (get_or all r []) s o)
 

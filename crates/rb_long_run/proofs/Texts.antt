@@ -17,12 +17,12 @@ use Rattle.rb_run.specs.Reports.{newest_after}
 use Rattle.rb_run.specs.Turns.{records_in}
 use Rattle.rb_run.proofs.Texts.{records-more}
 
--- the deliveries of one record more
+-- the lines of a record, if there is one
 abbrev lines-of : Option Record → List SlotLine
 lines-of None = []
 lines-of (Some r) = lines_in r
 
--- the text of records after others
+-- the text of two parts of the records is that of the first, and then that of the second
 pub text-of-parts : (n : ℕ) (past : List SlotLine) (xs ys : List Record)
     → letters_after n past (xs ++ ys) ≡ letters_after n past xs ++ letters_after (newest_after n xs) (past ++ deliveries_in xs) ys
 text-of-parts n past [] ys = ap (λ lines. letters_after n lines ys) (sym (append-nil past))
@@ -34,7 +34,7 @@ text-of-parts n past (Slot frame slot lines ∷ xs) ys =
 text-of-parts n past (Ended ∷ xs) ys = ap (λ t. end_text n ++ t) (text-of-parts n past xs ys) ∙ sym (append_assoc (end_text n) _ _)
 text-of-parts n past (Breach place cause ∷ xs) ys = ap (λ t. breach_text place cause ++ t) (text-of-parts n past xs ys) ∙ sym (append_assoc (breach_text place cause) _ _)
 
--- a turn says what its record says after those deliveries
+-- a turn says what its record says after the deliveries `past`
 turn-same : (n : ℕ) (all : Open) (past : List SlotLine) (o : Option Record) → Hears all past → turn_text n all o ≡ letters_after n past (option_to_list o)
 turn-same n all past None is = refl
 turn-same n all past (Some (Frame frame nodes ports)) is = refl

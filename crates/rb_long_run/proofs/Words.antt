@@ -9,7 +9,7 @@ use Rattle.rb_long.specs.Spelling.{parts_in, spelling_of}
 use Rattle.rb_long.proofs.Words.{words-in}
 use Rattle.rb_long.specs.Waiting.{next_word_of, without_word}
 
--- the words that are still to come after the first n
+-- the words after the first `n`, as the only letter that waits, if there are any
 abbrev pub left_of : ℕ → List ℕ → List (List ℕ)
 left_of n words = cond (nat_lt n (length words)) (drop n words ∷ []) []
 
@@ -35,7 +35,7 @@ pub word-gone : (n : ℕ) (words : List ℕ) (waiting after : List (List ℕ)) �
 word-gone n words waiting after below is goes =
     goes ∙ ap without_word (is ∙ here n words below) ∙ gone n words below (cases_lt (n + 1) (length words))
 
--- the line of a word, by the word that it shows
+-- a line that shows a word is the text of that word
 pub line-shows : (old new : Option (List ℕ)) (bytes : List ℕ) (shown word : ℕ) → bytes ≡ word_text shown → shown ≡ word → Appends old new bytes → Appends old new (word_text word)
 line-shows old new bytes shown word is same written = subst (λ t. Appends old new t) (is ∙ ap word_text same) written
 

@@ -7,7 +7,7 @@ use Rattle.rb_rules.proofs.Ranks.{below-le}
 use Rattle.rb_mid.specs.declared.Range.{Range}
 use Rattle.rb_mid.specs.Ranges.{IsWithin}
 
--- fewer are at most a lower number
+-- at most as many stamps are up to a lower number
 up_to-most : (m n : ℕ) (stamps : List ℕ) → m ≤ n → up_to m stamps ≤ up_to n stamps
 up_to-most m n stamps le =
     count_if-le (λ x. nat_le x m) (λ x. nat_le x n) (λ x is. let low : x ≤ m = leb-true x m is in le-leb x n (omega arith)) stamps

@@ -90,7 +90,7 @@ says-stage me v slot stage word k (Third z a b c) some =
 zero-not : (stage n : ℕ) (o : Option Message) → stage ≡ n → (0 == n) ≡ false → stage ≡ 0 → None ≡ o
 zero-not stage n o e h none = let same : (0 == n) ≡ true = grind (arith, nat_tests) in cc
 
--- if none is due, none
+-- if no stage is due, nothing is said
 pub says-none : (me : Side) (v : Seated) (slot stage word k : ℕ) → SaysIn me v slot k stage → stage ≡ 0 → None ≡ said_in me v slot k word
 says-none me v slot stage word k (Silent z a b c) none =
     sym (or-later (stage_at me v slot 1 word k) (option_or (stage_at me v slot 2 word k) (stage_at me v slot 3 word k)) (not-due me v slot 1 word k a)

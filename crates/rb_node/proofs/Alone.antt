@@ -119,7 +119,7 @@ pub alone-soon : (me : Side) (v : Seated) (had : ℕ) (a : Ahead) → IsShape v.
 alone-soon me v had a shape plan l is =
     ended-soon v a.window (a.busy.tick + 1) shape plan (alone-ended me v v had a l is (same-self v)) (kept-alone me v had a l is).slot
 
--- the next tick lies in the one that follows
+-- the next tick is in the window that follows
 pub alone-follows : (me : Side) (v v3 : Seated) (had : ℕ) (a : Ahead) (x : Window) → IsShape v.sizes → IsPlan v.plan → v.state.epoch ≤ had
     → LooksAhead me v had a → a.alone ≡ true → IsSameFrame v v3 → x ≡ following v3.plan a.window → IsWindowOf me v3 (a.busy.tick + 1) x
 alone-follows me v v3 had a x shape plan epoch l is same x_is =
@@ -196,7 +196,7 @@ kept-below me v had a c k l state had_is next =
       | inr end ↦ absurd (none-some k (sym (next-none me v c had a.busy.tick state had_is l.next end) ∙ next))
     ]
 
--- what the tick says, of a core in the node's state
+-- a core in the node's state says at the tick what the node says
 message-at : (me : Side) (v : Seated) (c : Core) (k : ℕ) → c.state ≡ v.state → c.had ≡ k → k < 2 ^ 31 → is_tick (new_epoch_of v.plan me v.state) k ≡ false
     → (tick v.sizes v.plan me v.index c 0).message ≡ said_at v.sizes v.plan me v.index v.state 0 k
 message-at me v c k state had below stays =

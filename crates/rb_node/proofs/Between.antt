@@ -124,7 +124,7 @@ arrive-takes sizes me c from bytes h below =
     ap (λ b. arrived c from bytes (b && not (is_spent c))) (lt-ltb from (count_of (other me) sizes) h)
     ∙ ap (λ b. arrived c from bytes (not b)) (not-spent c below)
 
--- what holds all that came, and this, holds the list with this at its end
+-- what holds all arrivals so far holds them with one more, once that is noted
 pub holds-more : (kept : KeptArrivals) (inbox : List (ℕ × Arrival)) (from at : ℕ) (bytes : List ℕ) (source stamp : ℕ)
     → HoldsArrivals kept (received_of inbox ++ record { source = source; arrival = record { stamp = stamp; bytes = bytes } } ∷ [])
     → source ≡ from → at ≡ stamp → HoldsArrivals kept (received_of (inbox ++ (from, record { stamp = at; bytes = bytes }) ∷ []))

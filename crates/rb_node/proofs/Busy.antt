@@ -53,7 +53,7 @@ or-third false false false h = cc
 or-none : (a b c : Bool) → a ≡ false → b ≡ false → c ≡ false → (a || b || c) ≡ false
 or-none a b c h i j = rw (h, i, j) refl
 
--- a frame begins with it
+-- a tick with which a frame begins is busy
 pub busy-turn : (me : Side) (v : Seated) (k : ℕ) → is_tick (new_epoch_of v.plan me v.state) k ≡ true → busy_at me v k ≡ true
 unfolding is_busy
 busy-turn me v k h =
@@ -68,7 +68,7 @@ unfolding is_busy
 by-state me v k h =
     ap (λ (st : NodeState). (st.epoch == k) || is_last v.sizes v.plan me st k || is_some (said_at v.sizes v.plan me v.index st 0 k)) (no-turn v me k h)
 
--- the tick is busy by its state, whether the node turns or not
+-- a tick that is busy by the node's present state is busy, whether the node turns or not
 pub busy-if : (me : Side) (v : Seated) (k : ℕ) → as-it-is me v k ≡ true → busy_at me v k ≡ true
 busy-if me v k h = by (is_tick (new_epoch_of v.plan me v.state) k) refl
   where
@@ -326,7 +326,7 @@ says-in me v slot had tick third second first c3 c2 c1 =
           ]) not1.0
     ]
 
--- the candidate of a stage, by what is said and when that is sent
+-- if tick `k` is not that of the message, nothing is said at tick `k`
 pub said-tick : (k : ℕ) (m : Option Message) (t : Option ℕ) → is_tick t k ≡ false → is_tick (if-said m t) k ≡ false
 said-tick k None t h = refl
 said-tick k (Some m) t h = h

@@ -152,7 +152,7 @@ quiet-any sizes plan me index c word quiet below =
     ∙ sym (tick-now sizes plan me index c 0 below)
     ∙ quiet-tick sizes plan me index c q below
 
--- n ticks pass, up to the next busy one
+-- the ticks up to the next busy one pass
 pub passes : (me : Side) (v : Seated) (c : Core) (had k n : ℕ) → c.state ≡ v.state → c.had ≡ had → IsNextBusy me v had k → had + n ≤ k
     → ticks v.sizes v.plan me v.index n c ≡ record c { had = c.had + n }
 passes me v c had k n s h next le =

@@ -32,7 +32,7 @@ kept-next me v had a c k l state had_is next =
       | inr end ↦ absurd (none-some k (sym (next-none me v c had a.busy.tick state had_is l.next end) ∙ next))
     ]
 
--- no frame begins with it, by either
+-- if the core does not turn at the kept tick, the node does not
 pub kept-stays : (me : Side) (v : Seated) (had : ℕ) (a : Ahead) (c : Core) (k : ℕ) → LooksAhead me v had a → c.state ≡ v.state → c.had ≡ had
     → next_tick v.sizes v.plan me v.index c ≡ Some k → is_tick (new_epoch_of v.plan me c.state) k ≡ false
     → is_tick (new_epoch_of v.plan me v.state) a.busy.tick ≡ false
@@ -65,7 +65,7 @@ ends-kept me v had a c k l state had_is next slot last stays =
           (subst (λ (w : Window). w.slot < sync_slot_of v.sizes) (window-kept me v had a l) slot);
     }))
 
--- what is kept shows that it does
+-- the kept tick is the last of the kept window, which is below the sync slot
 pub record ShowsEnd (v : Seated) (a : Ahead) : Type 0 where
   pub slot : a.window.slot < sync_slot_of v.sizes
   pub last : v.state.epoch + a.window.last ≡ a.busy.tick

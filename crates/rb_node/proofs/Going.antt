@@ -57,7 +57,7 @@ ended-stage v w next plan ended below =
     let stage : w.stage ≡ n.1.number % 3 + 1 = ap (λ (x : Window). x.stage) n.1.is in
     omega arith
 
--- the next tick lies in the one that follows it
+-- the next tick is in the window that follows the ended one
 pub ended-follows : (me : Side) (v : Seated) (w x : Window) (next : ℕ) → IsShape v.sizes → IsPlan v.plan → v.state.epoch ≤ next → next ≤ 2 ^ 31
     → IsEnded v w next → w.slot < sync_slot_of v.sizes → x ≡ following v.plan w → IsWindowOf me v next x
 ended-follows me v w x next shape plan epoch soon ended below is =

@@ -21,7 +21,7 @@ use Rattle.rb_node.specs.declared.ahead.Busy.{Busy}
 use Rattle.rb_node.proofs.Busy.{said-tick}
 use Rattle.rb_node.proofs.Windows.{window-or-tail}
 
--- a window below the sync slot, which has this number, and in which the offset lies
+-- `w` is an exact window below the sync slot, and the offset lies in it
 pub record IsNumbered (sizes : Sizes) (plan : Plan) (offset : ℕ) (w : Window) : Type 0 where
   pub number : ℕ
   pub below : number < 3 * sync_slot_of sizes
@@ -78,7 +78,7 @@ numbered sizes plan offset w ticks found below =
           absurd (omega arith)
     ]
 
--- the window of a tick, where it lies below the sync slot
+-- the window of a tick if it is below the sync slot
 pub numbered-here : (me : Side) (v : Seated) (had : ℕ) (w : Window) → HasTicks v.plan → IsWindowOf me v had w → w.slot < sync_slot_of v.sizes
     → IsNumbered v.sizes v.plan (had - v.state.epoch) w
 numbered-here me v had w ticks here below =
@@ -159,7 +159,7 @@ follows sizes plan offset w ticks h =
 regroup : (a b c : ℕ) → a + (b + c) ≡ a + b + c
 regroup a b c = omega arith
 
--- the tick at which the window's message is sent
+-- the message of a window below the sync slot is sent h ticks after the window's first tick
 pub sent-here : (v : Seated) (offset : ℕ) (w : Window) → IsNumbered v.sizes v.plan offset w → w.slot < sync_slot_of v.sizes
     → send_tick_of v.sizes v.plan v.state w.slot w.stage ≡ Some (v.state.epoch + w.first + v.plan.h)
 sent-here v offset w h below =
@@ -216,7 +216,7 @@ idle had stage candidate b later none = record {
   either = inr (none b.tick later (omega arith), refl);
 }
 
--- the choice among the three stages is that of the window's own
+-- the choice among the three stages is that of the window's own stage
 pub own-stage : (me : Side) (v : Seated) (had : ℕ) (w : Window) (before after : Busy) → v.plan.h < v.plan.l → v.state.epoch ≤ had
     → IsNumbered v.sizes v.plan (had - v.state.epoch) w → w.slot < sync_slot_of v.sizes → had ≤ before.tick
     → before.tick ≤ v.state.epoch + w.last → IsChosen had (tick_said me v w.slot w.stage) w.stage before after

@@ -94,7 +94,7 @@ sync-says sizes me i st slot stage word e =
     let role : role_of sizes slot ≡ Sync = ap (role_of sizes) e ∙ sync_role sizes in
     rw role refl
 
--- what is kept, by the message that is said
+-- what a sender keeps is given by the message that it says
 pub kept-is : (sizes : Sizes) (me : Side) (i : ℕ) (st : NodeState) (slot stage word : ℕ)
     → state_kept sizes me i st word (message_said sizes me i st slot stage word) ≡ keep_sent sizes me i st slot stage word
 kept-is sizes me i st slot stage word = by (slot == sync_slot_of sizes) refl

@@ -135,7 +135,7 @@ want-silent me v w k shape plan is none = by (is_tick (new_epoch_of v.plan me v.
     by true e = want-turned me v k shape plan e
     by false e = want-later me v w k e is none
 
--- a message of the first stage takes one, where words are said in the slot
+-- a message of stage 1 takes a word if and only if words are said in the slot
 first-stage : (sizes : Sizes) (m : Message) (slot : ℕ) → HasPlace m slot 1 → slot_wanted sizes (Some m) ≡ slot_of_words sizes slot
 first-stage sizes m slot p =
     ap (λ s. elim ((s == 1) && nat_lt m.slot (first_diagnosis_of Biu sizes)) as (λ _. Option ℕ) [ true ↦ Some m.slot | false ↦ None ]) p.stage_is

@@ -18,7 +18,7 @@ use Rattle.rb_plan.proofs.Offsets.{number_below, found_below, found_stage_1, fou
 pub has-ticks : (plan : Plan) → IsPlan plan → HasTicks plan
 has-ticks plan is = record { l = is.l.0; v = is.v.0; z = is.z.0 }
 
--- the window of an offset goes on up to its last one
+-- `w` is the window of each offset from this one up to its last
 pub record GoesOn (sizes : Sizes) (plan : Plan) (offset : ℕ) (w : Window) : Type 0 where
   pub found : window_at sizes plan offset ≡ Some w
   pub before_tail : w.last < tail_start_of sizes plan
@@ -83,7 +83,7 @@ in-sync sizes plan offset ticks from to =
       ]
     ]
 
--- an offset has a window, or all from it on have none
+-- an offset has a window, or no offset from it on has one
 pub window-or-tail : (sizes : Sizes) (plan : Plan) (offset : ℕ) → HasTicks plan
     → HasWindow sizes plan offset ⊎ ((p : ℕ) → offset ≤ p → window_at sizes plan p ≡ None)
 window-or-tail sizes plan offset ticks =
@@ -95,7 +95,7 @@ window-or-tail sizes plan offset ticks =
       ]
     ]
 
--- a tick has the window of an earlier one, where that has not ended
+-- a tick has the window of an earlier one if that window has not ended
 pub goes-on : (sizes : Sizes) (plan : Plan) (me : Side) (st : NodeState) (had k : ℕ) → HasTicks plan → st.epoch ≤ had → had ≤ k
     → (had ≤ st.epoch + (window_here sizes plan me st had).last → k ≤ st.epoch + (window_here sizes plan me st had).last)
     → window_here sizes plan me st k ≡ window_here sizes plan me st had

@@ -1,5 +1,5 @@
 -- What is known of the bytes after calls in a row. Below, a, b and c are what is known at one
--- moment, at a later one and at one later still, and h is what is known where nothing happened.
+-- moment, at a later one and at one later still, and h is what is known if nothing happened.
 use Rattle.std.proofs.Common.{◌≡◌, ℕ, ◌+◌, ◌<◌, ◌≤◌, List, [], ◌++◌, length, take, drop, Option, None, Some, IsSomeAnd, sym, ap, ◌∙◌, append_assoc, refl, arith, rules, length-append}
 use Rattle.std.proofs.lemmas.List.{take-append-drop}
 use Rattle.std.proofs.Math.Seq.{take-add}
@@ -38,11 +38,11 @@ appends_keeps (Some a) (Some b) (Some c) xs p q = q ∙ p
 pub part_none : (h : Option (List ℕ)) (xs : List ℕ) → AppendsPart h h xs
 part_none h xs = record { part = []; rest = xs; whole = refl; appended = appends_none h }
 
--- bytes are a first part of themselves and what was to follow
+-- bytes that were appended are a first part of longer ones
 pub part_of : (a b : Option (List ℕ)) (xs ys : List ℕ) → Appends a b xs → AppendsPart a b (xs ++ ys)
 part_of a b xs ys p = record { part = xs; rest = ys; whole = refl; appended = p }
 
--- the first n bytes were appended, and then a call failed
+-- if a call failed after the first `n` bytes were appended, the bytes were appended in part
 pub part_of_taken : (a b c : Option (List ℕ)) (xs : List ℕ) (n : ℕ)
     → Appends a b (take n xs) → Keeps b c → AppendsPart a c xs
 part_of_taken a b c xs n p q = record {

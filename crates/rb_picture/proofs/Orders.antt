@@ -74,7 +74,6 @@ is_whole bytes at newest ls before end last = record {
   ended = sym before.last ∙ last;
 }
 
--- some bytes are not none
 pub some_bytes : (bytes : List ℕ) → 0 < length bytes → bytes ≢ []
 some_bytes bytes some none = absurd (omega (arith, some, ap length none))
 

@@ -74,7 +74,7 @@ body_ascii l fits = under_ascii (line_body l) (fields_under (line_word l) (line_
 pub text_some : (l : Line) → 0 < length (line_text l)
 text_some l = omega (arith, ap length (body_is l), length-append (line_body l) (codes "\n"))
 
--- what stands before a last byte
+-- a list with a last byte has one front alone
 front_is : (bytes front b : List ℕ) (x y : ℕ) → bytes ≡ front ++ x ∷ [] → bytes ≡ b ++ y ∷ [] → front ≡ b
 front_is bytes front b x y one two =
     let same : length front ≡ length b = omega (arith, ap length (sym one ∙ two), length-append front (x ∷ []), length-append b (y ∷ [])) in

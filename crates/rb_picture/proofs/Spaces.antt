@@ -117,7 +117,7 @@ decimal_ascii n small = less_under (decimal n) (decimal_under n small) where
       let two = and_parts (nat_lt x 58) (under 58 xs) h in
       rw (lt-ltb x 128 (omega (arith, ltb-true x 58 two.0)), less_under xs two.1) refl
 
--- no number is spelled so
+-- no number is spelled `none`
 pub no_number : (n : ℕ) → n < 2 ^ 64 → decimal n ≡ codes "none" → ⊥
 no_number n small is = false≢true (sym (ap (λ t. under 58 t) is) ∙ decimal_under n small)
 
@@ -182,7 +182,7 @@ fields_more a w (f ∷ fs) = ap (λ t. with_fields t fs) (append_assoc a w (code
 pub fields_next : (w f : List ℕ) (fs : List (List ℕ)) → with_fields w (f ∷ fs) ≡ w ++ (32 ∷ with_fields f fs)
 fields_next w f fs = fields_more w (codes " " ++ f) fs ∙ ap (λ t. w ++ t) (fields_more (codes " ") f fs)
 
--- each of these texts has such bytes alone
+-- all bytes of these texts are above `k`
 abbrev pub all_above : ℕ → List (List ℕ) → Bool
 all_above k [] = true
 all_above k (f ∷ fs) = above k f && all_above k fs

@@ -42,7 +42,7 @@ pub with_pieces-append : (sheet : Sheet) (text : List ℕ) (ps qs : List Piece) 
 with_pieces-append sheet text [] qs = refl
 with_pieces-append sheet text (p ∷ ps) qs = with_pieces-append sheet (with_piece sheet text p) ps qs
 
--- what the first of some lines shows
+-- what line `x` shows with `lines` behind it
 abbrev next_pieces : Stand → Line → List Line → List Piece
 next_pieces stand x lines = pieces_at stand (stand_with stand x lines) x
 
@@ -59,7 +59,7 @@ pub pieces_turn : (sheet : Sheet) (text : List ℕ) (stand : Stand) (ls : List L
     (pieces_from (stand_with stand (get_or ls i d) (drop i ls)) (drop (i + 1) ls))
 pieces_turn sheet text stand ls i d below = pieces_first sheet text stand (get_or ls i d) (drop (i + 1) ls) (drop i ls) (drop_more ls i d below)
 
--- what the next line shows was written
+-- if what line `i` shows was written, what the lines behind it show is still to be written
 pub line_turn : (sheet : Sheet) (text next : List ℕ) (stand after : Stand) (ls rest : List Line) (i : ℕ) (d : Line) → i < length ls → rest ≡ drop i ls
     → after ≡ stand_with stand (get_or ls i d) rest → next ≡ with_pieces sheet text (pieces_at stand after (get_or ls i d))
     → with_pieces sheet next (pieces_from after (drop (i + 1) ls)) ≡ with_pieces sheet text (pieces_from stand (drop i ls))

@@ -9,8 +9,8 @@ use Rattle.rb_picture.specs.Fields.{above}
 use Rattle.rb_picture.specs.Lines.{AllFit, FindsEach, Fits, IsNoReport, IsReport, ascend, end_of, last_place, line_body, line_place, line_text, text_of_lines}
 use Rattle.rb_picture.proofs.Parts.{body_above, body_is, text_some}
 
--- the bytes behind a place are the text of these lines, each in its place, and the last one tells
--- how the run ended
+-- the bytes from a place on are the text of the lines `left`, each in its place, and the last one
+-- ends the run
 pub record GoesOn (bytes : List ℕ) (at newest : ℕ) (left : List Line) : Type 0 where
   pub spelled : drop at bytes ≡ text_of_lines left
   pub in_order : ascend newest left ≡ true

@@ -9,7 +9,7 @@ use Rattle.rb_rules.specs.declared.plan.Plan.{Plan}
 use Rattle.rb_rules.proofs.Feasibility.{not_less, feasible_exactly}
 use Rattle.rb_rules.specs.Plan.{Sides, inequalities_of, first_failing, IsFeasible}
 
--- the item of a list at an index that it has
+-- an item that a list has at an index is the one there, and the index is below the length
 pub item_at : {X : Type 0} (xs : List X) (i : ℕ) (x d : X) → slice_get xs i ≡ Some x → (i < length xs) × (get_or xs i d ≡ x)
 item_at [] i x d is = absurd (cc)
 item_at (y ∷ ys) zero x d is = (omega arith, cc)
@@ -41,7 +41,7 @@ pub fails_first : (sizes : Sizes) (plan : Plan) (n : ℕ) (x : Sides) → 1 ≤ 
 fails_first sizes plan n x some is here before =
     counted _ (n - 1) n (first_at fails (inequalities_of sizes plan) (n - 1) x is here (λ k d h. before k d (omega arith))) (omega arith)
 
--- the nth holds too
+-- if the inequality after those that hold does not fail, it holds too
 pub holds_next : (sizes : Sizes) (plan : Plan) (n : ℕ) (x : Sides) → 1 ≤ n → slice_get (inequalities_of sizes plan) (n - 1) ≡ Some x → fails x ≡ false
     → HoldBefore sizes plan n → HoldBefore sizes plan (n + 1)
 holds_next sizes plan n x some is here before k d h =
@@ -53,7 +53,7 @@ holds_next sizes plan n x some is here before k d h =
           ap fails item ∙ here
     ]
 
--- all hold
+-- if none of the inequalities fails, the plan is feasible
 pub all_hold : (sizes : Sizes) (plan : Plan) → HoldBefore sizes plan 8 → IsFeasible sizes plan
 all_hold sizes plan all = λ k d h.
     not_less (get_or (inequalities_of sizes plan) k d).left (get_or (inequalities_of sizes plan) k d).right (all k d (omega arith))

@@ -37,7 +37,7 @@ find_next p x xs h = rw h refl
 
 -- ---- the windows of one length
 
--- the one with this number is found among those from another on
+-- the window with this number is found among those from number `a` on
 found_exact : (plan : Plan) (offset number a n : ℕ) → 1 ≤ plan.l → a ≤ number → number < a + n
     → number * plan.l ≤ offset → offset < number * plan.l + plan.l
     → find (holds_offset offset) (map (exact_window plan) (range_with_len a n)) ≡ Some (exact_window plan number)

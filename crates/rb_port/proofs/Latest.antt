@@ -45,7 +45,7 @@ count_if-reverse p (x ∷ xs) =
     let e = ap (count_if p) (reverse-append (x ∷ []) xs) ∙ count_if-append p (reverse xs) (x ∷ []) in
     e ∙ omega (arith, count_if-reverse p xs)
 
--- how many of them are lost
+-- as many deliveries are lost as faults are noted
 pub losses_are : (latest : List Delivery) (faults : List Bool) → map is_lost (reverse latest) ≡ faults → count_by is_lost latest ≡ count_if (λ fault. fault) faults
 losses_are latest faults same =
     sym (count_if-count_by is_lost latest)

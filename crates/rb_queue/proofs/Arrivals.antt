@@ -1,4 +1,4 @@
--- The arrivals of a lane where one is pushed or gone.
+-- The arrivals of a lane when one is pushed or gone.
 use Rattle.std.proofs.Common.{◌≡◌, ℕ, zero, suc, ◌+◌, ◌-◌, ◌<◌, ◌≤◌, Option, Some, slice_get, List, [], ◌∷◌, ◌++◌, length, drop, refl, sym, ap, ◌∙◌, subst, arith, inl, inr}
 use Rattle.std.specs.Prelude.{max, remove}
 use Rattle.std.proofs.lemmas.List.{drop_more, length-drop}
@@ -21,7 +21,7 @@ nothing = record { time = 0; from = 0; bytes = [] }
 by_later : (xs : List Coming) (n latest : ℕ) → n < length xs → AreBy latest (drop n xs) → AreBy latest (drop (n + 1) xs)
 by_later xs n latest h by = λ k c e. by (suc k) c (subst (λ l. slice_get l (suc k) ≡ Some c) (sym (drop_more xs n nothing h)) e)
 
--- the start moves on
+-- a lane is still one after its start moves on
 pub lane_later : (kept : List Coming) (start room capacity latest : ℕ) → IsLane kept start room capacity latest → start + 1 < length kept
     → IsLane kept (start + 1) room capacity latest
 lane_later kept start room capacity latest is more =

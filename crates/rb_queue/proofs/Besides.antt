@@ -1,4 +1,4 @@
--- What is pending at one node where something is kept beside its lane.
+-- What is pending at one node if something is kept beside its lane.
 use Rattle.std.proofs.Common.{◌≡◌, ℕ, zero, suc, ◌+◌, ◌-◌, ◌<◌, ◌==◌, min, Bool, true, false, cond, Option, Some, None, slice_get, List, [], ◌∷◌, ◌++◌, length, filter, map, take, drop, get_or, refl, sym, ap, ◌∙◌, subst, arith, length-append, append_assoc, drop-cons, add-one}
 use Rattle.std.specs.List.{enumerate_from, flat_map, range_with_len}
 use Rattle.std.specs.Prelude.{option_map}
@@ -67,7 +67,7 @@ count_none : (time a : ℕ) (ps : List Pending) → count_if (is_sent_between ti
 count_none time a [] = refl
 count_none time a (p ∷ ps) = omega (arith, count_none time a ps, never_both (source_of p.event.kind) a (p.time == time))
 
--- what is of n sources, of which this is the first
+-- what `n` sources send, the first of which is `a`
 unfoldable pub sent_on : ℕ → Held → List Pending → ℕ → ℕ → List Takeable
 sent_on time lane more a n = flat_map (sent_at time lane more) (range_with_len a n)
 
@@ -160,7 +160,7 @@ uncounted (c ∷ cs) later none = absurd (omega (arith, none))
 
 -- ---- which
 
--- what passes from place k on
+-- the items from place `k` on that pass, each with its place
 abbrev pub passing : {X : Type 0} → (X → Bool) → List X → ℕ → List (ℕ × X)
 passing q xs k = filter (λ c. q c.1) (enumerate_from k (drop k xs))
 
@@ -170,7 +170,7 @@ passing_next q ps k d h =
     let e : drop k ps ≡ get_or ps k d ∷ drop (k + 1) ps = rw add-one (drop-cons ps k d h) in
     ap (λ l. filter (λ c. q c.1) (enumerate_from k l)) e
 
--- the next passes, and is the one that is looked for
+-- if the next event passes and none is left before it, it is the one that is looked for
 pub found_here : (time : ℕ) (more : List Pending) (source others k left : ℕ) (p : Pending) → k < length more → p ≡ get_or more k p
     → is_of time source p ≡ true → left ≡ 0
     → slice_get (passing (is_of time source) more k) left ≡ slice_get (beside_at time more source) others
@@ -187,7 +187,7 @@ found_here time more source others k left p h is passes none same =
       stands = item;
     }
 
--- what stands beside, behind others
+-- what is beside the lane comes behind what the lane has
 kept_behind : (listed : List (ℕ × Pending)) (front : List Takeable) (more : List Pending) (others left place : ℕ) → left + length front ≡ others
     → IsBeside listed left more place → IsKept (front ++ map (λ c. Beside c.0 c.1) listed) others more place
 kept_behind listed front more others left place many at =
@@ -205,7 +205,7 @@ kept_sent time lane more source others left place many at =
     kept_behind (beside_at time more source) (map (λ c. InLane (Comes c.0 c.1)) (coming_at time lane.arrivals source)) more others left place
     (omega (arith, many, length-map (coming_at time lane.arrivals source) (λ c. InLane (Comes c.0 c.1)))) at
 
--- the i-th arrival is the left-th of those from this source on
+-- event `i` is event `left` of those from `source` on
 pub record IsLeftOf (time : ℕ) (lane : Held) (more : List Pending) (i source left : ℕ) : Type 0 where
   pub same : slice_get (sent_on time lane more source (256 - source)) left ≡ slice_get (senders_at time lane more) i
   pub many : left + length (senders_at time lane more) ≡ i + length (sent_on time lane more source (256 - source))

@@ -89,7 +89,7 @@ first_alone p known =
 
 -- ---- which is ready first
 
--- no event passes
+-- if no event passes, none is counted
 pub none_pass : (q : Coming → Bool) (arrivals : List Coming) → ((k : ℕ) (p : Coming) → slice_get arrivals k ≡ Some p → q p ≡ false) → count_if q arrivals ≡ 0
 none_pass q [] none = refl
 none_pass q (x ∷ xs) none = rw (none 0 x refl) (omega (arith, none_pass q xs (λ k p at. none (suc k) p at)))
@@ -158,7 +158,7 @@ first_coming arrivals place is =
     ap (λ l. slice_get l 0) (sym (skip_to (comes time source) arrivals f place (omega (arith, within)) none)) in
     found_here time arrivals source 0 place 0 f within there (itself source time) refl same
 
--- something comes at its time
+-- something comes at the time of the first arrival
 arrives_then : (arrivals : List Coming) (place : ℕ) → (is : IsFirst arrivals place) → 0 < length (arrivals_at is.coming.time arrivals)
 arrives_then arrivals place is =
     let time = is.coming.time in
@@ -224,7 +224,7 @@ first_within arrivals place some first =
 pub some_events : (arrivals : List Coming) (place : ℕ) → place < length arrivals → 0 < length arrivals
 some_events arrivals place within = omega (arith, within)
 
--- what stands at the place of the first
+-- the arrival at the place of the first one is the first
 pub same_first : (arrivals : List Coming) (place : ℕ) (f : Coming) → (is : IsFirst arrivals place) → f ≡ get_or arrivals place f → is.coming ≡ f
 same_first arrivals place f is at =
     let within : place < length arrivals = slice_get_within arrivals place is.coming is.stands in
@@ -232,13 +232,13 @@ same_first arrivals place f is at =
     let found : is.coming ≡ get_or arrivals place f = cc in
     found ∙ sym at
 
--- no event was there
+-- if there was no event, the new one is the first
 pub only_one : (arrivals : List Coming) (place : ℕ) (p : Coming) → HasFirst arrivals place → length arrivals ≤ place → p.from ≤ 255
     → HasFirst (arrivals ++ p ∷ []) (length arrivals)
 only_one [] place p first past known = first_alone p known
 only_one (x ∷ xs) place p first past known = absurd (omega (arith, past, first_within (x ∷ xs) place (omega arith) first))
 
--- the new one comes before all
+-- if the new event comes before the first one, it is the first
 pub before_all : (arrivals : List Coming) (place : ℕ) (p f : Coming) → HasFirst arrivals place → place < length arrivals → f ≡ get_or arrivals place f
     → p.from ≤ 255 → comes_before p f ≡ true → HasFirst (arrivals ++ p ∷ []) (length arrivals)
 before_all [] place p f first within at known before = absurd (omega arith)

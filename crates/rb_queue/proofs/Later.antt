@@ -1,4 +1,4 @@
--- What is left of a lane where all that comes before a time is dropped.
+-- What is left of a lane when all that comes before a time is dropped.
 use Rattle.std.proofs.Common.{◌≡◌, ℕ, zero, suc, ◌+◌, ◌-◌, ◌<◌, ◌≤◌, nat_le, Bool, true, false, Option, Some, None, slice_get, List, [], ◌∷◌, length, drop, filter, cond, refl, sym, ap, ◌∙◌, subst, arith}
 use Rattle.std.proofs.lemmas.Bool.Decides.{nat_tests}
 use Rattle.std.proofs.lemmas.List.{length-drop}
@@ -9,7 +9,7 @@ use Rattle.rb_queue.specs.Queued.{IsQueue}
 use Rattle.rb_queue.specs.Waiting.{Held, without_before}
 use Rattle.rb_queue.specs.declared.pending.Pending.{Pending}
 
--- what passes a test stands among all
+-- what passes a test is among all
 among : (p : Coming → Bool) (xs : List Coming) (k : ℕ) (c : Coming) → slice_get (filter p xs) k ≡ Some c → (j : ℕ) × (slice_get xs j ≡ Some c)
 among p [] k c e = absurd (let no : ◌≡◌ {A = Option Coming} None (Some c) = e in cc)
 among p (x ∷ xs) k c e = go (λ k e. among p xs k c e) (p x) k e
@@ -30,7 +30,7 @@ fewer p (x ∷ xs) = go (fewer p xs) (p x)
     go rest false = omega (arith, rest)
     go rest true = omega (arith, rest)
 
--- the lane is kept
+-- what passes the test makes a lane again
 pub lane_left : (p : Coming → Bool) (kept new : List Coming) (start room capacity reserved latest : ℕ)
     → IsLane kept start room capacity latest → new ≡ filter p (drop start kept) → reserved ≡ capacity → IsLane new 0 room reserved latest
 lane_left p kept new start room capacity reserved latest is left same =

@@ -35,7 +35,7 @@ least_is arrivals place f first within at =
 with_least : (t u : ℕ) (o : Option ℕ) → o ≡ Some u → ◌≡◌ {A = Option ℕ} (Some (elim o [ None ↦ t | Some u ↦ min t u ])) (Some (min t u))
 with_least t u o is = ap (λ o. Some (elim o [ None ↦ t | Some u ↦ min t u ])) is
 
--- the tick comes before all
+-- if the tick is sooner than the first arrival, it is the least
 pub tick_least : (arrivals : List Coming) (place : ℕ) (f : Coming) (tick : Option ℕ) → HasFirst arrivals place → place < length arrivals
     → f ≡ get_or arrivals place f → is_sooner tick f.time ≡ true → tick ≡ least (option_to_list tick ++ map (λ c. c.time) arrivals)
 tick_least arrivals place f None first within at sooner = absurd (let never : false ≡ true = sooner in cc)
@@ -66,7 +66,7 @@ none_at t arrivals later =
 own_tick : (t : ℕ) → tick_at t (Some t) ≡ Ticks ∷ []
 own_tick t = ap (λ b. elim b [ true ↦ Ticks ∷ [] | false ↦ [] ]) (eq_self t)
 
--- the tick is ready where all comes later
+-- the tick is ready if all arrivals come later
 tick_then : (arrivals : List Coming) (room t time : ℕ) → ((k : ℕ) (c : Coming) → slice_get arrivals k ≡ Some c → t < c.time)
     → head_of (record { arrivals = arrivals; tick = Some t; room = room }) ≡ Some t → t ≡ time
     → IsTickReady time (record { arrivals = arrivals; tick = Some t; room = room })
@@ -79,7 +79,7 @@ tick_then arrivals room t time later head same = record {
 some_same : (a b : ℕ) → ◌≡◌ {A = Option ℕ} (Some a) (Some b) → a ≡ b
 some_same a b e = cc
 
--- the tick is what is ready where it comes before the first arrival
+-- if the tick comes before the first arrival, it is what is ready
 tick_first : (arrivals : List Coming) (room place : ℕ) (f : Coming) (tick : Option ℕ) (time : ℕ) → HasFirst arrivals place → place < length arrivals
     → f ≡ get_or arrivals place f → is_sooner tick f.time ≡ true → head_of (record { arrivals = arrivals; tick = tick; room = room }) ≡ Some time
     → IsTickReady time (record { arrivals = arrivals; tick = tick; room = room })
@@ -116,12 +116,12 @@ before_none [] (Some t) room place until first past =
     inr (tick_then [] room t time (λ k c there. absurd (let never : ◌≡◌ {A = Option Coming} None (Some c) = there in cc)) refl (some_same t time same))
 before_none (x ∷ xs) tick room place until first past = absurd (omega (arith, past, first_within (x ∷ xs) place (omega arith) first))
 
--- the tick comes first
+-- if the tick comes before the first arrival, no arrival is ready first before the time
 pub before_tick : (arrivals : List Coming) (tick : Option ℕ) (room place until : ℕ) (f : Coming) → HasFirst arrivals place → place < length arrivals
     → f ≡ get_or arrivals place f → is_sooner tick f.time ≡ true → IsFirstBefore until (record { arrivals = arrivals; tick = tick; room = room }) None
 before_tick arrivals tick room place until f first within at sooner = λ time head. inr (tick_first arrivals room place f tick time first within at sooner head)
 
--- the first comes no sooner
+-- if the first arrival comes no sooner than the time, no arrival is ready first before it
 pub before_late : (arrivals : List Coming) (tick : Option ℕ) (room place until : ℕ) (f : Coming) → HasFirst arrivals place → place < length arrivals
     → f ≡ get_or arrivals place f → until ≤ f.time → IsFirstBefore until (record { arrivals = arrivals; tick = tick; room = room }) None
 before_late arrivals tick room place until f first within at late =
@@ -158,7 +158,7 @@ before_some arrivals tick room place until f first within at soon not_sooner =
 
 -- ---- the place of one that is ready
 
--- the tick alone is ready
+-- what is ready of the tick alone is the tick
 tick-get : (tick : Option ℕ) (t i : ℕ) → i < length (tick_at t tick) → slice_get (tick_at t tick) i ≡ Some Ticks
 tick-get None t i below = absurd (omega (arith, below))
 tick-get (Some u) t i below =

@@ -10,7 +10,7 @@ use Rattle.rb_rules.specs.Hearing.{Coming}
 use Rattle.rb_queue.specs.Waiting.{comes, coming_at, arrivals_at}
 use Rattle.rb_queue.specs.Scanning.{is_between, StandsAt}
 
--- what comes at a time from n sources, of which this is the first
+-- what comes at a time from `n` sources, the first of which is `a`
 unfoldable pub from_on : ℕ → List Coming → ℕ → ℕ → List (ℕ × Coming)
 from_on time arrivals a n = flat_map (coming_at time arrivals) (range_with_len a n)
 
@@ -76,7 +76,7 @@ from_on-split time arrivals a (suc k) m =
     ∙ ap (λ l. coming_at time arrivals a ++ l) (from_on-split time arrivals (a + 1) k m ∙ ap (λ a'. from_on time arrivals (a + 1) k ++ from_on time arrivals a' m) f)
     ∙ sym (append_assoc (coming_at time arrivals a) (from_on time arrivals (a + 1) k) (from_on time arrivals (a + suc k) m)) ∙ ap (λ l. l ++ from_on time arrivals (a + suc k) m) (sym (from_on-suc time arrivals a k))
 
--- sources of which nothing comes are passed over
+-- sources from which nothing comes are passed over
 pub from_on-skip : (time : ℕ) (arrivals : List Coming) (a k m : ℕ) → ((j : ℕ) → a ≤ j → j < a + k → count_if (comes time j) arrivals ≡ 0)
     → from_on time arrivals a (k + m) ≡ from_on time arrivals (a + k) m
 from_on-skip time arrivals a zero m none =
@@ -90,7 +90,7 @@ from_on-skip time arrivals a (suc k) m none =
     ap (from_on time arrivals a) e ∙ from_on-suc time arrivals a (k + m) ∙ ap (λ l. l ++ from_on time arrivals (a + 1) (k + m)) here
     ∙ from_on-skip time arrivals (a + 1) k m (λ j low high. none j (omega arith) (omega arith)) ∙ ap (λ a. from_on time arrivals a m) f
 
--- the next source of which something comes
+-- if nothing comes from the sources before `s`, what comes begins with that of `s`
 pub next_source : (time : ℕ) (arrivals : List Coming) (a s top : ℕ) → a ≤ s → s < top → ((j : ℕ) → a ≤ j → j < s → count_if (comes time j) arrivals ≡ 0)
     → from_on time arrivals a (top - a) ≡ coming_at time arrivals s ++ from_on time arrivals (s + 1) (top - (s + 1))
 next_source time arrivals a s top low high none =
@@ -110,13 +110,13 @@ arrivals_are time arrivals = refl
 pub count_arrivals : (time : ℕ) (arrivals : List Coming) → length (arrivals_at time arrivals) ≡ count_if (is_between time 0 256) arrivals
 count_arrivals time arrivals = ap length (arrivals_are time arrivals) ∙ length-from_on time arrivals 0 256 256 (omega arith)
 
--- the i-th arrival is the left-th of those from this source on
+-- arrival `i` is arrival `left` of those from source `first` on
 pub record IsLeft (time : ℕ) (arrivals : List Coming) (i first left : ℕ) : Type 0 where
   pub small : first ≤ 256
   pub some : left < length (from_on time arrivals first (257 - first))
   pub same : slice_get (from_on time arrivals first (257 - first)) left ≡ slice_get (arrivals_at time arrivals) i
 
--- the arrivals of one more source are behind them
+-- what comes from source 256 is behind what comes from all sources of the bus
 pub all_sources : (time : ℕ) (arrivals : List Coming) → from_on time arrivals 0 (257 - 0) ≡ arrivals_at time arrivals ++ from_on time arrivals 256 1
 all_sources time arrivals =
     ap (from_on time arrivals 0) (let n : 257 - 0 ≡ 256 + 1 = omega arith in n) ∙ from_on-split time arrivals 0 256 1
@@ -169,9 +169,9 @@ left_here time arrivals i first left s place is low high none at =
       stands = at.stands;
     }
 
--- Of one source.
+-- The arrivals of one source.
 
--- what passes from place k on
+-- the arrivals from place `k` on that pass, each with its place
 abbrev pub passing_from : (Coming → Bool) → List Coming → ℕ → List (ℕ × Coming)
 passing_from q arrivals k = filter (λ c. q c.1) (enumerate_from k (drop k arrivals))
 
@@ -181,7 +181,7 @@ passing_next q arrivals k d h =
     let e : drop k arrivals ≡ get_or arrivals k d ∷ drop (k + 1) arrivals = rw add-one (drop-cons arrivals k d h) in
     ap (λ l. filter (λ c. q c.1) (enumerate_from k l)) e
 
--- the next event passes, and is the one that is looked for
+-- if the next arrival passes and none is left before it, it is the one that is looked for
 pub found_here : (time : ℕ) (arrivals : List Coming) (source others k left : ℕ) (x : Coming) → k < length arrivals → x ≡ get_or arrivals k x
     → comes time source x ≡ true → left ≡ 0
     → slice_get (passing_from (comes time source) arrivals k) left ≡ slice_get (coming_at time arrivals source) others
@@ -210,7 +210,7 @@ none_more time arrivals i x j h is none other =
     let same : ◌≡◌ {A = ℕ} (cond (comes time j (get_or arrivals i x)) 1 0) 0 = ap (λ y. cond (comes time j y) 1 0) (sym is) ∙ ap (λ b. cond b 1 0) other in
     omega arith
 
--- no event of a lower source, where this one is of the new lowest
+-- an event from a higher source is not one from source `j`
 lower_not : (time j : ℕ) (x : Coming) → j < x.from → comes time j x ≡ false
 lower_not time j x h = let other : (x.from == j) ≡ false = grind (arith, nat_tests) in rw other refl
 
@@ -220,7 +220,7 @@ between_not time j first lowest x outside low high = not_there (x.from) j first 
 both_of : (s first lowest : ℕ) (b : Bool) → (nat_le first s && nat_lt s lowest && b) ≡ true → (first ≤ s) × (s < lowest)
 both_of s first lowest b h = (grind (arith, nat_tests), grind (arith, nat_tests))
 
--- the source of an event that comes between the two
+-- an event that is counted between two sources has its source between them
 lowest_is : (time first lowest : ℕ) (x : Coming) → is_between time first lowest x ≡ true
     → (first ≤ x.from) × (x.from < lowest)
 lowest_is time first lowest x h = both_of (x.from) first lowest (x.time == time) h

@@ -150,7 +150,7 @@ module _ {K : Type 0} (held : K → Option (List ℕ)) (faults : K → ℕ) wher
           (match-err _ b.written err
           (part-then-none a.log a.waiting xs ys (held a.output.now) (held b.output.now) (err-of (Passes a b xs) (PassesPart a b xs) b.written err (first.next ok (may-first a.log.ticks xs ys may)))))
 
-  -- all that is told
+  -- all that was told is recorded
   all-told : (a b : Recorder K) (ts : List Told) → WasTold (Recorder K) (RecordsNext held faults) a ts b → Records held faults a (all_of_log a.frames ts) b
   all-told a b [] same = subst (Records held faults a []) (sym same) (records-none a)
   all-told a b (t ∷ ts) was =
@@ -202,7 +202,7 @@ module _ {K : Type 0} (held : K → Option (List ℕ)) (faults : K → ℕ) wher
           (match-err _ b.written err (err-of (Passes a b events) (PassesPart a b events) b.written err (records.next ok may)))
 
   -- The run has come to its next record, which is that of this turn, and all of the log was written
-  -- that is complete up to there, or a first part of the log where a write failed
+  -- that is complete up to there, or a first part of the log if a write failed
   pub record ComesToNext (sc : Scenario) (name : NodeName) (records : ℕ) (a c : Recorder K) (after : KeptWorld) (turn : Turn) (start : Option (List ℕ)) : Type 0 where
     pub steps : ℕ
     pub many : records + 1 ≤ steps

@@ -26,7 +26,7 @@ told-join before mid after xs ys bytes more a b = record {
 pub passes-none : (log : Tally) (v : List ℕ) (h : Option (List ℕ)) → PassesNext log log v v [] h h
 passes-none log v h = record { bytes = []; told = told-none log; passed = record { out = []; split = append-nil v; text = appends_none h } }
 
--- bytes behind others, which are cut elsewhere
+-- two parts of bytes that were cut at other places are one part
 shift : (v w u x y out more : List ℕ) → v ++ x ≡ out ++ w → w ++ y ≡ more ++ u → v ++ (x ++ y) ≡ (out ++ more) ++ u
 shift v w u x y out more first second =
     sym (append_assoc v x y) ∙ ap (λ zs. zs ++ y) first ∙ append_assoc out w y ∙ ap (λ zs. out ++ zs) second ∙ sym (append_assoc out more u)
@@ -44,7 +44,7 @@ passes-join log mid later v w u xs ys h i j first second = record {
   };
 }
 
--- a write failed at those that came later
+-- if a write failed at the later events, all events were passed on in part
 pub passes-then-part : (log mid : Tally) (v w : List ℕ) (xs ys : List Event) (h i j : Option (List ℕ)) → PassesNext log mid v w xs h i → PassesPartOf mid w ys i j
     → PassesPartOf log v (xs ++ ys) h j
 passes-then-part log mid v w xs ys h i j first part others =
@@ -61,7 +61,7 @@ part-then-none log v xs ys h i part others = subst (λ es. AppendsPart h i (v ++
 pub part-after : (v w bytes : List ℕ) (h i j : Option (List ℕ)) → PassesOn v w bytes h i → AppendsPart i j w → AppendsPart h j (v ++ bytes)
 part-after v w bytes h i j passed part = subst (AppendsPart h j) (sym passed.split) (part_join h i j passed.out w passed.text part)
 
--- Of what waited then some was written
+-- what was passed on stays passed on when some of what waited is written
 pub passes-settled : (log later : Tally) (v w u : List ℕ) (events : List Event) (h i j : Option (List ℕ)) → PassesNext log later v w events h i → PassesOn w u [] i j
     → PassesNext log later v u events h j
 passes-settled log later v w u events h i j next settled = record {

@@ -61,7 +61,7 @@ sent-core sc me side j frame x i s = by (same_side side (other me) && s.runs)
     by true = refl
     by false = refl
 
--- what a site was before an event that gives its node this many ticks
+-- before the event the site had `more` ticks fewer
 pub record WasBefore (sites : Each Site) (me : Side) (i more : ℕ) (z : Site) : Type 0 where
   pub s : Site
   pub there : slice_get (of_kind me sites) i ≡ Some s
@@ -93,7 +93,7 @@ at-before me j many change sites s side i z there had e =
 
 -- An event of a run.
 
--- the event that is due first in a world: it happens at this site
+-- `e` is the event that is due first in the world, at the site of its node
 pub record IsEvent (sc : Scenario) (w : World) (e : Event) : Type 0 where
   pub d : Due
   pub found : slice_get (due_of sc w) 0 ≡ Some d
@@ -127,7 +127,7 @@ has-event sc w reached some =
           ∙ ap (option_map (λ (s : Site). event_of sc w.ports d.0.side d.0.node s.core d.0.pending)) due.there,
     )
 
--- Its node.
+-- The node of an event.
 
 kind-named : (me : Side) (i : ℕ) (name : NodeName) → same_node (name_of me i) name ≡ true → (me ≡ kind_of name) × (i ≡ index_of name)
 kind-named Biu i (node.Biu j) h = (refl, let same : i ≡ j = grind (arith, nat_tests) in same)

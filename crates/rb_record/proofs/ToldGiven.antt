@@ -25,7 +25,7 @@ use Rattle.rb_record.proofs.Ticks.{may-tell}
 
 -- One step.
 
--- what is given by an event, the node being this
+-- what the named node is given by an event
 abbrev given_at : Scenario → NodeName → Option Site → Option Event → List Event
 given_at sc name s None = []
 given_at sc name s (Some e) = if same_node e.node name && is_before_end sc s then e ∷ [] else []

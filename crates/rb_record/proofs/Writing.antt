@@ -67,7 +67,7 @@ records-part sc name held mid since header part = record {
   text = part_join held mid since (header_of (timetable_of sc) name) (written 0 part.events) header part.text;
 }
 
--- what is written with the end
+-- with the end all of the log is written
 end-text : (log : Tally) (events : List Event) (w : List ℕ) (held since : Option (List ℕ)) → (is : PassesNext fresh_log log [] w events held since)
     → is.passed.out ++ (w ++ written log.waiting []) ≡ written 0 events
 end-text log events w held since is =

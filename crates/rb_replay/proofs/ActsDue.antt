@@ -59,7 +59,7 @@ same-acts me n m c events same =
     ∙ ap (λ p. acts_of n.seat.sizes p me m.seat.index c events) same.plan
     ∙ ap (λ i. acts_of n.seat.sizes n.seat.plan me i c events) same.index
 
--- a tick begins a frame at most
+-- a tick begins at most one frame
 one-begins : (e : Option Epoch) → frames_with e ≤ 1
 one-begins None = lit≤ tt
 one-begins (Some e) = by (nat_lt 0 e.frame)
@@ -163,7 +163,7 @@ arrival-advances me n m name frames from bytes events due held rest cores d =
 end-due : (me : Side) (n : Running) (name : NodeName) (frames : ℕ) (due : List ℕ) → IsDue me n name frames [] due → due ≡ end_text frames
 end-due me n name frames due d = let none : frames + 0 ≡ frames = omega arith in d.text ∙ ap end_text none
 
--- which is what was written
+-- what is due after the last event is what was written
 pub end-is : (me : Side) (n : Running) (name : NodeName) (frames : ℕ) (bytes : List ℕ) → bytes ≡ end_text frames → (rest : List ℕ) → IsDue me n name frames [] rest → rest ≡ bytes
 end-is me n name frames bytes is rest d = end-due me n name frames rest d ∙ sym is
 

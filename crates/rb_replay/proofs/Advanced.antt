@@ -12,17 +12,16 @@ use Rattle.rb_replay.specs.Advancing.{Advances}
 pub advances-none : (P : List ℕ → Type 0) (due : List ℕ) (held : Option (List ℕ)) → P due → Advances P due held held
 advances-none P due held d = record { part = []; rest = due; whole = refl; appended = appends_none held; goes_on = d }
 
--- quiet ticks have passed
+-- if `P` gives `Q`, an advance with `P` is one with `Q`
 pub advances-so : (P Q : List ℕ → Type 0) (due : List ℕ) (before after : Option (List ℕ)) → ((rest : List ℕ) → P rest → Q rest)
     → Advances P due before after → Advances Q due before after
 advances-so P Q due before after so a = record { part = a.part; rest = a.rest; whole = a.whole; appended = a.appended; goes_on = so a.rest a.goes_on }
 
--- the events that are left are these
 pub advances-is : (P : List CoreEvent → List ℕ → Type 0) (events left : List CoreEvent) (due : List ℕ) (before after : Option (List ℕ))
     → events ≡ left → Advances (P events) due before after → Advances (P left) due before after
 advances-is P events left due before after is a = subst (λ es. Advances (P es) due before after) is a
 
--- more was written
+-- two advances in a row are one
 pub advances-more : (P Q : List ℕ → Type 0) (due : List ℕ) (first before after : Option (List ℕ)) → Advances P due first before
     → ((rest : List ℕ) → P rest → Advances Q rest before after) → Advances Q due first after
 advances-more P Q due first before after a then_more =
@@ -35,7 +34,7 @@ advances-more P Q due first before after a then_more =
       goes_on = b.goes_on;
     }
 
--- a part of it was written
+-- if a part of what is due after an advance was written, a part of all was
 pub advances-part : (P : List ℕ → Type 0) (due : List ℕ) (first before after : Option (List ℕ)) → Advances P due first before
     → ((rest : List ℕ) → P rest → AppendsPart before after rest) → AppendsPart first after due
 advances-part P due first before after a then_part =

@@ -26,7 +26,7 @@ use Rattle.rb_replay.specs.ListeningOn.{IsDue, text_after}
 use Rattle.rb_replay.specs.Overhearing.{begun_in, begun_with, from_tick, heed_lines, heeds_text, overheard_text}
 use Rattle.rb_replay.proofs.QuietHeeds.{Counts, heed-counts, quiet-text, text-step}
 
--- how many ticks it has had
+-- the ticks that the listener has had are those of its stage
 had-in : (st : Stage) (s : Search) (n : Running) (l : Listening) → IsListeningIn st s n l → had_by l ≡ had_in st s n
 had-in stage.Searching s n l at = ap had_by at
 had-in (stage.Waiting first) s n l at = ap had_by at
@@ -133,7 +133,7 @@ arrival-advances h k name begun from bytes events due held same had stands d =
 end-due : (h : Hearer) (name : NodeName) (begun : ℕ) (due : List ℕ) → IsDue h name begun [] due → due ≡ end_text (begun - 1)
 end-due h name begun due d = let none : begun + 0 ≡ begun = omega arith in d.text ∙ ap (λ n. end_text (n - 1)) none
 
--- which is what was written
+-- what is due after the last event is what was written
 pub end-is : (h : Hearer) (name : NodeName) (begun : ℕ) (bytes : List ℕ) → bytes ≡ end_text (begun - 1) → (rest : List ℕ) → IsDue h name begun [] rest → rest ≡ bytes
 end-is h name begun bytes is rest d = end-due h name begun rest d ∙ sym is
 
@@ -172,13 +172,12 @@ first-due h p t name node skip events left e f same is at found =
     subst (λ x. IsDue h x 0 left (overheard_text t.sizes t.plan node skip events)) (sym is)
     (all-due h t.sizes t.plan node skip events left (e ∙ ap (λ (x : Timetable). x.sizes) same) (f ∙ ap (λ (x : Timetable). x.plan) same) at found)
 
--- no frame had begun
 pub from-none : (h : Hearer) (name : NodeName) (n : ℕ) (events : List CoreEvent) (due : List ℕ) (before after : Option (List ℕ))
     → Advances (IsDue h name (0 + n) events) due before after → Advances (IsDue h name n events) due before after
 from-none h name n events due before after a =
     let e : 0 + n ≡ n = omega arith in subst (λ k. Advances (IsDue h name k events) due before after) e a
 
--- the end alone was written
+-- if no event is left from the tick on, the end alone is written
 pub ends-at-once : {S T E : Type 0} (held : S → Option (List ℕ)) (faults : S → ℕ) (sizes : Sizes) (plan : Plan) (name : NodeName) (skip : ℕ) (events : List CoreEvent) (bytes : List ℕ) (before after : S) (r : Result T E)
     → from_tick skip events ≡ [] → bytes ≡ end_text 0 → Writes held faults before after r bytes
     → Writes held faults before after r (overheard_text sizes plan name skip events)

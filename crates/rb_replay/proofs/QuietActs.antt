@@ -15,7 +15,7 @@ use Rattle.rb_report.specs.Report.{end_text}
 use Rattle.rb_laws_logs.specs.Replays.{act_lines, frames_in, frames_with}
 use Rattle.rb_replay.specs.Replaying.{text_after}
 
--- the text of an act comes first
+-- the text of an act comes before that of the acts behind it
 pub text-step : (name : NodeName) (frames : ℕ) (x : Act) (xs : List Act)
     → text_after name frames (x ∷ xs) ≡ act_lines name x ++ text_after name (frames + frames_with x.epoch) xs
 text-step name frames x xs =
@@ -64,7 +64,7 @@ not-busy sizes plan me index st (suc others) had m lo hi =
     by true busy below rest = absurd (omega arith)
     by false quiet below rest = later (m == had) refl quiet below rest
 
--- the ticks up to the next busy one, or to the last that a core can have, are quiet
+-- the ticks before the next busy one are quiet, and so are all that a core can have if none is busy
 pub quiet-before : (sizes : Sizes) (plan : Plan) (me : Side) (index : ℕ) (st : NodeState) (had m : ℕ) → had ≤ 2 ^ 31 → had ≤ m
     → m < unwrap_or (busy_among sizes plan me index st (2 ^ 31 - had) had) (2 ^ 31) → IsQuiet sizes plan me index st m
 quiet-before sizes plan me index st had m room lo hi =

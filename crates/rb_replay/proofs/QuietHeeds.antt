@@ -25,7 +25,7 @@ use Rattle.rb_replay.proofs.ActsDue.{act-had}
 
 -- The text.
 
--- the text of one tick comes first
+-- the text of a tick comes before that of the ticks behind it
 pub text-step : (name : NodeName) (begun : ℕ) (h : Heed) (hs : List Heed)
     → text_after name begun (h ∷ hs) ≡ heed_lines name h ++ text_after name (begun + begun_with h.epoch) hs
 text-step name begun h hs =

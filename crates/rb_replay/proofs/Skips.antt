@@ -32,12 +32,12 @@ pub none-found : (n : ℕ) → from_tick n [] ≡ []
 unfolding from_tick
 none-found n = refl
 
--- quiet ticks are passed
+-- to pass quiet ticks is to drop them
 pub passes-over : (skip left passed : ℕ) (start events mid : List CoreEvent) → from_tick skip start ≡ from_tick left events
     → events ≡ replicate passed (Tick 0) ++ mid → passed ≤ left → from_tick skip start ≡ from_tick (left - passed) mid
 passes-over skip left passed start events mid known is most = known ∙ ap (from_tick left) is ∙ drops-ticks left passed mid most
 
--- the tick is found
+-- once no tick is left to be dropped, the tick is found
 pub finds : (skip left word : ℕ) (start mid rest : List CoreEvent) (e : CoreEvent) → from_tick skip start ≡ from_tick left mid → left ≡ 0
     → mid ≡ e ∷ rest → e ≡ Tick word → from_tick skip start ≡ Tick word ∷ rest
 finds skip left word start mid rest e known none is tick =

@@ -49,9 +49,11 @@ fn add(stamps: &mut ArrayVec<u64, 16>, taken: Option<u64>)
 /// came, or that was not expected and of which something came. The middle is that of the stamps,
 /// the lower of two, and `first`, the window's first tick, if none was taken. So it is at most the
 /// greatest of `first` and the stamps. Stamps, the middle and `first` are ticks of the node's own
-/// clock. This is the receiving end of a stage of clock synchronization by the unified protocol of
-/// Miner, Geser, Pike and Maddalon (FORMATS 2004): local error detection, then the middle value.
-/// The rules of evidence are this project's own.
+/// clock.
+///
+/// This is the receiving end of a stage of clock synchronization by the unified protocol of Miner,
+/// Geser, Pike and Maddalon (FORMATS 2004): local error detection, then the middle value. The rules
+/// of evidence are this project's own.
 pub fn close_sync<K: Copy>(
     inbox: &Inbox<K>,
     standing: &mut Standing<K>,

@@ -10,7 +10,7 @@ use Rattle.rb_rules.specs.declared.sense.Sense.{Sense}
 use Rattle.rb_rules.specs.Sense.{value_in}
 use Rattle.rb_rules.specs.Standing.{Standing, taken_of}
 
--- what was taken of all, and the vote over it
+-- the close is what was taken from all sources, and the vote over it
 pub closing_is : (s : Standing) (expected : ℕ → Bool) (sense : ℕ → Sense) (taken : List (Option Heard)) (values : List Heard) (voted : Heard)
     → taken ≡ each_node (taken_of value_in s expected sense) → values ≡ present taken → voted ≡ majority_of values
     → ◌≡◌ {A = Closing} (record { taken = taken; voted = voted }) (closing_of s expected sense)

@@ -33,9 +33,11 @@ fn vote(taken: &[Option<Heard>; 16], alike: bool, value: Heard) -> Heard
 /// is a value too. Then each trusted source is accused that was expected but did not send exactly
 /// this one message, or that was not expected but sent something. The vote is the majority of the
 /// accepted values, and Fault if there are none. A mismatch accusation changes nothing in any of
-/// this.  This is the receiving end of a communication stage of the unified protocol of Miner,
-/// Geser, Pike and Maddalon (FORMATS 2004): local error detection, then the hybrid majority. The
-/// rules of evidence are this project's own.
+/// this.
+///
+/// This is the receiving end of a communication stage of the unified protocol of Miner, Geser, Pike
+/// and Maddalon (FORMATS 2004): local error detection, then the hybrid majority. The rules of
+/// evidence are this project's own.
 pub fn close_stage<K: Copy>(
     inbox: &Inbox<K>,
     standing: &mut Standing<K>,

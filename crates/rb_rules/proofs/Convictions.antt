@@ -21,7 +21,7 @@ named_is_convicted others senders trusted vector j below t more =
     let test : nat_lt (sparing others senders vector j) (naming others senders vector j) ≡ true = grind (arith, nat_tests) in
     convicted_is others senders trusted vector j below ∙ ap (λ b. has trusted j && b) test ∙ ap (λ b. b && true) t
 
--- a node that no more vectors name than spare is not
+-- a node that at most as many vectors name as spare is not convicted
 pub spared_is_not_convicted : (others senders trusted : ℕ) (vector : ℕ → Heard) (j : ℕ) → j < 16
     → naming others senders vector j ≤ sparing others senders vector j → has (convicted_by others senders trusted vector) j ≡ false
 spared_is_not_convicted others senders trusted vector j below few =

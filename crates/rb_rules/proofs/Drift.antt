@@ -29,7 +29,7 @@ pub times_rise_to : (clock : Timeline) (tick later : ℕ) → tick ≤ later →
 times_rise_to clock tick later le =
     let e : tick + (later - tick) ≡ later = omega arith in rw e at (times_rise clock tick (later - tick))
 
--- if each tick takes some time, they are later
+-- later ticks of a clock that moves are later in time
 pub times_rise_strictly : (clock : Timeline) → Moves clock → (tick later : ℕ) → tick < later → time_of clock tick < time_of clock later
 times_rise_strictly clock moves tick later lt =
     let e : suc tick + (later - suc tick) ≡ later = omega arith in
@@ -49,7 +49,7 @@ stamp_between clock time stamp first last is after before = (
   stamp_le clock time stamp last is before,
 )
 
--- a length that stands after some segments lies within their bounds and those of the length before
+-- a length after some segments is within the bounds of their lengths and of the one before
 pub length_within : (shortest longest before : ℕ) (segments : List (ℕ × ℕ)) (tick : ℕ) → shortest ≤ before → before ≤ longest
     → are_within shortest longest segments ≡ true → (shortest ≤ length_after before segments tick) × (length_after before segments tick ≤ longest)
 length_within shortest longest before [] tick low high within = (low, high)

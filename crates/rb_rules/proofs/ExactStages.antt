@@ -39,7 +39,7 @@ pub vote_over_nothing : (s : Standing) (expected : ℕ → Bool) (sense : ℕ �
 vote_over_nothing s expected sense nobody =
     ap majority_of (none_present (taken_of value_in s expected sense) (λ j. unexpected_not_taken value_in s expected sense j (nobody j)) (numbers 16))
 
--- It is the nodes below 16 that count.
+-- Only the nodes below 16 count.
 
 same_on_range : {X : Type 0} (f g : ℕ → X) (from n : ℕ) → ((j : ℕ) → j < from + n → f j ≡ g j)
     → map f (range_with_len from n) ≡ map g (range_with_len from n)
@@ -50,7 +50,7 @@ same_on_range f g from (suc n) same =
 pub same_each_node : {X : Type 0} (f g : ℕ → X) → ((j : ℕ) → j < 16 → f j ≡ g j) → each_node f ≡ each_node g
 same_each_node f g same = same_on_range f g 0 16 (λ j h. same j (omega arith))
 
--- what is taken and voted
+-- two tests that agree below 16 give the same close
 pub same_closing : (s : Standing) (p q : ℕ → Bool) (sense : ℕ → Sense) → ((j : ℕ) → j < 16 → p j ≡ q j)
     → closing_of s p sense ≡ closing_of s q sense
 same_closing s p q sense same =
@@ -59,7 +59,7 @@ same_closing s p q sense same =
     (λ j h. ap (λ b. if b && is_eligible s j then value_in (sense j) else None) (same j h)) in
     ap (λ taken. record { taken = taken; voted = majority_of (present taken) }) taken
 
--- whom the evidence accuses
+-- two tests that agree below 16 give the same evidence
 pub same_evidence : (s : Standing) (p q : ℕ → Bool) (sense : ℕ → Sense) → ((j : ℕ) → j < 16 → p j ≡ q j)
     → with_evidence (has_evidence s p sense) s ≡ with_evidence (has_evidence s q sense) s
 same_evidence s p q sense same =

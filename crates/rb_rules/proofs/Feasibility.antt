@@ -54,7 +54,7 @@ pub record Holds (sizes : Sizes) (plan : Plan) (n : ℕ) : Type 0 where
   pub nth : sides_of sizes plan n ≡ Some sides
   pub enough : sides.right ≤ℤ sides.left
 
--- the nth is one of the seven and fails, and those before it hold
+-- inequality `n` of the seven fails, and those before it hold
 pub record FailsFirst (sizes : Sizes) (plan : Plan) (n : ℕ) : Type 0 where
   pub one : 1 ≤ n
   pub seven : n ≤ 7

@@ -47,7 +47,7 @@ step-more : (sc : Scenario) (hands : List HandIn) (h : HandIn) (m : Moment) → 
 unfolding step
 step-more sc hands h m lt = stepped-more sc hands h m (m.frame == sc.frames) (nat_lt m.window (windows_in sc.sizes)) lt
 
--- moments before the frame of a hand-in are what they were
+-- a hand-in leaves the moments before its frame as they were
 pub moments-more : (sc : Scenario) (hands : List HandIn) (h : HandIn) (n : ℕ) → (moment sc hands n).frame < h.frame
     → moment sc (hands ++ h ∷ []) n ≡ moment sc hands n
 unfolding begin_frame

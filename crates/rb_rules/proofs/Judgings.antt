@@ -23,11 +23,11 @@ some_of_unlike eps Nothing (Time b) h = inr refl
 some_of_unlike eps (Value a) b h = inl refl
 some_of_unlike eps (Time a) b h = inl refl
 
--- a good receiver that took something
+-- node `i` is good, and took something
 abbrev took : (ℕ → Bool) → (ℕ → See) → ℕ → Bool
 took good see i = good i && is_something (see i)
 
--- a good receiver that saw it unlike this sight
+-- node `b` is good, and saw something unlike sight `a`
 abbrev differs : ℕ → (ℕ → Bool) → (ℕ → See) → See → ℕ → Bool
 differs eps good see a b = good b && not (are_alike eps a (see b))
 

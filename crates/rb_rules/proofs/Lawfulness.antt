@@ -17,7 +17,7 @@ within_bounds range n h =
     let parts = and_parts (nat_le range.0 n) (nat_le n range.1) h in
     (leb-true range.0 n parts.0, leb-true n range.1 parts.1)
 
--- what holds at each of the stages 1 to 4 that a range has holds at each stage of the range
+-- `P` holds at each stage of a range if it holds at each of the stages 1 to 4 that the range has
 pub at_each_stage : (P : ℕ → Type 0) (stages : ℕ × ℕ) → IsRangeIn 1 4 stages
     → (is_in_range stages 1 ≡ true → P 1) → (is_in_range stages 2 ≡ true → P 2)
     → (is_in_range stages 3 ≡ true → P 3) → (is_in_range stages 4 ≡ true → P 4)
@@ -62,7 +62,7 @@ lies_in_each sizes plan frames slots stages offset below in_sync place h =
 never_negative : (m n : ℕ) → 1 ≤ n → pos n ≤ℤ neg_ℤ (pos m) → ⊥
 never_negative m n h k = omega (arith, ints)
 
--- a window whose ticks after the sending tick take some time has a tick after it
+-- if the ticks after the sending tick take some time, the window has a tick after the sending tick
 sends_inside : (ticks h shortest n : ℕ) → 1 ≤ n → pos n ≤ℤ ((pos ticks -ℤ pos (1 + h)) *ℤ pos shortest) → h < ticks
 sends_inside ticks h shortest n some le = elim (cases_lt h ticks) [
   | inl lt ↦ lt

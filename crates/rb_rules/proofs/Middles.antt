@@ -18,7 +18,7 @@ use Rattle.rb_rules.proofs.Ranks.{IsAtRank, up_to-below, length-ascending, rank_
 middle_at_rank : (m : ℕ) (stamps : List ℕ) → 0 < length stamps → IsAtRank ((length stamps - 1) / 2) m stamps → IsMiddle m stamps
 middle_at_rank m stamps some is = record { few_below = omega (arith, is.few_below); half_up_to = omega (arith, is.enough_up_to) }
 
--- the ascending list has it there
+-- the stamp at the middle place of the ascending list is the middle
 middle_at_place : (stamps : List ℕ) → 0 < length stamps → IsMiddle (get_or (ascending stamps) ((length stamps - 1) / 2) 0) stamps
 middle_at_place stamps some = middle_at_rank _ stamps some (rank_in_ascending stamps ((length stamps - 1) / 2) (omega arith))
 
@@ -90,9 +90,9 @@ middle_among (x ∷ xs) none =
     All-from_get_or (λ y. y ≢ has.0) (x ∷ xs) 0 (λ k inside same. none k inside (subst (λ n. IsMiddle n (x ∷ xs)) (sym same) has.1)) in
     absurd (omega (arith, has.1.few_below, has.1.half_up_to, up_to-without has.0 (x ∷ xs) others))
 
--- ---- where good stamps outnumber the others
+-- ---- if good stamps outnumber the others
 
--- the number lies between the two
+-- `m` lies between `low` and `high`
 pub record IsBetween (low high m : ℕ) : Type 0 where
   pub least : low ≤ m
   pub most : m ≤ high
@@ -121,7 +121,7 @@ many_pass good stamp p low high (x ∷ xs) passes within =
     λ b. elim b as (λ b. (b ≡ true → p (stamp x) ≡ true) → cond b 1 0 ≤ cond (p (stamp x)) 1 0) [ true ↦ λ h. rw (h refl) (omega arith) | false ↦ λ h. omega arith ] in
     omega (arith, go (good x) (λ is. passes (stamp x) (here is)), many_pass good stamp p low high xs passes later)
 
--- each that is heard is good or not
+-- each stamp that is heard is of a good source or of another one
 length-heard : {X : Type 0} (good : X → Bool) (stamp : X → ℕ) (heard : List X)
     → length (map stamp heard) ≡ count_if good heard + count_if (λ x. not (good x)) heard
 length-heard good stamp heard = length-map heard stamp ∙ sym (count_if-not good heard)
@@ -155,7 +155,7 @@ middle_between good stamp heard low high m more within is = record {
 
 -- ---- lists whose paired stamps are near
 
--- the two numbers differ by e at most
+-- `m` and `n` differ by at most `e`
 pub record AreNear (e m n : ℕ) : Type 0 where
   pub above : m ≤ n + e
   pub under : n ≤ m + e
@@ -195,7 +195,7 @@ middles_near e xs ys m n near is_m is_n = record {
   under = near_above e ys xs n m (near-swap e xs ys near) is_n is_m;
 }
 
--- two stamps of each source make such lists
+-- the lists of two near stamps of each source are near
 pub near_stamps : {X : Type 0} (e : ℕ) (x_of y_of : X → ℕ) (heard : List X) → All (λ h. AreNear e (x_of h) (y_of h)) heard → AllZip (AreNear e) (map x_of heard) (map y_of heard)
 near_stamps e x_of y_of [] near = tt
 near_stamps e x_of y_of (h ∷ hs) near =
@@ -207,7 +207,7 @@ near_stamps e x_of y_of (h ∷ hs) near =
 pub record IsMonotone (f : ℕ → ℕ) : Type 0 where
   pub keeps : (x y : ℕ) → x ≤ y → f x ≤ f y
 
--- what has a smaller image is smaller
+-- a number with a smaller image is smaller
 less_before : (f : ℕ → ℕ) → IsMonotone f → (x m : ℕ) → f x < f m → x < m
 less_before f monotone x m less = elim (cases_lt x m) [ inl lt ↦ lt | inr ge ↦ absurd (omega (arith, monotone.keeps m x ge)) ]
 

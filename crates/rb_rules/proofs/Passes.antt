@@ -47,7 +47,7 @@ same_first pass stops (suc n) (suc m) p (suc d) le_n le_m =
     ] in
     go (pass p) refl
 
--- who asks for more than p + 1 slots asks for more than p
+-- a BIU that asks for more than p + 1 slots asks for more than p
 asks_for_more : (a : Bool) (p asked : ℕ) → (a && nat_lt (p + 1) asked) ≡ true → (a && nat_lt p asked) ≡ true
 asks_for_more true p asked h = grind (arith, nat_tests)
 asks_for_more false p asked h = h

@@ -13,7 +13,7 @@ use Rattle.rb_rules.specs.Standing.{Standing, calm_after, first_standing, lapses
 pub nobody_is_accused : (count : ℕ) (newest : ℕ → ℕ) → HasNewest (first_standing count) 0 newest
 nobody_is_accused count newest j below accused = let none : false ≡ true = sym (has_none j) ∙ accused in cc
 
--- evidence is of the frame in which it comes
+-- new evidence is of the frame in which it comes
 pub evidence_is_newest : (evidence : ℕ → Bool) (s : Standing) (frame : ℕ) (newest : ℕ → ℕ) → HasNewest s frame newest
     → HasNewest (with_evidence evidence s) frame (newest_with evidence frame newest)
 evidence_is_newest evidence s frame newest is j below accused =
@@ -42,7 +42,7 @@ not_later : (f : Bool) (frame e : ℕ) → (f ≡ true → e ≡ frame) → (f �
 not_later true frame e now earlier = omega (arith, now refl)
 not_later false frame e now earlier = omega (arith, earlier refl)
 
--- the count reaches the probation just where the accusation has lapsed by its frames
+-- the count reaches the probation if and only if the accusation has lapsed by its frames
 reaches : (q n frame e : ℕ) → q ≤ 4096 → e < frame + 1 → n ≡ min (frame + 1 - (e + 1)) 4096
     → (nat_le 1 q && nat_le q n) ≡ has_lapsed q e (frame + 1)
 reaches q n frame e most past is = ap (λ b. nat_le 1 q && b) (rw is (grind (arith, nat_tests)))
@@ -62,7 +62,7 @@ both true true c d = refl
 both true false c d = refl
 both false b c d = refl
 
--- who stays accused has not lapsed
+-- an accusation that stays was there, and has not lapsed
 stays_accused : (d l : Bool) → (d && not l) ≡ true → (d ≡ true) × (l ≡ false)
 stays_accused true true h = let no : false ≡ true = h in cc
 stays_accused true false h = (refl, refl)
@@ -103,7 +103,7 @@ lapses_by_frames q frame newest s most is = record {
     count_is j below accused =
         counted (has s.fresh j) frame (newest j) (slice_index s.calm j) (is j below accused).fresh (is j below accused).calm (is j below accused).earlier
 
--- whom a node trusts has no part in it, so convictions at the end of the same frame change nothing
+-- convictions at the end of the same frame do not matter to which accusations lapse
 pub lapses_beside_convictions : (q frame trusted : ℕ) (newest : ℕ → ℕ) (s : Standing) → q ≤ 4096 → HasNewest s frame newest
     → LapsesByFrames q (frame + 1) newest s (standing_at_end q (record s { trusted = trusted }))
 lapses_beside_convictions q frame trusted newest s most is =

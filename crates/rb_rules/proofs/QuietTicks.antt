@@ -110,7 +110,7 @@ pub record IsNext (sizes : Sizes) (plan : Plan) (me : Side) (index : ℕ) (st : 
   pub quiet_before : (m : ℕ) → had ≤ m → m < k → is_busy sizes plan me index st m ≡ false
   pub busy : is_busy sizes plan me index st k ≡ true
 
--- the search looks at one tick, and then at the others
+-- the search finds the first tick if it is busy, and else what it finds among the others
 found : (sizes : Sizes) (plan : Plan) (me : Side) (index : ℕ) (st : NodeState) (had k : ℕ) (b : Bool) (others : Option ℕ)
     → had < 2 ^ 31 → is_busy sizes plan me index st had ≡ b → (others ≡ Some k → IsNext sizes plan me index st (suc had) k)
     → (elim b as (λ _. Option ℕ) [ true ↦ Some had | false ↦ others ]) ≡ Some k → IsNext sizes plan me index st had k
@@ -200,7 +200,7 @@ arrive-next sizes plan me index c from bytes =
     ap (λ st. busy_among sizes plan me index st (2 ^ 31 - (arrive sizes me c from bytes).had) (arrive sizes me c from bytes).had) e.0
     ∙ ap (λ had. busy_among sizes plan me index c.state (2 ^ 31 - had) had) e.1
 
--- quiet ticks that pass leave the next one what it was
+-- quiet ticks that pass leave the next busy tick the next
 pub passed-next : (sizes : Sizes) (plan : Plan) (me : Side) (index : ℕ) (st : NodeState) (had k m : ℕ)
     → IsNext sizes plan me index st had k → had ≤ m → m ≤ k → IsNext sizes plan me index st m k
 passed-next sizes plan me index st had k m n lo hi =

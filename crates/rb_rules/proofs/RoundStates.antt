@@ -45,7 +45,7 @@ unfolding begin_frame
 state-turned sc hands m me i st h =
     get-each (λ me i st. turn_if_known sc.sizes sc.plan me st) m.nodes me i ∙ ap (option_map (λ st. turn_if_known sc.sizes sc.plan me st)) h
 
--- what no window changes
+-- the frame, the epoch and the trusted nodes are the same in both states
 pub record Stays (a b : NodeState) : Type 0 where
   pub frame : b.frame ≡ a.frame
   pub epoch : b.epoch ≡ a.epoch
@@ -116,7 +116,7 @@ early sizes me stage n h =
 late : (sizes : Sizes) (me : Side) (stage n : ℕ) → 3 * sync_slot_of sizes + stage - 1 < n → knows sizes me stage n ≡ knows sizes me stage (n + 1)
 late sizes me stage n h = ap (λ b. listens me Sync stage && b) (lt-both (3 * sync_slot_of sizes + stage - 1) n (n + 1) h (omega arith))
 
--- a stage in which the node does not listen gives nothing
+-- a stage in which a node does not listen gives the node no middle
 deaf : (sizes : Sizes) (me : Side) (stage n : ℕ) → listens me Sync stage ≡ false → knows sizes me stage n ≡ knows sizes me stage (n + 1)
 deaf sizes me stage n h = ap (λ b. b && nat_lt (3 * sync_slot_of sizes + stage - 1) n) h ∙ sym (ap (λ b. b && nat_lt (3 * sync_slot_of sizes + stage - 1) (n + 1)) h)
 
@@ -128,7 +128,7 @@ and-none false x = refl
 pub knows-none : (sizes : Sizes) (me : Side) (stage : ℕ) → knows sizes me stage 0 ≡ false
 knows-none sizes me stage = and-none (listens me Sync stage) (3 * sync_slot_of sizes + stage - 1)
 
--- a state with the same middles, where the next window adds none
+-- a state with the same middles knows the same after a window that adds none
 same-knows : (sizes : Sizes) (me : Side) (n : ℕ) (a b : NodeState) → b.k1 ≡ a.k1 → b.k2 ≡ a.k2 → b.k3 ≡ a.k3
     → ((stage : ℕ) → 1 ≤ stage → stage ≤ 3 → knows sizes me stage n ≡ knows sizes me stage (n + 1)) → Knows sizes me n a → Knows sizes me (n + 1) b
 same-knows sizes me n a b e1 e2 e3 same h = record {
@@ -208,7 +208,7 @@ keeping-knows : (sizes : Sizes) (me : Side) (i : ℕ) (n : ℕ) (st : NodeState)
 keeping-knows sizes me i n st slot stage word =
     kept-knows sizes me n st (says sizes me i st slot stage word) ((stage == 1) && is_some (says sizes me i st slot stage word))
 
--- a node that passes a window over, or closes it
+-- the result of a node that closes a window if `b` holds, and else passes it over
 gone : Bool → NodeState → Result → Result
 gone b st x = elim b [ true ↦ x | false ↦ record { state = st; row = None } ]
 
@@ -237,7 +237,7 @@ through-stays sc m sent me i st w =
     (gone-stays (is_good sc me i m.frame w.slot && nat_le w.first w.last) st x
     (stays-trans st kept x.state (keeping-stays sc.sizes me i st w.slot w.stage (word_for_window sc m i w)) (on-stays sc me i kept w (heard_at sc me i st w sent))))
 
--- a close of any window, by whether it is one of the sync slot
+-- the close of a window, which is one of the sync slot if `in_sync` holds
 closed : Sizes → Side → ℕ → NodeState → ℕ → ℕ → ℕ → (ℕ → Sense) → Bool → Outcome
 closed sizes me i st slot stage first sense in_sync =
     elim in_sync [ true ↦ close_sync sizes me st stage (st.epoch + first) sense | false ↦ close_exact sizes me i st slot stage sense ]
@@ -257,7 +257,7 @@ gone-knows sc me n true true st x e closing over = closing refl
 gone-knows sc me n true false st x e closing over = over refl
 gone-knows sc me n false tick st x e closing over = cc
 
--- the next window of a node that is good in it
+-- `Knows` goes on through the window of a node that is good in it
 through-knows : (sc : Scenario) (m : Moment) (sent : Each (Option Sending)) (me : Side) (i n : ℕ) (st : NodeState) (w : Window) (in_sync : Bool)
     → (w.slot == sync_slot_of sc.sizes) ≡ in_sync → is_good sc me i m.frame w.slot ≡ true → Knows sc.sizes me n st
     → ((kept : NodeState) (sense : ℕ → Sense) → Knows sc.sizes me n kept → Knows sc.sizes me (n + 1) (closed sc.sizes me i kept w.slot w.stage w.first sense in_sync).state)

@@ -39,12 +39,12 @@ value_suits sizes version sender receiver slot stage heard.Fault same below =
     (ap (λ f. f % 65536 == receiver.frame % 65536) same ∙ eq_self (receiver.frame % 65536)) (eq_self slot) (eq_self stage)
     (ap (λ b. tag_suits b tag.Fault) below)
 
--- the value is what is in it
+-- the message of a value has that value in it
 pub value_is_in : (sender : NodeState) (slot stage stamp : ℕ) (value : Heard) → value_in (One stamp (message_of sender slot stage value)) ≡ Some value
 value_is_in sender slot stage stamp (heard.Word word) = refl
 value_is_in sender slot stage stamp heard.Fault = refl
 
--- a word that a message can carry
+-- a message can carry the value
 abbrev pub IsCarried : Heard → Type 0
 IsCarried (heard.Word word) = word < 2 ^ 32
 IsCarried heard.Fault = ⊤
@@ -57,7 +57,7 @@ value_is_message sender slot stage (heard.Word word) s some most fits =
 value_is_message sender slot stage heard.Fault s some most fits =
     record { frame = omega arith; slot = s; some_stage = some; most_stages = most; value = refl }
 
--- what it says below the sync slot is heard as said, by a node in the same frame on the same bus
+-- a node's value below the sync slot is heard as said, by a node in the same frame on the same bus
 pub value_is_heard : (sizes : Sizes) (version : Version) (sender receiver : NodeState) (slot stage stamp : ℕ) (value : Heard)
     → sender.frame ≡ receiver.frame → (slot == sync_slot_of sizes) ≡ false → slot < 2 ^ 16 → 1 ≤ stage → stage ≤ 3 → IsCarried value
     → sense_of (expect_of sizes version receiver slot stage)

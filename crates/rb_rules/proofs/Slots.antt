@@ -75,7 +75,7 @@ close-exact sizes me index st slot stage first sense is =
     λ b. elim b [ true ↦ close_sync sizes me st stage (st.epoch + first) sense | false ↦ close_exact sizes me index st slot stage sense ] in
     ap either is
 
--- who says nothing keeps nothing
+-- a node that says nothing keeps nothing
 pub nothing-kept : (sizes : Sizes) (me : Side) (i : ℕ) (st : NodeState) (slot stage word : ℕ) → says sizes me i st slot stage word ≡ None
     → keep_sent sizes me i st slot stage word ≡ st
 nothing-kept sizes me i st slot stage word e =

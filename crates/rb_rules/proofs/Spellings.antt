@@ -28,14 +28,14 @@ value_small Word value suits = suits
 value_small Fault value suits = omega arith
 value_small Sync value suits = omega arith
 
--- the fields of a message make it again
+-- the fields of a message make the message again
 made_back : (tag : Tag) (frame slot stage value : ℕ) → 1 ≤ stage → stage ≤ 3 → HasValue tag value
     → message_with (tag_in (tag_byte tag)) frame slot stage value ≡ Some (made tag frame slot stage value)
 made_back Word frame slot stage value some most suits = rw (le-leb 1 stage some, le-leb stage 3 most) refl
 made_back Fault frame slot stage value some most suits = rw (le-leb 1 stage some, le-leb stage 3 most, eq-eqb value 0 suits) refl
 made_back Sync frame slot stage value some most suits = rw (le-leb 1 stage some, le-leb stage 3 most, eq-eqb value 0 suits) refl
 
--- the spelling of a message is read as it
+-- the spelling of a message is read as that message
 pub read_back : (version : Version) (m : Message) → IsMessage m → message_in version (spelling_of version m) ≡ Some m
 unfolding message_in
 read_back One m is =
@@ -49,7 +49,7 @@ read_back (Two bus) m is =
     rw (eq-eqb bus bus refl, eq-eqb check check refl, from_be_bytes-to_be_bytes_2 m.frame is.frame, from_be_bytes-to_be_bytes_2 m.slot is.slot, from_be_bytes-to_be_bytes_4 m.value small)
     (made_back m.tag m.frame m.slot m.stage m.value is.some_stage is.most_stages is.value)
 
--- bytes that spell a message are read as it
+-- bytes that spell a message are read as that message
 pub spelled_is_read : (version : Version) (bytes : List ℕ) (m : Message) → Spells version bytes m → message_in version bytes ≡ Some m
 spelled_is_read version bytes m spells = ap (message_in version) spells.1 ∙ read_back version m spells.0
 
@@ -63,7 +63,7 @@ tag_case true byte k here tag others same is_k later is =
     ap tag_byte (sym found) ∙ is_k ∙ sym (eqb-true byte k same)
 tag_case false byte k here tag others same is_k later is = later is
 
--- a tag that is read has that byte
+-- a tag that is read from a byte has that byte
 tag_so : (byte : ℕ) (tag : Tag) → tag_in byte ≡ Some tag → tag_byte tag ≡ byte
 tag_so byte tag is =
     tag_case (byte == 1) byte 1 Word tag _ refl refl
@@ -140,7 +140,7 @@ passed : (pass : Bool) (read : Option Message) (m : Message) → (if pass then r
 passed true read m is = (refl, is)
 passed false read m is = absurd (cc)
 
--- eleven bytes from which a message is read spell it
+-- eleven bytes from which a message is read spell that message
 so_one : (b0 b1 b2 b3 b4 b5 b6 b7 b8 b9 b10 : ℕ) (m : Message) → let bytes = b0 ∷ b1 ∷ b2 ∷ b3 ∷ b4 ∷ b5 ∷ b6 ∷ b7 ∷ b8 ∷ b9 ∷ b10 ∷ [] in
     AreBytes bytes → message_in One bytes ≡ Some m → Spells One bytes m
 unfolding message_in
@@ -168,13 +168,13 @@ abbrev items_from : ℕ → ℕ → List ℕ → List ℕ
 items_from i zero xs = []
 items_from i (suc n) xs = slice_index xs i ∷ items_from (suc i) n xs
 
--- the list from place i on, where n items are left
+-- the list from place i on if n items are left
 drop_is : (n i : ℕ) (xs : List ℕ) → length xs ≡ i + n → drop i xs ≡ items_from i n xs
 drop_is zero i xs h = drop_all i xs (omega arith)
 drop_is (suc n) i xs h =
     drop-cons xs i 0 (omega arith) ∙ ap (λ (rest : List ℕ). slice_index xs i ∷ rest) (drop_is n (suc i) xs (omega arith))
 
--- bytes from which a message is read spell it
+-- bytes from which a message is read spell that message
 pub only_so : (version : Version) (bytes : List ℕ) (m : Message) → message_in version bytes ≡ Some m → AreBytes bytes → Spells version bytes m
 unfolding message_in
 only_so One bytes m is small =

@@ -14,7 +14,7 @@ pub unlike_is_taken : (value : Heard) (taken : Option Heard) → is_unlike value
 unlike_is_taken value None h = h
 unlike_is_taken value (Some v) h = refl
 
--- the value itself is not unlike it
+-- a value is not unlike itself
 pub alike_is_not_unlike : (value : Heard) → is_unlike value (Some value) ≡ false
 alike_is_not_unlike value = ap not (same_heard_self value)
 
@@ -41,7 +41,7 @@ right_is_no_evidence s expected sense j r = and_right (has s.trusted j) (does_wr
 pub evidence_accuses : (evidence : ℕ → Bool) (s : Standing) (j : ℕ) → j < 16 → evidence j ≡ true → has (with_evidence evidence s).direct j ≡ true
 evidence_accuses evidence s j below h = has-set_of j (λ j. has s.direct j || evidence j) below ∙ or_right (has s.direct j) (evidence j) h
 
--- a node against which there is none stays as it was
+-- a node against which there is no evidence is accused directly if and only if it was before
 pub others_stay : (evidence : ℕ → Bool) (s : Standing) (j : ℕ) → j < 16 → evidence j ≡ false → has (with_evidence evidence s).direct j ≡ has s.direct j
 others_stay evidence s j below h =
     has-set_of j (λ j. has s.direct j || evidence j) below ∙ ap (λ c. has s.direct j || c) h ∙ or-false (has s.direct j)
@@ -50,7 +50,7 @@ others_stay evidence s j below h =
 pub mismatch_accuses : (differs : ℕ → Bool) (s : Standing) (j : ℕ) → j < 16 → differs j ≡ true → has (with_mismatch differs s).mismatch j ≡ true
 mismatch_accuses differs s j below h = has-set_of j (λ j. has s.mismatch j || differs j) below ∙ or_right (has s.mismatch j) (differs j) h
 
--- a node of which none differed stays as it was
+-- a node of which nothing differed is accused by mismatch if and only if it was before
 pub alike_stay : (differs : ℕ → Bool) (s : Standing) (j : ℕ) → j < 16 → differs j ≡ false → has (with_mismatch differs s).mismatch j ≡ has s.mismatch j
 alike_stay differs s j below h =
     has-set_of j (λ j. has s.mismatch j || differs j) below ∙ ap (λ c. has s.mismatch j || c) h ∙ or-false (has s.mismatch j)
@@ -65,7 +65,7 @@ none_lapses s j =
     ] in
     go (has s.direct j) (has s.fresh j) (nat_le 0 (calm_after s j))
 
--- if the probation is 0, a frame's end leaves those accused directly as they are
+-- if the probation is 0, the end of a frame leaves the direct accusations
 pub accused_stay : (s : Standing) → s.direct < 2 ^ 16 → (standing_at_end 0 s).direct ≡ s.direct
 accused_stay s fits =
     let and_true : (b : Bool) → b ≡ (b && true) = λ b. elim b as (λ b. b ≡ (b && true)) [ true ↦ refl | false ↦ refl ] in

@@ -13,7 +13,7 @@ use Rattle.rb_rules.specs.Standing.{Standing, taken_of}
 use Rattle.rb_rules.proofs.Majorities.{same_heard_self, majority_is}
 use Rattle.rb_rules.proofs.ExactStages.{same_each_node}
 
--- what the list of a close has at a source is what is taken of it
+-- the list of a close has at a source what is taken from that source
 pub taken_at : (s : Standing) (expected : ℕ → Bool) (sense : ℕ → Sense) (j : ℕ) → j < 16
     → at_source (closing_of s expected sense).taken j ≡ taken_of value_in s expected sense j
 taken_at s expected sense j below = get_or-map-range_with_len (taken_of value_in s expected sense) 0 16 j j None below (zero-add j)
@@ -36,13 +36,12 @@ one_time_more : (value : Heard) (o : Option Heard) (rest : List Heard) → times
 one_time_more value None rest = omega arith
 one_time_more value (Some v) rest = refl
 
--- a value as many times as it was taken
+-- a value is present as many times as it was taken
 pub times_present : (value : Heard) (f : ℕ → Option Heard) (js : List ℕ) → times value (present (map f js)) ≡ count_if (λ j. holds value (f j)) js
 times_present value f [] = refl
 times_present value f (j ∷ js) = one_time_more value (f j) (present (map f js)) ∙ ap (λ n. cond (holds value (f j)) 1 0 + n) (times_present value f js)
 
--- sources of which one value was taken, where they outnumber all others of which anything was,
--- decide the vote
+-- if the sources with one value outnumber all others with a value, this is the vote
 pub vote_is : (f : ℕ → Option Heard) (good : ℕ → Bool) (value : Heard) → ((j : ℕ) → good j ≡ true → f j ≡ Some value) → (js : List ℕ)
     → count_if (λ j. not (good j) && is_some (f j)) js < count_if good js → majority_of (present (map f js)) ≡ value
 vote_is f good value said js more =
@@ -64,7 +63,7 @@ pub closing_vote_is : (s : Standing) (expected : ℕ → Bool) (sense : ℕ → 
     → (closing_of s expected sense).voted ≡ value
 closing_vote_is s expected sense good value said more = vote_is (taken_of value_in s expected sense) good value said (numbers 16) more
 
--- closes that take the same vote the same
+-- closes that take the same have the same vote
 pub same_vote : (s t : Standing) (p q : ℕ → Bool) (a b : ℕ → Sense)
     → ((j : ℕ) → j < 16 → taken_of value_in s p a j ≡ taken_of value_in t q b j) → (closing_of s p a).voted ≡ (closing_of t q b).voted
 same_vote s t p q a b same = ap (λ taken. majority_of (present taken)) (same_each_node (taken_of value_in s p a) (taken_of value_in t q b) same)

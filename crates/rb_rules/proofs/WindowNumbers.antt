@@ -1,4 +1,4 @@
--- The windows of a frame by their numbers, and what is read of one node where something is made of
+-- The windows of a frame by their numbers, and what is read of one node if something is made of
 -- all.
 use Rattle.std.proofs.Common.{◌≡◌, ℕ, zero, suc, ◌+◌, ◌*◌, ◌/◌, ◌<◌, List, [], ◌∷◌, length, map, refl, sym, ◌∙◌, ap, arith, Some, slice_get, unwrap_or, option_map}
 use Rattle.std.proofs.Math.Nat.{div-lt_iff_lt-mul}
@@ -33,7 +33,7 @@ get-from i make [] n = refl
 get-from i make (x ∷ xs) zero = let e : i + 0 ≡ i = omega arith in rw e refl
 get-from i make (x ∷ xs) (suc n) = let e : i + suc n ≡ i + 1 + n = omega arith in rw e (get-from (i + 1) make xs n)
 
--- what was made of each node's is made of this node's
+-- what was made of each node was made of node `i`
 pub get-each : {X Y : Type 0} (make : Side → ℕ → X → Y) (xs : Each X) (me : Side) (i : ℕ)
     → slice_get (of_kind me (map_each make xs)) i ≡ option_map (make me i) (slice_get (of_kind me xs) i)
 get-each make xs Biu i = let e : 0 + i ≡ i = omega arith in get-from 0 (make Biu) xs.bius i ∙ ap (λ n. option_map (make Biu n) (slice_get xs.bius i)) e
@@ -47,7 +47,7 @@ pub length-each : {X Y : Type 0} (make : Side → ℕ → X → Y) (xs : Each X)
 length-each make xs Biu = length-from 0 (make Biu) xs.bius
 length-each make xs Rmu = length-from 0 (make Rmu) xs.rmus
 
--- what is made for each node of a bus is made for this one
+-- what is made for each node of a bus is made for node `i`
 pub get-made : {X : Type 0} (sizes : Sizes) (make : Side → ℕ → X) (me : Side) (i : ℕ) → i < count_of me sizes
     → slice_get (of_kind me (each_of sizes make)) i ≡ Some (make me i)
 get-made sizes make Biu i h = slice_get-map (make Biu) (numbers sizes.bius) i ∙ ap (option_map (make Biu)) (get-number sizes.bius i h)

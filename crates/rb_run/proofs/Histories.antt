@@ -71,7 +71,7 @@ moves-on gives keeps sc is_plain now told mid since before d e k after t is stay
           (through-more gives keeps before d e way.world.book.given is.turns r.given t is.through (subst (λ u. gives d u t) turn g.given_by) kept);
     }
 
--- the run goes on, or ends
+-- after a turn that does not end the run the drive is still on its way
 pub still-on : {D : Type 0} (gives : D → Turn → Turn → Type 0) (keeps : D → D → Turn → Type 0) (sc : Scenario) (is_plain : Bool) (told since : Option (List Turn)) (before now : D) (k : KeptWorld) (t : Turn)
     → IsOnItsWay gives keeps sc is_plain told since before now k (is_last (record_of t)) → end_at (record_of t) ≡ None
     → IsOnItsWay gives keeps sc is_plain told since before now k false

@@ -83,6 +83,6 @@ tally-with rs (Some (Slot frame slot lines)) = no-block rs (Slot frame slot line
 tally-with rs (Some Ended) = nothing-more rs Ended refl refl
 tally-with rs (Some (Breach place cause)) = nothing-more rs (Breach place cause) refl refl
 
--- the numbers of some turns and one more
+-- the numbers with one more turn are those before with its record counted
 pub totals-more : (turns : List Turn) (t : Turn) → totals_of (turns ++ t ∷ []) ≡ counted (totals_of turns) (record_of t)
 totals-more turns t = ap tally_of (records-more turns t) ∙ tally-with (records_in turns) (record_of t)

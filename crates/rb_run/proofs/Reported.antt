@@ -45,7 +45,7 @@ written-next : (sc : Scenario) (is_plain : Bool) (told mid : Option (List Turn))
 written-next sc is_plain told mid k held mid_held after_held newest passed t is now =
     subst (λ text. Appends held after_held text) (sym (text-next sc is_plain told mid k held mid_held newest passed t is)) (appends_join held mid_held after_held _ _ is.text now)
 
--- the run goes on
+-- one more turn was written, and the run goes on
 pub one-written : (sc : Scenario) (is_plain : Bool) (told mid since : Option (List Turn)) (k after : KeptWorld) (held mid_held after_held : Option (List ℕ)) (newest next passed : ℕ) (t : Turn)
     → (is : IsWritten sc is_plain told mid k held mid_held newest passed) → Next sc is_plain told mid since k after held mid_held newest passed t is
     → Appends mid_held after_held (turn_text newest (record_of t)) → next ≡ newest_with newest (record_of t) → end_at (record_of t) ≡ None

@@ -24,7 +24,7 @@ earliest-more : (t : ℕ) (ls : List NodeLine) (l : NodeLine) → earliest_of t 
 earliest-more t [] l = refl
 earliest-more t (x ∷ ls) l = let rest = earliest-more t ls l in omega (arith, rest)
 
--- what a line reads as where there is none
+-- what a line reads as if there is none
 abbrev pub no_line : NodeLine
 no_line = record { node = Biu 0; tick = 0; time = 0; biu = 0; rmu = 0 }
 
@@ -34,7 +34,7 @@ latest-next t ls i below = ap (latest_of t) (take_more ls i no_line below) ∙ l
 pub earliest-next : (t : ℕ) (ls : List NodeLine) (i : ℕ) → i < length ls → earliest_of t (take (i + 1) ls) ≡ min (get_or ls i no_line).time (earliest_of t (take i ls))
 earliest-next t ls i below = ap (earliest_of t) (take_more ls i no_line below) ∙ earliest-more t (take i ls) (get_or ls i no_line)
 
--- how much later a time is than each of these and one more
+-- how much later a time is than the earliest is the most that it is later than any of the times
 later-than : (t first : ℕ) (ls : List NodeLine) → t - earliest_of first ls ≡ max (t - first) (greatest (map (λ l. t - l.time) ls))
 later-than t first [] = omega arith
 later-than t first (l ∷ ls) = let rest = later-than t first ls in omega (arith, rest)

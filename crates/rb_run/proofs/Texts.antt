@@ -47,7 +47,7 @@ newest-with n (r ∷ rs) o = newest-with (newest_with n (Some r)) rs o
 pub newest-more : (turns : List Turn) (t : Turn) → newest_after 0 (records_in (turns ++ t ∷ [])) ≡ newest_with (newest_after 0 (records_in turns)) (record_of t)
 newest-more turns t = ap (newest_after 0) (records-more turns t) ∙ newest-with 0 (records_in turns) (record_of t)
 
--- the last of two parts was not written whole
+-- if the last of two parts was not written whole, both together were written in part
 pub part-last : {T E : Type 0} (r : Result T E) (a b c : Option (List ℕ)) (xs ys : List ℕ) → Appends a b xs → OnErr r (AppendsPart b c ys) → OnErr r (AppendsPart a c (xs ++ ys))
 part-last (Ok x) a b c xs ys before now = tt
 part-last (Err e) a b c xs ys before now = part_join a b c xs ys before now

@@ -62,7 +62,7 @@ bare-ends (shown.Breach place cause) = refl
 pub alike-ends : (t u : Turn) → bare t ≡ bare u → end_at (record_of t) ≡ end_at (record_of u)
 alike-ends t u same = sym (bare-ends t) ∙ ap (λ x. end_at (record_of x)) same ∙ bare-ends u
 
--- a run ends with the turns that are the last of one
+-- a record that ends a run is the last of it
 pub ends-last : (o : Option Record) (e : Ending) → end_at o ≡ Some e → is_last o ≡ true
 ends-last None e is = absurd (cc)
 ends-last (Some (Record.Frame frame nodes ports)) e is = absurd (cc)

@@ -12,7 +12,7 @@ chain : Option ℕ → Bool → Bool → Bool → Bool → Bool → Option Refus
 chain o a b c d e =
     plan_rule o (or_else a ClockBounds (or_else b DelayBounds (or_else c StartApart (or_else d SayOfGood (or_else e TooMany None)))))
 
--- which rules are kept, one after the other
+-- the rules are kept one after the other: each record has one more than the record before it
 pub record PlanKept (sc : Scenario) : Type 0 where
   pub plan : first_failing sc.sizes sc.plan ≡ None
 
@@ -74,7 +74,7 @@ at_end : (o : Option ℕ) (a b c d e : Bool) → o ≡ None → a ≡ true → b
 unfolding chain
 at_end o a b c d e h0 h1 h2 h3 h4 h5 = rw (h0, h1, h2, h3, h4, h5) refl
 
--- a rule that is broken where those before it are kept
+-- a rule that fails is the one that is broken, if those before it are kept
 pub plan_breaks : (sc : Scenario) (n : ℕ) → first_failing sc.sizes sc.plan ≡ Some n → IsBrokenBy sc (PlanFails n)
 unfolding chain broken_by
 plan_breaks sc n h = inr (at_plan _ (keep_time sc.plan sc.clocks) (are_delays sc.plan sc.delays) (start_together sc.plan.p sc.clocks) (are_sayers_faulty sc) (are_few (length sc.says) (length sc.delays.rules) sc.clocks) n h)

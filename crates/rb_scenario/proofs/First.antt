@@ -10,7 +10,7 @@ use Rattle.rb_scenario.specs.Acceptance.{IsDocument, IsRefused, broken_by, first
 use Rattle.rb_scenario_entries.specs.Bus.{bus_in, bus_of, has_bus}
 use Rattle.rb_scenario.specs.Reading.{fits_bus, is_in_range, scenario_of}
 
--- the bus, if there is one
+-- if there is a bus, it is the one that the members say
 pub bus_in-some : (t : Members) (bus : Bus) → Some bus ≡ bus_in t → (has_bus t ≡ true) × (bus ≡ bus_of t)
 bus_in-some t bus h =
     let go : (b : Bool) → has_bus t ≡ b → (has_bus t ≡ true) × (bus ≡ bus_of t) = λ b. elim b as (λ b. has_bus t ≡ b → (has_bus t ≡ true) × (bus ≡ bus_of t)) [
@@ -25,7 +25,8 @@ bus_in-none t h =
       | false ↦ λ e. e
     ] in go (has_bus t) refl
 
--- which of the rules on keys, forms and ranges are kept
+-- the rules on keys, names and forms are kept one after the other: each record has one more than
+-- the record before it
 pub record KeysKept (t : Members) : Type 0 where
   pub keys : lacks_key t ≡ false
 

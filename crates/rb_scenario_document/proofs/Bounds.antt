@@ -89,7 +89,7 @@ pattern_in sizes None p e = cc
 pub pattern_at-IsPatternOf : (sizes : Sizes) (key : List ℕ) (t : Members) (p : Pattern) → pattern_at sizes key t ≡ Some p → IsPatternOf sizes p
 pattern_at-IsPatternOf sizes key t p e = pattern_in sizes (get_member key t) p e
 
--- the default does not matter where a number within bounds stands
+-- the default does not matter if a number within bounds is there
 pub number_there : (low high a b : ℕ) (d : Data) → is_within low high d ≡ true → number_or a (Some d) ≡ number_or b (Some d)
 number_there low high a b (integer (pos n)) h = λ j. n
 number_there low high a b (integer (negsuc n)) h = absurd (false≢true h)

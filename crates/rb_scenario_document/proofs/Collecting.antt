@@ -13,7 +13,7 @@ map-append : {X Y : Type 0} (f : X → Y) (xs ys : List X) → map f (xs ++ ys) 
 map-append f [] ys = ap (λ zs. zs) (λ i. map f ys)
 map-append f (x ∷ xs) ys = ap (λ zs. f x ∷ zs) (map-append f xs ys)
 
--- the first of the values that are left, and those after it
+-- the tables that are left are that of the first value, if it is one, and those after it
 pub tables_in-drop : (vs : List Value) (i : ℕ) (v : Value) → i < length vs → v ≡ get_or vs i v
     → tables_in (items_view (drop i vs)) ≡ option_to_list (as_table (view v)) ++ tables_in (items_view (drop (i + 1) vs))
 tables_in-drop vs i v h is =
@@ -32,7 +32,7 @@ gather_more f vs i v xs ys all h is taken before =
     ∙ ap (λ ts. xs ++ map f ts) (sym (tables_in-drop vs i v h is))
     ∙ before
 
--- what holds of all entries that are left holds of the first of them, and of those after it
+-- what holds for all entries that are left holds for the first one and for those after it
 pub left_more : (p : Members → Bool) (vs : List Value) (i : ℕ) (v : Value) → i < length vs → v ≡ get_or vs i v
     → list_all p (tables_in (items_view (drop i vs))) ≡ true
     → (list_all p (option_to_list (as_table (view v))) ≡ true) × (list_all p (tables_in (items_view (drop (i + 1) vs))) ≡ true)

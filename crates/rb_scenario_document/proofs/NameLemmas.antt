@@ -21,7 +21,7 @@ decimal_two_digits i low high =
     let ones : 48 + i % 10 ≡ 38 + i = omega arith in
     rw (decimal_step i low (omega arith), tens, decimal_digit 1 (omega arith), ones) refl
 
--- what digits that spell an index below 16 are
+-- `digits` is the one digit of an index below 10
 pub record IsOneDigit (digits : List ℕ) (i : ℕ) : Type 0 where
   pub long : length digits ≡ 1
   pub ones : get_or digits 0 0 ≡ 48 + i
@@ -68,7 +68,7 @@ find_some p a (suc n) i before here low high = elim (cases_lt a i) [
   | inr above ↦ let is : i ≡ a = omega arith in rw (subst (λ k. p k ≡ true) is here) (ap (λ k. Some k) (sym is))
 ]
 
--- the text is one name, and so no other
+-- the text of one name is that of no other
 differs : (letter i j : ℕ) (text : List ℕ) → text ≡ indexed letter i → i < 16 → j < i → bytes_eq text (indexed letter j) ≡ false
 differs letter i j text e small lt = false_from_ne_true _ (λ t.
     let same : letter ∷ decimal i ≡ letter ∷ decimal j = sym e ∙ (bytes_eq-Decides text (indexed letter j)).0 t in

@@ -28,7 +28,7 @@ eqb-swap a b = elim (cases_eq a b) [
   | inr n ↦ ne_eqb a b n ∙ sym (ne_eqb b a (λ e. n (sym e)))
 ]
 
--- a BIU is noted, and an RMU
+-- to note a BIU adds that BIU to what was seen
 pub noted_biu : (seen : Seen) (t k : ℕ) (name : NodeName) → name ≡ Biu k → t ≡ set_of (λ i. has seen.biu i || eqb i k) → (n : NodeName) → IsNumbered n
     → was_seen (record { biu = t; rmu = seen.rmu }) n ≡ (was_seen seen n || same_node name n)
 noted_biu seen t k name is e (Biu i) small =
@@ -115,7 +115,7 @@ are_new-more sizes shape vs i v seen seen' r h is told =
     ∙ ap (are_new seen) (filter_map-append (λ e. node_at sizes (codes "node") e) (option_to_list (as_table (view v))) (tables_in (items_view (drop (i + 1) vs))))
     ∙ told (nodes_in sizes (tables_in (items_view (drop (i + 1) vs)))) (nodes_in-IsNumbered sizes shape (tables_in (items_view (drop (i + 1) vs))))
 
--- an entry that names a node
+-- the nodes of an entry that names one are new if that node is, and the others are with it
 pub are_new-entry : (sizes : Sizes) (d : Data) (e : Members) (name : NodeName) (seen seen' : Seen) (r : Bool)
     → Some e ≡ as_table d → Some name ≡ node_at sizes (codes "node") e → r ≡ not (was_seen seen name)
     → ((n : NodeName) → IsNumbered n → was_seen seen' n ≡ (was_seen seen n || same_node name n))

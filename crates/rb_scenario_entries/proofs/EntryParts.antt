@@ -39,7 +39,7 @@ pub record SayParts (bus : Bus) (e : Members) : Type 0 where
   pub early_in_sync : ((number_at (codes "early") 0 e == 0) || is_sync_alone (sync_slot_of bus.shape) (slots_of e)) ≡ true
   pub content : is_some (content_in e) ≡ true
 
--- a value that is not there, or passes two tests, passes the first
+-- a value that is absent or passes both tests is absent or passes the first
 absent_or_first : (p q : Data → Bool) (o : Option Data) → absent_or (λ d. p d && q d) o ≡ true → absent_or p o ≡ true
 absent_or_first p q None h = h
 absent_or_first p q (Some d) h = (and_parts _ _ h).0

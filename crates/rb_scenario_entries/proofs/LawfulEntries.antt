@@ -122,7 +122,7 @@ value_small : (c i v : ℕ) (o : Option ℕ) → ((n : ℕ) → o ≡ Some n →
 value_small c i v None small h = absurd (cc)
 value_small c i v (Some n) small h = let is : n ≡ v = cc in let less = small n refl in omega arith
 
--- two steps that gave a value
+-- both steps gave a value
 record Both {A B : Type 0} (r : Result A FromHexError) (f : A → Result B FromHexError) (b : B) : Type 0 where
   first : A
   first_is : r ≡ Ok first

@@ -33,7 +33,7 @@ full_stays n xs ys full = take-append-le n xs ys (omega arith) ∙ take_all n xs
 
 -- ---- in a pass
 
--- the owners where those below k were asked in a pass
+-- the owners after the BIUs below `k` were asked in a pass
 abbrev pub given : ℕ → List ℕ → (ℕ → Bool) → ℕ → List ℕ
 given slots before gets k = take slots (before ++ filter gets (numbers k))
 
@@ -48,7 +48,7 @@ given_next slots before gets k now so_far =
     ∙ ap (take slots) (append_assoc before (filter gets (numbers k)) (cond (gets k) (k ∷ []) []))
     ∙ ap (λ l. take slots (before ++ l)) (sym (filter_numbers_more gets k))
 
--- BIU k gets a slot
+-- if BIU `k` gets a slot, it is the next owner
 pub given_more : (slots : ℕ) (before : List ℕ) (gets : ℕ → Bool) (k : ℕ) (now : List ℕ) → now ≡ given slots before gets k → length now < slots → gets k ≡ true
     → now ++ k ∷ [] ≡ given slots before gets (k + 1)
 given_more slots before gets k now so_far room yes_k =
@@ -56,7 +56,7 @@ given_more slots before gets k now so_far room yes_k =
     ∙ ap (λ b. take slots (now ++ cond b (k ∷ []) [])) (sym yes_k)
     ∙ given_next slots before gets k now so_far
 
--- BIU k gets none
+-- if BIU `k` gets no slot, the owners stay
 pub given_same : (slots : ℕ) (before : List ℕ) (gets : ℕ → Bool) (k : ℕ) (now : List ℕ) → now ≡ given slots before gets k → length now ≤ slots → gets k ≡ false
     → now ≡ given slots before gets (k + 1)
 given_same slots before gets k now so_far fits no_k =
@@ -64,7 +64,7 @@ given_same slots before gets k now so_far fits no_k =
     ∙ ap (λ b. take slots (now ++ cond b (k ∷ []) [])) (sym no_k)
     ∙ given_next slots before gets k now so_far
 
--- all slots are given
+-- once all slots are given, the owners stay to the end of the pass
 pub given_all : (slots : ℕ) (before : List ℕ) (gets : ℕ → Bool) (k : ℕ) (now : List ℕ) (m n : ℕ) → now ≡ given slots before gets k → length now ≡ slots → k + m ≡ n
     → now ≡ given slots before gets n
 given_all slots before gets k now zero n so_far full e = so_far ∙ ap (given slots before gets) (let f : k ≡ n = omega arith in f)
@@ -114,7 +114,7 @@ granted_rest slots pass k now (suc m) n so_far fits over e =
     let next : now ≡ granted slots pass (k + 1) = sym (adds_nothing slots pass k now fits over) ∙ granted_more slots pass k now so_far in
     granted_rest slots pass (k + 1) now m n next fits (still_over slots pass k now over) (omega arith)
 
--- a pass that adds no owner is followed by none that does
+-- a pass that adds no owner is empty, or all slots are given
 quiet : (slots : ℕ) (pass : ℕ → List ℕ) (k : ℕ) (now : List ℕ) → length now ≤ slots → length (take slots (now ++ pass k)) ≡ length now
     → (length now ≡ slots) ⊎ (pass k ≡ [])
 quiet slots pass k now fits same =
@@ -129,7 +129,7 @@ asks_earlier : (t : Bool) (k j r : ℕ) → k ≤ j → (t && nat_lt j r) ≡ tr
 asks_earlier true k j r h e = grind (arith, nat_tests)
 asks_earlier false k j r h e = e
 
--- who asks in a later pass asks in an earlier one
+-- if nobody asks in a pass, nobody asks in a later one
 pub nobody_later : (sizes : Sizes) (trusted : ℕ) (requests : List Heard) (k j : ℕ) → k ≤ j → owners_in_pass sizes trusted requests k ≡ []
     → owners_in_pass sizes trusted requests j ≡ []
 nobody_later sizes trusted requests k j h none =

@@ -20,7 +20,7 @@ use Rattle.rb_test_bridge_rules.specs.Bridges.{slot_each, triple}
 
 -- Owners.
 
--- who owns a slot, as a node holds it
+-- the owner of a slot, as a node holds it
 abbrev owner_held : Scenario → List HandIn → ℕ → ℕ → Side → ℕ → Option (Option ℕ)
 owner_held sc hands frame slot me i = option_map (λ st. owner_at sc.sizes st slot) (slice_get (of_kind me (before_slot sc hands frame slot).nodes) i)
 

@@ -37,7 +37,7 @@ passes tests = list_all (λ t. t) tests
 passed : (tests : List Bool) → passes tests ≡ true → (k : ℕ) → k < length tests → get_or tests k false ≡ true
 passed tests h k lt = AllPass-from_list_all (λ t. t) tests h k false lt
 
--- what a test shows of an item it shows of each item of a list
+-- if a test shows `P` of an item, it shows `P` of each item of a list
 each_by : {X : Type 0} (P : X → Type 0) (test : X → Bool) → ((x : X) → test x ≡ true → P x) → (xs : List X) → list_all test xs ≡ true → All P xs
 each_by P test shows xs h = λ k d lt. shows (get_or xs k d) (AllPass-from_list_all test xs h k d lt)
 

@@ -48,7 +48,7 @@ record_reads node = record { read = λ left left' input h. h; refuse = λ input 
 pub group_reads : (which : Which) (members : ℕ) → ReadsAScenario (group_command which members)
 group_reads which members = record { read = λ left left' input h. h; refuse = λ input line h. inl h; unread = λ status left left' faults faults' h. h }
 
--- a command that tells of the run of this scenario, once it has been read
+-- the command tells of the run of this scenario, once the scenario has been read
 pub record TellsOf (command : Command) (accepted : Accepted) (tells : Telling) : Type 0 where
   pub reads : ReadsAScenario command
   pub due : (input : List ℕ) (is_plain : Bool) (told told' : Option (List Turn)) (status : Status) (text : List ℕ)

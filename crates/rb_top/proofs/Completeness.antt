@@ -77,7 +77,7 @@ not_of_both r a b is_a is_b biu rmu =
 
 -- Commands that end in one way.
 
--- what is due of a command ends so, in one way, and of no input that is refused
+-- an input has at most one end of the command, and none if it is refused
 pub record IsSound (command : Command) : Type 0 where
   pub ends_so : (input : List ℕ) (is_plain : Bool) (told told' : Option (List Turn)) (status : Status) (text : List ℕ)
       → command.is_due input is_plain told told' status text → command.is_end input status

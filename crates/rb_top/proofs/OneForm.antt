@@ -20,7 +20,7 @@ use Rattle.rb_top.specs.declared.form.Form.{Form}
 use Rattle.rb_top.specs.declared.form.Form.TheVariants.{Run, Check, Gen, Stress, Record, Replay, Spell, Letters, Group, Listen, Show}
 use Rattle.rb_top.specs.Words.{AreNumbers, AskFor, IsInRange, IsLetter, IsMask, voter_text, words_of}
 
--- equal numbers
+-- equal digits are of equal numbers
 same_numbers : (make : ℕ → ℕ → Form) (seed frames seed' frames' : ℕ) → AreNumbers seed frames → AreNumbers seed' frames'
     → decimal seed ≡ decimal seed' → decimal frames ≡ decimal frames' → make seed frames ≡ make seed' frames'
 same_numbers make seed frames seed' frames' a b is_seed is_frames =
@@ -32,7 +32,7 @@ same_numbers make seed frames seed' frames' a b is_seed is_frames =
 abbrev word : ℕ → List (List ℕ) → List ℕ
 word n words = get_or words n []
 
--- equal names
+-- equal texts are of equal nodes
 same_node : (a b : NodeName) → IsNumbered a → IsNumbered b → node_text a ≡ node_text b → a ≡ b
 same_node (Biu i) (Biu j) p q e = ap Biu (decimal_injective i j (omega (arith, p)) (omega (arith, q)) (ap (drop 1) e))
 same_node (Biu i) (Rmu j) p q e = let letters : 66 ≡ 82 = ap (λ xs. get_or xs 0 0) e in absurd (omega (arith, letters))
@@ -43,7 +43,7 @@ bytes_or : Result (List ℕ) FromHexError → List ℕ
 bytes_or (Ok bytes) = bytes
 bytes_or (Err e) = []
 
--- equal letters
+-- equal digits are of equal letters
 same_bytes : (a b : List ℕ) → IsBytes a → IsBytes b → encode_lower a ≡ encode_lower b → a ≡ b
 unfolding bytes_or
 same_bytes a b is_a is_b e =
@@ -54,7 +54,7 @@ same_letter a b is_a is_b e =
     let kept : List ℕ → ArrayVec ℕ = λ bytes. record { items = bytes } in
     ap kept (same_bytes a.items b.items is_a.all_bytes is_b.all_bytes e)
 
--- equal groups
+-- equal words are of equal voters
 same_voter : (a b : Which) → voter_text a ≡ voter_text b → a ≡ b
 same_voter Most Most e = refl
 same_voter Most Mid e = let letters : 111 ≡ 105 = ap (λ xs. get_or xs 1 0) e in absurd (omega (arith, letters))

@@ -1,4 +1,4 @@
--- A text written piece by piece: what is still owed of it, and what stands where a write fails.
+-- A text written piece by piece: what is still owed of it, and what is written if a write fails.
 use Rattle.std.proofs.Common.{◌≡◌, ℕ, suc, ◌+◌, ◌-◌, ◌<◌, ◌≤◌, List, [], ◌++◌, Option, Result, Ok, Err, OnErr, arith, sym, ◌∙◌, ap, append_assoc, subst, refl}
 use Rattle.std.proofs.lemmas.List.{append-nil}
 use Rattle.std.specs.List.{flat_map, range_with_len}
@@ -16,7 +16,6 @@ pub record Owes (old now : Option (List ℕ)) (whole rest : List ℕ) : Type 0 w
 pub owes_all : (old : Option (List ℕ)) (whole : List ℕ) → Owes old old whole whole
 owes_all old whole = record { written = []; appended = appends_none old; completes = refl }
 
--- the rest may be written out otherwise
 pub owes_same : (old now : Option (List ℕ)) (whole rest other : List ℕ) → rest ≡ other → Owes old now whole rest → Owes old now whole other
 owes_same old now whole rest other e o = let P : List ℕ → Type 0 = λ xs. Owes old now whole xs in subst P e o
 
@@ -28,13 +27,13 @@ owes_less old mid new whole piece rest o p = record {
   completes = append_assoc o.written piece rest ∙ o.completes;
 }
 
--- a piece is written in part, and nothing after it
+-- if a piece is written in part, the whole text is written in part
 pub owes_part : (old mid new : Option (List ℕ)) (whole piece rest : List ℕ) → Owes old mid whole (piece ++ rest) → AppendsPart mid new piece → AppendsPart old new whole
 owes_part old mid new whole piece rest o p =
     let P : List ℕ → Type 0 = λ xs. AppendsPart old new xs in
     subst P (append_assoc o.written piece rest ∙ o.completes) (part_widens old new (o.written ++ piece) rest (part_join old mid new o.written piece o.appended p))
 
--- the last piece is written
+-- if the rest is written, the whole text is written
 pub owes_last : (old mid new : Option (List ℕ)) (whole rest : List ℕ) → Owes old mid whole rest → Appends mid new rest → Appends old new whole
 owes_last old mid new whole rest o p = rw (← o.completes) (appends_join old mid new o.written rest o.appended p)
 
@@ -60,12 +59,12 @@ piece_owed : (old now : Option (List ℕ)) (whole tail : List ℕ) (piece : ℕ 
 piece_owed old now whole tail piece i n h o =
     owes_same old now whole _ _ (ap (λ rest. rest ++ tail) (pieces_next piece i n h) ∙ append_assoc (piece i) (pieces piece (i + 1) n) tail) o
 
--- piece i is written
+-- if piece `i` is written, the pieces after it and the tail are owed
 pub owes_pieces : (old mid new : Option (List ℕ)) (whole tail : List ℕ) (piece : ℕ → List ℕ) (i n : ℕ) → i < n
     → Owes old mid whole (pieces piece i n ++ tail) → Appends mid new (piece i) → Owes old new whole (pieces piece (i + 1) n ++ tail)
 owes_pieces old mid new whole tail piece i n h o p = owes_less old mid new whole (piece i) _ (piece_owed old mid whole tail piece i n h o) p
 
--- piece i is written in part
+-- if piece `i` is written in part, the whole text is written in part
 pub part_of_pieces : (old mid new : Option (List ℕ)) (whole tail : List ℕ) (piece : ℕ → List ℕ) (i n : ℕ) → i < n
     → Owes old mid whole (pieces piece i n ++ tail) → AppendsPart mid new (piece i) → AppendsPart old new whole
 part_of_pieces old mid new whole tail piece i n h o p = owes_part old mid new whole (piece i) _ (piece_owed old mid whole tail piece i n h o) p

@@ -20,6 +20,7 @@ use rb_world::Drive;
 use std::alloc::Global;
 
 /// `run`: reads a scenario, runs it and writes the report of the drive's turns, a line at a time.
+///
 /// Times in the report are in units, ticks are of a node's own clock. `Done`, and `Breach` if the
 /// run ends with a breach of the fault premise: all is written. `Refused`: the input breaks a rule
 /// of scenarios, and one line says which. `TooLong`: the source gave more than 4,194,304 bytes.
@@ -97,8 +98,9 @@ pub fn replay<S: Source, K: Sink>(alloc: Global, input: &mut S, output: &mut K) 
 }
 
 /// `listen SKIP`: reads the log of a BIU, gives it to a passive listener from this tick of the
-/// BIU's clock on and writes what that tells.  The answers are those of `replay`; the log of an RMU
-/// is `Refused` too.
+/// BIU's clock on and writes what that tells.
+///
+/// The answers are those of `replay`; the log of an RMU is `Refused` too.
 pub fn listen<S: Source, K: Sink>(alloc: Global, skip: u32, input: &mut S, output: &mut K) -> Status
     ensures { AnswersAlone (Listen skip) result S.left S.faults input.old input.new
         K.held K.faults output.old output.new }

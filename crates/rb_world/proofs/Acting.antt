@@ -45,9 +45,9 @@ want-is sc me i k site c sizes plan number next =
     ∙ ap (λ z. want_for sc.sizes (wants sc.sizes z me site.node.seat.index (pass_to k c))) plan
     ∙ ap (λ n. want_for sc.sizes (wants sc.sizes sc.plan me n (pass_to k c))) number
 
--- Around the node, when it has told what it has to tell.
+-- What surrounds the node when it has told what it has to tell.
 
--- what it tells by what is kept, and by the definitions
+-- what a node tells by what is kept of it is what it tells by the definitions
 after_tick-alike : (sc : Scenario) (ports : List PortState) (me : Side) (i : ℕ) (x : Act) (c : Closed) (row : Row) (s : Site) → x.closed ≡ Some c
     → ((c.place.stage == 4) ≡ false → row_of me i x.core.state (coming_from s.got) c ≡ row) → SameShown (after_tick sc ports me i x s) (with_row c.place.stage row (with_epoch sc ports me i x.epoch s))
 after_tick-alike sc ports me i x c row s closed is =
@@ -125,7 +125,7 @@ told-around sc me i name scene w s x step shown row named there act is h =
 
 -- The whole.
 
--- what the world is after the tick
+-- the parts of a tick make the world after it
 pub act-is : (sc : Scenario) (w : World) (me : Side) (i k : ℕ) (x : Act)
     → record (moved me i (proceed sc me i) (told_in sc w me i x)) {
       sites = with_message sc me i x.core.state.frame k x.message (at_node me i (proceed sc me i) (at_node me i (after_tick sc w.ports me i x) w.sites));

@@ -18,7 +18,7 @@ use Rattle.rb_world.specs.Steps.{moved}
 use Rattle.rb_world.specs.Worlds.{Surrounds, running_of}
 use Rattle.rb_world.proofs.Sites.{at_one, counts-one, holds-site, was-there}
 
--- two sites of which the same is shown
+-- both sites show the same
 pub record SameShown (z y : Site) : Type 0 where
   pub coming : z.coming ≡ y.coming
   pub ahead : z.ahead ≡ y.ahead

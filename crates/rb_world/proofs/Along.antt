@@ -141,7 +141,7 @@ comes-quiet sc kept scene until n w0 d turn it none =
       ];
     }
 
--- It came.
+-- A record came.
 unfoldable pub comes-next : (sc : Scenario) (kept : Each KeptSite) (scene : Scene) (until : Side → ℕ → ℕ) (n : ℕ) (w0 : World) (d : ℕ) (turn : Turn) → (it : Comes sc kept scene until n w0 d turn)
     → is_some (record_of turn) ≡ true → IsNext sc First (record { world = w0; draws = d }) (record { world = it.now; draws = d })
 comes-next sc kept scene until n w0 d turn it some = record { others = it.others; is = sym it.is; quiet = it.quiet; gives = ap is_some it.turn_is ∙ some }

@@ -23,7 +23,7 @@ use Rattle.rb_world.specs.Steps.{moved}
 use Rattle.rb_world.specs.Worlds.{HoldsPorts, Surrounds, running_of}
 use Rattle.rb_world.proofs.Sites.{counts-one, from-map, holds-one, running-one, shows-each, shows-one}
 
--- what a node tells changes nothing else
+-- the change leaves all but what the node tells
 pub record Tells (change : Site → Site) : Type 0 where
   pub coming : (s : Site) → (change s).coming ≡ s.coming
   pub ahead : (s : Site) → (change s).ahead ≡ s.ahead
@@ -79,7 +79,7 @@ pends-more sc scene lanes w me i change pends is holds rooms = record {
     running Biu = running-one Biu scene.running_biu w.sites me i change pends.runs (is.running Biu)
     running Rmu = running-one Rmu scene.running_rmu w.sites me i change pends.runs (is.running Rmu)
 
--- the ports change
+-- what surrounds the nodes still stands for the world when the ports change
 pub ports-more : (sc : Scenario) (scene : Scene) (kept : List KeptPort) (w : World) (after : Scene) (states : List PortState) → after.agenda ≡ scene.agenda → after.book ≡ scene.book
     → after.ports.items ≡ kept → after.running_biu ≡ scene.running_biu → after.running_rmu ≡ scene.running_rmu → HoldsPorts sc kept states → Surrounds sc scene w
     → Surrounds sc after (record w { ports = states })
@@ -101,7 +101,7 @@ ports-more sc scene kept w after states agenda book ports biu rmu holds is = rec
     within Biu = subst (λ r. (n : ℕ) → has r n ≡ true → n < sc.sizes.bius) (sym biu) (is.within Biu)
     within Rmu = subst (λ r. (n : ℕ) → has r n ≡ true → n < sc.sizes.rmus) (sym rmu) (is.within Rmu)
 
--- a message is on its way
+-- a message on its way leaves all else that a site shows
 sent-keeps : {Y : Type 0} (h : Site → Y) → ((s : Site) (cs : List Coming) → h (record s { coming = cs }) ≡ h s) → (sc : Scenario) (me : Side) (j frame : ℕ) (m : Sending) (side : Side) (n : ℕ) (s : Site)
     → h (sent_to sc me j frame m side n s) ≡ h s
 sent-keeps h same sc me j frame m side n s = by (same_side side (other me) && s.runs)

@@ -60,7 +60,7 @@ arrival-shown (Arrival n c) (kind.Arrive from bytes) time x shows at e =
     ∙ ap (λ b. let z : Coming = record { time = time; from = from; bytes = b } in z) (sym shows.1) in
     (n, ap (Arrival n) (same ∙ same_Some y x e))
 
--- the arrival of the node that is due
+-- the due event is the arrival `x` at the node
 pub record IsArrivalOf (d : Due) (me : Side) (i : ℕ) (x : Coming) : Type 0 where
   pub place : ℕ
   pub is : d ≡ record { side = me; node = i; pending = Arrival place x }
@@ -81,7 +81,7 @@ arrival-of sc kept scene time name event w place d me i x may shown named =
 
 -- The next tick that is not quiet.
 
--- what is kept of a node has the same
+-- the node that is kept has the same next tick
 next-kept : (sc : Scenario) (me : Side) (i : ℕ) (k : KeptSite) (s : Site) → IsNode sc me i k s → next_of me k.node (bare_core k.node) ≡ next_tick sc.sizes sc.plan me i s.core
 next-kept sc me i k s is =
     ap (λ z. busy_among z k.node.seat.plan me k.node.seat.index k.node.seat.state (2 ^ 31 - k.node.had) k.node.had) is.site.sizes

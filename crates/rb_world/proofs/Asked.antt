@@ -21,7 +21,7 @@ use Rattle.rb_world.specs.Worlds.{KeptWorld, Stands, due_in}
 use Rattle.rb_world.proofs.Idle.{due-busy}
 use Rattle.rb_world.proofs.Turns.{due-is-now}
 
--- the node of the event that is due at a place
+-- the event that is due at a place is of the named node
 pub node-at : (k : KeptWorld) (w : World) (i place : ℕ) (name : NodeName) → Stands k w → i < due_in k → IsDue k.bus w k.scene.agenda i name place
     → option_map (λ (e : Event). e.node) (event_at k.bus w i) ≡ Some name
 unfolding event_at
@@ -32,7 +32,7 @@ node-at k w i place name is below due =
     ∙ ap (λ o. option_map (λ (e : Event). e.node) (option_map (λ (s : Site). event_of k.bus w.ports due.side due.number s.core d.pending) o)) due.there
     ∙ ap (λ n. Some n) (shown-node k.bus w.ports due.side due.number due.site.core d.pending ∙ sym due.named)
 
--- the frame in which a node is
+-- the node that is kept is in the frame of its site
 pub frame-at : (k : KeptWorld) (w : World) (me : Side) (i : ℕ) (site : KeptSite) (s : Site) → Stands k w → slice_get (of_kind me k.nodes) i ≡ Some site
     → slice_get (of_kind me w.sites) i ≡ Some s → site.node.seat.state.frame ≡ s.core.state.frame
 frame-at k w me i site s is kept there = sym (ap (λ st. st.frame) ((is.nodes me).each i site s kept there).site.core.state)

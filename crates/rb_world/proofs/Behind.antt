@@ -134,7 +134,7 @@ bare-pends sc me i a = record {
   runs = λ s. ap (λ (s : Site). s.runs) (sweeps-keep sc me i (a.time + 1) s).is;
 }
 
--- a sweep leaves no more than there was
+-- an arrival leaves at most as many as there were
 come-fewer : (sc : Scenario) (me : Side) (i : ℕ) (s : Site) (p : Placed) → first_of s.coming ≡ Some p → length (after_arrival sc me i p.place p.coming s).coming ≤ length s.coming
 unfolding after_arrival
 come-fewer sc me i s p e = let less = length-without p.place p.coming s.coming (first-stands s.coming p e) in omega (arith, less)
@@ -168,7 +168,7 @@ bare-few sc me i a most s all =
         by None = (let same = mapped s.coming in omega (arith, same), λ e. mapped s.coming)
         by (Some a) = (let same = mapped s.coming in omega (arith, same), λ e. absurd (let never : ◌≡◌ {A = Option Timed} (Some a) None = e in cc))
 
--- It may take the tick.
+-- The node may take the tick.
 
 pub ticks-there : (sc : Scenario) (kept : Each KeptSite) (scene : Scene) (until : Side → ℕ → ℕ) (w v : World) (me : Side) (i : ℕ) (a : Timed) → (h : BehindTick sc kept scene until w v me i a)
     → i < count_of me sc.sizes → TicksNow sc me i a (swept sc me i (a.time + 1) h.first.node)
@@ -232,7 +232,7 @@ may-tick-behind sc kept scene until w v me i a site lanes h sweeps =
       spans = spans-by sc me (pass_and_tick sc v.ports me i a.tick z.core).core (omega (arith, had, small));
     })
 
--- It has taken it.
+-- The node has taken the tick.
 
 pub set-again : {X : Type 0} (xs : List X) (i : ℕ) (x y : X) → slice_set (slice_set xs i x) i y ≡ slice_set xs i y
 set-again [] i x y = refl
@@ -427,6 +427,5 @@ behind-tick sc kept scene until w v me i a h side j y there =
         let stays : q ≡ _ = sym (ap (λ b. elim b as (λ _. Site) [ true ↦ after_act sc v.ports me i x (swept sc me i (a.time + 1) q) | false ↦ q ]) e) ∙ is in
         other-node q here e (ahead ∙ ap (λ (s : Site). s.ahead) (sym stays)) (runs ∙ ap (λ (s : Site). s.runs) (sym stays))
 
--- an item that is found by its place
 pub indexed : (ks : List KeptSite) (i : ℕ) (k : KeptSite) → i < length ks → k ≡ get_or ks i k → slice_get ks i ≡ Some k
 indexed ks i k within is = slice_get-get_or ks i k within ∙ ap Some (sym is)

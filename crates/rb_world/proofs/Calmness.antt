@@ -44,7 +44,7 @@ unfolding turn
 turned-frame sizes me probation st None = inl refl
 turned-frame sizes me probation st (Some epoch) = inr refl
 
--- whichever it is
+-- at a tick a node is in its own frame or in the next one
 at-tick : (sizes : Sizes) (plan : Plan) (me : Side) (st : NodeState) (k : ℕ) (b : Bool) → is_tick (new_epoch_of plan me st) k ≡ b
     → ((state_at sizes plan me st k).frame ≡ st.frame) ⊎ ((state_at sizes plan me st k).frame ≡ st.frame + 1)
 unfolding state_at
@@ -74,7 +74,7 @@ span-frame sizes plan me st k span e =
 
 -- Outside of the frames in which a node is restless.
 
--- a frame is before the first, or after the last
+-- the frame is before `first` or after `last`
 abbrev pub IsOut : ℕ → ℕ → ℕ → Type 0
 IsOut first last g = (g < first) ⊎ (last < g)
 
@@ -100,7 +100,7 @@ good-out (Some onset) first last g slot small out =
       | inr after ↦ absurd (omega (arith, after, small))
     ]
 
--- no entry speaks of it
+-- no entry is for a place outside the restless frames
 unsaid-out : (o : Option (ℕ × ℕ)) (says : List Say) (place : Place) → place.frame < 4294967297 → IsOut (first_restless o (first_frame says)) (last_restless o (last_frame says)) place.frame
     → list_any (is_for place) says ≡ false
 unsaid-out None says place small out = elim out [ inl before ↦ none-before says place before | inr after ↦ none-after says place after ]
@@ -149,7 +149,7 @@ calm-awaits sc me i s calm within small =
 
 -- What is kept.
 
--- what is found is that of the scenario
+-- the restless frames that are found are those of the scenario
 pub found-restless : (sc : Scenario) (me : Side) (count : ℕ) (nodes : List Restless) (sayings : KeptSayings) → count ≡ count_of me sc.sizes → sayings ≡ kept_of sc
     → AreRestless (onsets_of me sc) sayings me count nodes → AreRestless (onsets_of me sc) (kept_of sc) me (count_of me sc.sizes) nodes
 found-restless sc me count nodes sayings many kept are =

@@ -108,7 +108,7 @@ first-all sc until me n sites many = same-lists (of_kind me (swept_first sc unti
           first-rest sc until me n i sites ge ∙ past ∙ ap (option_map (sweep_to sc until me i)) (sym past) ∙ sym (get-each (sweep_to sc until) sites me i)
     ]
 
--- the nodes of the other kind stay
+-- to sweep nodes of a kind leaves the nodes of the other kind
 first-far : (sc : Scenario) (until : Side → ℕ → ℕ) (me : Side) (n : ℕ) (sites : Each Site) → of_kind (other me) (swept_first sc until me n sites) ≡ of_kind (other me) sites
 first-far sc until me n sites = same-lists (of_kind (other me) (swept_first sc until me n sites)) (of_kind (other me) sites) (λ i. first-other sc until me n i sites)
 

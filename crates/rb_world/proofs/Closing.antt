@@ -25,7 +25,7 @@ use Rattle.rb_rules.specs.Slots.{Sender}
 use Rattle.rb_rules.specs.Standing.{is_eligible, taken_of}
 use Rattle.rb_rules.specs.SyncStage.{close_sync, expects_call, see_time, sync_closing_of, sync_outcome_of}
 
--- a time is shown of a source
+-- the close shows this time of source `j`
 abbrev pub ShowsTime : Closed → ℕ → ℕ → Type 0
 ShowsTime c j stamp = get_or c.sees j Nothing ≡ Time stamp
 
@@ -100,7 +100,7 @@ window-sole sizes plan me index st w arrivals j stamp h e =
 
 -- A tick.
 
--- what a tick leaves of the arrivals, and of which it shows times
+-- a close leaves an empty inbox, and shows times only of sources with a sole arrival
 pub record Leaves (c : Core) (x : Act) : Type 0 where
   pub later : c.had ≤ x.core.had
   pub kept : x.closed ≡ None → x.core.inbox ≡ c.inbox

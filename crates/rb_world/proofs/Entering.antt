@@ -49,7 +49,7 @@ says-around sc scene lanes w name span more there after holds is =
     pends-more sc scene lanes w (kind_of name) (number_of name) (hears sc name span) (hears-pends sc name span) is holds
     (subst (HaveRooms sc) (sym after) (rooms-with sc scene.agenda name (with_arrivals more (lane_of scene.agenda name)) is.rooms there refl))
 
--- the site of a node that has changed
+-- after a change of a node its site is the changed one
 pub changed-there : (me : Side) (i : ℕ) (change : Site → Site) (w : World) (s : Site) → slice_get (of_kind me w.sites) i ≡ Some s
     → slice_get (of_kind me (moved me i change w).sites) i ≡ Some (change s)
 changed-there me i change w s there =
@@ -118,7 +118,7 @@ spare-said sc lanes after name span there is spare =
 
 -- The node has gone on.
 
--- what a call does that makes the next tick pending
+-- the call makes the next tick of the node pending
 abbrev pub AwaitsTick : Scenario → Side → NodeName → KeptSite → Scene → Scene → Type 0
 AwaitsTick sc me name site before after = (w : World) (c : Core) → IsCoreAt sc me name site c w → Surrounds sc before w
     → Surrounds sc after (moved (kind_of name) (number_of name) (await sc me (number_of name) []) w)

@@ -125,7 +125,7 @@ before-surrounds sc scene room shape agenda bius rmus book ports biu rmu = recor
     within Biu n = no-more sc Biu scene.running_biu n biu
     within Rmu n = no-more sc Rmu scene.running_rmu n rmu
 
--- When they have begun.
+-- All nodes have begun.
 
 begun-rest : (sc : Scenario) (me : Side) (n : ℕ) (w : World) → with_begun sc me n w ≡ record w { sites = (with_begun sc me n w).sites }
 unfolding with_begun
@@ -181,7 +181,7 @@ same-lists [] (y ∷ ys) h = none_not_some y (h 0)
 same-lists (x ∷ xs) [] h = none_not_some x (sym (h 0))
 same-lists (x ∷ xs) (y ∷ ys) h = ap (λ z. z ∷ xs) (same_Some x y (h 0)) ∙ ap (λ zs. y ∷ zs) (same-lists xs ys (λ i. h (suc i)))
 
--- a kind of which all have begun
+-- if all nodes of a kind have begun, their sites are those of the first world
 all-begun : (sc : Scenario) (me : Side) (w : World) → of_kind me w.sites ≡ of_kind me (before_all sc).sites
     → of_kind me (with_begun sc me (count_of me sc.sizes) w).sites ≡ of_kind me (first_world sc).sites
 unfolding first_world
@@ -211,7 +211,7 @@ both-begun sc =
     ∙ ap (λ (bs : List Site). record (first_world sc) { sites = record { bius = bs; rmus = two.sites.rmus } }) bius
     ∙ ap (λ (rs : List Site). record (first_world sc) { sites = record { bius = (first_world sc).sites.bius; rmus = rs } }) rmus
 
--- what each step needs
+-- the BIUs may begin
 pub bius-may : (sc : Scenario) (scene : Scene) → IsLawful sc → Surrounds sc scene (before_all sc) → MayBegin sc Biu scene (before_all sc)
 bius-may sc scene lawful is = record { lawful = lawful; surrounds = is; fresh = get-made sc.sizes (λ me i. fresh_site sc.sizes me) Biu }
 

@@ -39,7 +39,7 @@ use Rattle.rb_world.proofs.Sites.{at-same, at-twice, at_one, counts-one, holds-s
 
 -- A node stops.
 
--- the nodes that run without it
+-- the running nodes without node `i`
 abbrev pub without : ℕ → ℕ → ℕ
 without running i = set_of (λ k. not (k == i) && has running k)
 
@@ -173,7 +173,7 @@ lane-around sc before after w me i new change there lanes pends step is = record
     runs Biu = subst (λ r. AreRunning Biu r (at_node me i change w.sites)) (sym lanes.biu) (running-one Biu before.running_biu w.sites me i change pends.runs (is.running Biu))
     runs Rmu = subst (λ r. AreRunning Rmu r (at_node me i change w.sites)) (sym lanes.rmu) (running-one Rmu before.running_rmu w.sites me i change pends.runs (is.running Rmu))
 
--- the next tick is pending
+-- to await the next tick changes only what is pending
 await-pends : (sc : Scenario) (me : Side) (i : ℕ) (more : List Coming) → Pends (await sc me i more)
 await-pends sc me i more = record { row = λ s. refl; begun = λ s. refl; runs = λ s. refl }
 
@@ -212,7 +212,7 @@ await-none sc scene w me i there next ahead is =
     holds-site sc.sizes me lane s (await sc me i [] s) (append-nil s.coming)
     (ap (option_map (λ k. record { tick = k; time = time_of (clock_of sc me i) k })) (next s at) ∙ sym (ahead s at)) holds) is
 
--- what is said to a node in a window comes to it, and its next tick is pending
+-- what is said to a node in a window comes to the node, and its next tick is pending
 pub says-then : (sc : Scenario) (me : Side) (i : ℕ) (span : Span) (sites : Each Site)
     → at_node me i (await sc me i []) (at_node me i (λ s. record s { coming = s.coming ++ says_in sc me i span }) sites) ≡ at_node me i (await sc me i (says_in sc me i span)) sites
 says-then sc me i span sites =
@@ -226,7 +226,7 @@ pub name-is : (node : NodeName) → name_of (kind_of node) (number_of node) ≡ 
 name-is (node.Biu i) = refl
 name-is (node.Rmu i) = refl
 
--- the tick is pushed
+-- after the tick is pushed the node awaits it
 pub await-push : (sc : Scenario) (before : Scene) (lanes : Each Held) (w : World) (name : NodeName) (me : Side) (k time : ℕ) (c : Core) (site : KeptSite)
     → kind_of name ≡ me → HasLane before.agenda name → lanes ≡ with_lane name (with_tick time (lane_of before.agenda name)) before.agenda
     → time ≡ time_of (clock_of sc (kind_of name) (number_of name)) k

@@ -67,7 +67,7 @@ goes-to-tick sc kept new scene after until w v me i a name time book turn h happ
       turn_is = settles.turn_is;
     }
 
--- By itself.
+-- A world goes on by itself.
 
 first-as-before : (v x : World) (me : Side) (i : ℕ) (a : Timed) → x.sites ≡ v.sites → IsFirstTick x me i a → IsFirstTick v me i a
 first-as-before v x me i a same first = record {

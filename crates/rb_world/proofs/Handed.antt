@@ -85,7 +85,7 @@ hand-is : (sc : Scenario) (w : World) (biu state : ℕ) (o : Option ℕ) → fra
 unfolding hand
 hand-is sc w biu state o e = ap (λ (o : Option ℕ). elim o as (λ _. World) [ None ↦ w | Some frame ↦ handed_if w biu state frame (is_good sc Biu biu frame 0) ]) e
 
--- elsewhere than at the start of a frame nothing changes
+-- a hand-in elsewhere than at the start of a frame changes nothing
 pub hand-elsewhere : (k : KeptWorld) (w : World) (biu state : ℕ) → Stands k w → ((frame : ℕ) → k.last ≡ last.Frame frame → ⊥) → Stands k (hand k.bus w biu state)
 hand-elsewhere k w biu state is other =
     subst (Stands k) (sym (hand-is k.bus w biu state None (no-frame w.turn (λ f e. other f (is.last ∙ e))))) is

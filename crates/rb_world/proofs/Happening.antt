@@ -64,7 +64,7 @@ act-same sc w me i k x =
 
 -- Nodes.
 
--- a node to which a message comes
+-- a kept node stands for its site when a message is on its way to it
 sent-node : (sc : Scenario) (me : Side) (j frame : ℕ) (m : Sending) (side : Side) (n : ℕ) (k : KeptSite) (s : Site) → IsNode sc side n k s
     → IsNode sc side n k (sent_to sc me j frame m side n s)
 sent-node sc me j frame m side n k s is = by (same_side side (other me)) s.runs refl
@@ -146,7 +146,7 @@ unfolding happens
 happens-tick sc w d me i k s is there =
     ap (happens sc w) is ∙ ap (λ o. elim o as (λ _. World) [ None ↦ w | Some s ↦ with_act sc w me i k (pass_and_tick sc w.ports me i k s.core) ]) there
 
--- what is kept then stands for it
+-- what is kept stands for the nodes and for what surrounds them
 pub record Acts (sc : Scenario) (me : Side) (kept others : List KeptSite) (scene : Scene) (v : World) : Type 0 where
   pub own : AreNodes sc me kept (of_kind me v.sites)
   pub far : AreNodes sc (other me) others (of_kind (other me) v.sites)

@@ -9,7 +9,7 @@ use Rattle.rb_world_book.proofs.Due.{free-is}
 use Rattle.rb_world.specs.Worlds.{KeptWorld, Stands, due_in}
 use Rattle.rb_world.proofs.Turns.{due-is-now}
 
--- the world says so where what is kept does
+-- the world is idle if and only if what is kept is
 idle-is : (k : KeptWorld) (w : World) → Stands k w → (w.book.ended || needs_no_event k.bus w.book.upcoming) ≡ (k.scene.book.ended || is_free k.scene.book)
 idle-is k w is =
     ap (λ b. b || needs_no_event k.bus w.book.upcoming) is.scene.book.ended ∙ ap (λ b. k.scene.book.ended || b) (free-is k.bus k.scene.book w is.scene.book)
@@ -31,7 +31,7 @@ pub none-due-then : (k : KeptWorld) (w : World) → Stands k w → (w.book.ended
 unfolding due_of
 none-due-then k w is e = ap (λ b. length (elim b as (λ _. List Due) [ true ↦ [] | false ↦ due_now k.bus w ])) e
 
--- all that is pending at the least time
+-- as many events are due as are pending at the least time
 pub length-due : (k : KeptWorld) (w : World) (n : ℕ) → (w.book.ended || needs_no_event k.bus w.book.upcoming) ≡ false → n ≡ length (due_now k.bus w) → n ≡ length (due_of k.bus w)
 length-due k w n e all = all ∙ sym (ap length (due-is-now k.bus w e))
 

@@ -21,8 +21,7 @@ use Rattle.rb_world.proofs.GoingOn.{ended-stays}
 not-both : {P : Type 0} (b : Bool) → b ≡ true → b ≡ false → P
 not-both b t f = absurd (cc)
 
--- a book with one record more than these has ended if and only if that is the last of a run, and
--- one with no more has not
+-- the book has ended if and only if the record after `given` is the last of a run
 abbrev Ends : List Record → Book → Type 0
 Ends given x = x.ended ≡ is_last (slice_get x.given (length given))
 

@@ -204,7 +204,7 @@ next-in-rounds ties before after turn w is goes =
       rounds = (is-next-in-rounds before.bus ties _ _ some.0 is.lawful is.reached goes.is some.1).1;
     }
 
--- the turn that is not changed
+-- the turn before it is changed is the one in the rounds
 pub alike-in-rounds : (before after : KeptWorld) (given : Turn) (w : World) → Stands before w → (alike : GoesAlike before after given w) → GoesInRounds before after alike.turn w
 alike-in-rounds before after given w is alike = next-in-rounds First before after alike.turn w is alike.goes
 

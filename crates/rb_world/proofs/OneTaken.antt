@@ -18,7 +18,7 @@ use Rattle.rb_world.specs.Trailing.{TakesArrival, TakesTick}
 use Rattle.rb_world.proofs.Swept.{SweepsOn}
 use Rattle.rb_world.proofs.Taken.{IsTaken, arrival-taken, is-taken, tick-taken}
 
--- the first event at the node comes before the time, and is this
+-- the first event at the node comes before the time, and is `event`
 pub record ComesFirst (me : Side) (i until : ℕ) (lanes : Each Held) (name : NodeName) (time : ℕ) (event : Event) : Type 0 where
   pub named : name ≡ name_of me i
   pub lane : HasLane lanes name
@@ -36,7 +36,7 @@ coming-is x time from bytes t f b =
     ∙ ap (λ (n : ℕ). let c : Coming = record { time = x.time; from = n; bytes = bytes } in c) f
     ∙ ap (λ (l : List ℕ). let c : Coming = record { time = x.time; from = x.from; bytes = l } in c) b
 
--- a tick's time that is not the last that there is
+-- a lane has a tick if the time of its tick is before a time
 pub tick-is : (lane : Held) (until : ℕ) → until ≤ 18446744073709551615 → tick_time_of lane < until → lane.tick ≡ Some (tick_time_of lane)
 tick-is lane until most before = by lane.tick refl
   where
@@ -59,7 +59,7 @@ comes-first me i until lanes name place c named lane most is stands =
       shown = ap (option_map (event_with name)) is.ready ∙ ap (λ (d : Coming). Some (event_with name (Comes place d))) same;
     }
 
--- the tick is what comes first, and before the time
+-- if the tick is ready at the least time of the lane, it comes first at the node
 pub ticks-first : (me : Side) (i until : ℕ) (lanes : Each Held) (name : NodeName) (time : ℕ) → name ≡ name_of me i → HasLane lanes name → until ≤ 18446744073709551615
     → head_of (lane_of lanes name) ≡ Some time → time < until → IsTickReady time (lane_of lanes name) → ComesFirst me i until lanes name time (event_with name Ticks)
 ticks-first me i until lanes name time named lane most head before is = record {
@@ -71,7 +71,7 @@ ticks-first me i until lanes name time named lane most head before is = record {
   shown = ap (λ rs. option_map (event_with name) (slice_get rs 0)) is.ready;
 }
 
--- taken out at its place, it is the first of the ready ones that is taken out
+-- to take out the first arrival at its place is to take out the first ready event
 pub first-dropped : (until : ℕ) (lanes new : Each Held) (name : NodeName) (place : ℕ) → IsReadyBefore until (lane_of lanes name) place
     → new ≡ with_lane name (without_place place (lane_of lanes name)) lanes → new ≡ with_lane name (without_ready 0 (lane_of lanes name)) lanes
 first-dropped until lanes new name place is after =
@@ -84,7 +84,7 @@ least-low t us m e = by (least us) e
     by None e = let same : t ≡ m = cc in omega (arith, same)
     by (Some u) e = let same : min t u ≡ m = cc in omega (arith, same)
 
--- the tick taken out, it is the first of the ready ones that is taken out
+-- to take out the tick, if it is ready, is to take out the first ready event
 pub tick-dropped : (lanes new : Each Held) (name : NodeName) (time : ℕ) → IsTickReady time (lane_of lanes name)
     → new ≡ with_lane name (without_tick (lane_of lanes name)) lanes → new ≡ with_lane name (without_ready 0 (lane_of lanes name)) lanes
 tick-dropped lanes new name time is after =
@@ -101,7 +101,7 @@ none-first lane until most later late = by (head_of lane) refl
     by None e = most
     by (Some time) e = elim (later time e) [ inl le ↦ le | inr is ↦ tick time is ]
 
--- the tick is what comes first where it comes before, and no arrival does
+-- if the tick comes before the time and no arrival does, the tick is ready at the lane's least time
 pub tick-first : (lane : Held) (until time : ℕ) → IsFirstBefore until lane None → lane.tick ≡ Some time → time < until → (head_of lane ≡ Some time) × IsTickReady time lane
 tick-first lane until time later tick before = by (head_of lane) refl
   where

@@ -38,7 +38,7 @@ goes-out sc me i span s e bad = ap (λ o. enter sc me i o s) e ∙ entered sc me
 
 -- What then stands.
 
--- the world with the node's site changed, as it changes here
+-- a change that is what the node does when it goes on gives the same world
 pub moved-so : (sc : Scenario) (me : Side) (i : ℕ) (change : Site → Site) (w : World) (s : Site) → slice_get (of_kind me w.sites) i ≡ Some s → proceed sc me i s ≡ change s
     → moved me i change w ≡ moved me i (proceed sc me i) w
 moved-so sc me i change w s there e =
@@ -79,7 +79,7 @@ proceeds-out sc me i site before after w s at does is others = record {
     apart : false ≡ true → ⊥
     apart e = cc
 
--- the lane of a node of one kind changes, and those of the other kind stay
+-- a new lane of a node leaves the lanes of the other kind
 pub others-stay : (me : Side) (i : ℕ) (lane : Held) (lanes : Each Held) → of_kind (other me) (with_lane (name_of me i) lane lanes) ≡ of_kind (other me) lanes
 others-stay Biu i lane lanes = refl
 others-stay Rmu i lane lanes = refl

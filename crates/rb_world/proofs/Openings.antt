@@ -17,7 +17,7 @@ use Rattle.rb_world.specs.Sites.{KeptSite}
 use Rattle.rb_world.specs.Openings.{AreFresh, IsFresh}
 use Rattle.rb_world.specs.Worlds.{HoldsPorts}
 
--- what stands in a list with one more was there, or is that one
+-- an item of a list with one more was there, or is the new one
 pushed : {X : Type 0} (xs : List X) (y : X) (i : ℕ) (x : X) → slice_get (xs ++ y ∷ []) i ≡ Some x → (slice_get xs i ≡ Some x) ⊎ ((i ≡ length xs) × (x ≡ y))
 pushed [] y zero x e = inr (refl, same_Some x y (sym e))
 pushed [] y (suc i) x e = none_not_some x e
@@ -29,7 +29,7 @@ long xs y n e = length-append xs (y ∷ []) ∙ ap (λ k. k + 1) e
 
 -- Ports.
 
--- the first n ports are there
+-- the first `n` ports are kept
 pub record HoldEach (sc : Scenario) (n : ℕ) (kept : List KeptPort) : Type 0 where
   pub many : length kept ≡ n
   pub each : (i : ℕ) (k : KeptPort) → slice_get kept i ≡ Some k → HoldsPort k (port_at sc [] i)

@@ -28,7 +28,7 @@ finds sizes plan me i st (suc others) had k room next = by (λ later. finds size
           absurd (true≢false (sym next.busy ∙ ap (is_busy sizes plan me i st) same ∙ e))
     ]
 
--- ticks that pass up to it leave it
+-- ticks that pass up to the next busy one leave it the next
 passed-tick : (sc : Scenario) (me : Side) (i k stamp : ℕ) (c : Core) → next_tick sc.sizes sc.plan me i c ≡ Some k → stamp ≤ k
     → next_tick sc.sizes sc.plan me i (pass_to stamp c) ≡ Some k
 passed-tick sc me i k stamp c e le = elim (cases_lt (2 ^ 31) c.had) [

@@ -64,7 +64,7 @@ had-grows sc me i until s =
     subst (λ (z : Site). s.core.had ≤ z.core.had) (sym (sweep-takes sc me i until s p e lt))
     (let more = arrival-had sc me i p.place p.coming s in omega (arith, more, rest))) s
 
--- all senders are known
+-- the sender is a node of the bus
 abbrev Known : Scenario → Side → Coming → Type 0
 Known sc me c = c.from < count_of (other me) sc.sizes
 
@@ -81,7 +81,7 @@ got-known sc me i until s =
 
 -- What is kept of it stands for the node as it was swept, but with other stamps.
 
--- the stamps that are kept of what came
+-- the stamps that the core has of what came, by source
 abbrev stamps_of : Scenario → Side → Timed → Site → ℕ → ℕ
 stamps_of sc me a s = stamps_in (taken_all sc me (due_before (a.time + 1) s.coming) s).core
 
@@ -193,7 +193,7 @@ ends-there sc me i a site s node pends ends =
     subst (λ (plan : Plan). EndsExactWindow sc.sizes plan me s.core.state a.tick) node.site.plan
     (subst (λ (sizes : Sizes). EndsExactWindow sizes site.node.seat.plan me s.core.state a.tick) node.site.sizes (ends s.core a.tick node.site.core next))
 
--- the node that is kept of it
+-- node `i` is one of the bus, and `site` is what is kept of it
 pub node-at : (sc : Scenario) (kept : Each KeptSite) (scene : Scene) (until : Side → ℕ → ℕ) (w v : World) (me : Side) (i : ℕ) (a : Timed) (time : ℕ) (own : List KeptSite) (site : KeptSite)
     → (m : MayTakeExactly sc kept scene until w v me i a time own site) → (i < count_of me sc.sizes) × IsNode sc me i site m.first.at.first.node
 node-at sc kept scene until w v me i a time own site m =
@@ -215,7 +215,7 @@ lane-known sc kept scene until w v me i a time own site name m named =
           (subst (All (Known sc me)) (sym holds.coming) holds.senders),
     )
 
--- what was taken in there, as the call says it
+-- the call takes in what comes to the node before the time, and its tick is no longer pending
 pub record TakesIn (me : Side) (held : Each Held) (name : NodeName) (until : ℕ) (before site : KeptSite) (lanes : Each Held) : Type 0 where
   pub stands : (sc : Scenario) (s : Site) → StandsFor sc me before s → StandsFor sc me site (taken_all sc me (due_before until (lane_of held name).arrivals) s)
   pub seat : site.node.seat ≡ before.node.seat

@@ -37,12 +37,12 @@ use Rattle.rb_world.proofs.Entering.{changed-there}
 use Rattle.rb_world.proofs.Room.{fits-reached, spans-reached}
 use Rattle.rb_world.proofs.Sites.{counts-one, from-map, was-there}
 
--- which event it is
+-- an event that is shown as a tick is a tick
 tick-shown : (p : Waits) (k : EventKind) (word : ℕ) (wanted : Bool) → Shows p k → k ≡ kind.Tick word wanted → (n : ℕ) × (p ≡ Tick n)
 tick-shown (Tick n) k word wanted shows e = (n, refl)
 tick-shown (Arrival place c) k word wanted shows e = absurd (subst (Shows (Arrival place c)) e shows)
 
--- the event of a node that is due as a tick
+-- the due event is a tick of the node
 pub record IsTickOf (d : Due) (me : Side) (i : ℕ) : Type 0 where
   pub tick : ℕ
   pub is : d ≡ record { side = me; node = i; pending = Tick tick }
@@ -76,7 +76,7 @@ next-due sc me i k s a awaits ahead tick = by s.runs refl
         (e, found.1 ∙ ap (λ n. Some n) (ap (λ (t : Timed). t.tick) found.2 ∙ tick))
     by false e = let never : ◌≡◌ {A = Option Timed} None (Some a) = sym (awaits.tick_of_none e) ∙ ahead in cc
 
--- what is pending at a node without its tick is no more
+-- without its tick a node has no more pending
 without-tick : (most : ℕ) (s : Site) → length (times_of s) ≤ most → length (times_of (record s { ahead = None })) ≤ most
 without-tick most s few =
     let ticks : List ℕ = option_to_list (option_map (λ (a : Timed). a.time) s.ahead) in
@@ -84,7 +84,7 @@ without-tick most s few =
     let all : length (ticks ++ coming) ≡ length ticks + length coming = length-append ticks coming in
     let less : length coming ≤ most = omega (arith, all, few) in less
 
--- all that a tick needs
+-- all that a due tick needs to be taken
 pub record TickReady (sc : Scenario) (kept : Each KeptSite) (scene : Scene) (w : World) (d : Due) (me : Side) (i : ℕ) : Type 0 where
   pub tick : ℕ
   pub is : d ≡ record { side = me; node = i; pending = Tick tick }
@@ -169,7 +169,7 @@ tick-ready sc kept scene time name event w place d me i word wanted may shown na
       | inr le ↦ next-is sc.sizes sc.plan me i s.core k le e
     ]
 
--- the node of an event that is due is one of the bus, and something is kept of it
+-- the node of a due event is one of the bus, and it is kept
 pub node-there : (sc : Scenario) (kept : Each KeptSite) (scene : Scene) (time : ℕ) (name : NodeName) (event : Event) (w : World) (place : ℕ) (d : Due) (me : Side) (i : ℕ)
     → MayHappen sc kept scene time name event w place d → name ≡ name_of me i → (i < count_of me sc.sizes) × (i < length (of_kind me kept))
 node-there sc kept scene time name event w place d me i may named =

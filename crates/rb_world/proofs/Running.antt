@@ -61,7 +61,7 @@ pub record FirstHere (sc : Scenario) (me : Side) (i : ℕ) (a : Timed) (name : N
   pub at : time ≡ a.time
   pub small : time < 18446744073709551615
 
--- what an agenda tells of it
+-- what an agenda tells of the first tick
 abbrev pub TellsFirst : Scene → NodeName → ℕ → Type 0
 TellsFirst scene name time =
     (sizes : Sizes) (sites : Each Site) → HoldsSites sizes scene.agenda sites → (me : Side) (i t : ℕ) → IsFirstAhead sites me i t → (name ≡ name_of me i) × (time ≡ t)
@@ -134,7 +134,7 @@ rmu-taken sc after v me i a name time j bius rmus here e takes =
 
 -- What it completes is settled.
 
--- how a tick is taken and settled
+-- the first tick is taken and settled
 abbrev pub TakesAndSettles : Scenario → Each KeptSite → Each KeptSite → Scene → Scene → (Side → ℕ → ℕ) → World → World → NodeName → ℕ → KeptBook → Turn → Type 0
 TakesAndSettles sc kept new scene after until w v name time book turn =
     ((me : Side) (i : ℕ) (a : Timed) → BehindTick sc kept scene until w v me i a → TakesFirstAt sc new after v me i a name time)
@@ -180,7 +180,7 @@ comes-to sc kept new scene after until n w d turn it some caught = record {
   turn_is = it.turn_is;
 }
 
--- fewer steps than there are numbers
+-- fewer than 2^63 steps in a row give no record
 pub few-along : (sc : Scenario) (kept : Each KeptSite) (scene : Scene) (until : Side → ℕ → ℕ) (n : ℕ) (w : World) (d : ℕ) → IsLawful sc → IsReached sc w → (on : Along sc kept scene until n w d) → n < 2 ^ 63
 few-along sc kept scene until n w d lawful reached on =
     let few = few-steps sc First on.steps (record { world = w; draws = d }) lawful reached on.quiet in

@@ -47,7 +47,7 @@ event-same a b m n x y ea em ex =
 shown-as : (sc : Scenario) (me : Side) (i : ℕ) (site : KeptSite) (name : NodeName) (s : Site) → name ≡ name_of me i → IsShownAt sc me i site (name_of me i) s → IsShownAt sc me i site name s
 shown-as sc me i site name s named at = subst (λ n. IsShownAt sc me i site n s) (sym named) at
 
--- a tick is shown as one
+-- the event that waits is a tick that may be shown
 pub record ShowsTick (sc : Scenario) (me : Side) (i : ℕ) (waits : Pending) (site : KeptSite) (kept : List KeptPort) (name : NodeName) (states : List PortState) (s : Site) : Type 0 where
   pub tick : ℕ
   pub is : waits ≡ Tick tick
@@ -61,7 +61,7 @@ tick-shows sc me i waits site kept time name event states s word wanted named ma
     by (Tick k) shows next = record { tick = k; is = refl; may = record { at = shown-as sc me i site name s named may.at; next = next; holds = may.holds } }
     by (Arrival place c) shows next = absurd shows
 
--- an arrival is shown as one
+-- the event that waits is an arrival that may be shown
 pub record ShowsArrival (sc : Scenario) (me : Side) (i : ℕ) (waits : Pending) (site : KeptSite) (time : ℕ) (name : NodeName) (from : ℕ) (bytes : List ℕ) (s : Site) : Type 0 where
   pub place : ℕ
   pub is : waits ≡ Arrival place (record { time = time; from = from; bytes = bytes })
@@ -97,7 +97,7 @@ ready-first lanes l place r e first =
     let time : key_of l ≡ first_time lanes = grind (arith, nat_tests, first) in
     subst (λ t. IsOf t l r) (sym key ∙ time) at.is
 
--- what would be taken is due, and this would be left
+-- an event that would be taken is due, and the lanes without it are left
 takes-due : (sc : Scenario) (w : World) (lanes : Each Lane) (i : ℕ) (event : Event) (name : NodeName) (place : ℕ) → HoldsSites sc.sizes lanes w.sites
     → StandsAt lanes (first_time lanes) i name place → IsDue sc w lanes i name place → ready_event name place (lane_of lanes name) ≡ Some event
     → TakesDue sc w i (first_time lanes) name event (with_lane name (without_ready place (lane_of lanes name)) lanes)

@@ -16,7 +16,7 @@ use Rattle.rb_world_traffic.specs.Arriving.{AreRunning}
 
 -- All sites change.
 
--- what is shown of sites is shown of them when they have changed, if it is of each
+-- a change that leaves what each site shows leaves what all sites show
 shows-list : {Y : Type 0} (h : Site → Y) (k : ℕ) (f : ℕ → Site → Site) (xs : List Site) → ((n : ℕ) (s : Site) → h (f n s) ≡ h s)
     → map h (map_from k f xs) ≡ map h xs
 shows-list h k f [] same = refl
@@ -27,7 +27,7 @@ pub shows-each : {Y : Type 0} (h : Site → Y) (f : Side → ℕ → Site → Si
 shows-each h f sites same Biu = shows-list h 0 (f Biu) sites.bius (same Biu)
 shows-each h f sites same Rmu = shows-list h 0 (f Rmu) sites.rmus (same Rmu)
 
--- lanes hold what pends there, if that is the same
+-- lanes that hold the sites hold them after a change that leaves what each lane holds
 holds-list : (sizes : Sizes) (me : Side) (k : ℕ) (f : ℕ → Site → Site) (ls : List Held) (xs : List Site)
     → ((n : ℕ) (s : Site) (l : Held) → HoldsSite sizes me l s → HoldsSite sizes me l (f n s)) → HoldsAll sizes me ls xs → HoldsAll sizes me ls (map_from k f xs)
 holds-list sizes me k f [] [] same h = h
@@ -50,7 +50,7 @@ holds-site sizes me l s z coming ahead h = record {
 
 -- One site changes.
 
--- the change, at the site of node i of kind me
+-- the site of node `n` after the change at node `i` of kind `me`
 abbrev pub at_one : Side → ℕ → (Site → Site) → Side → ℕ → Site → Site
 at_one me i change side n s = elim (same_side side me && (n == i)) [ true ↦ change s | false ↦ s ]
 
@@ -127,7 +127,7 @@ at-twice me i f g sites =
     ap (λ (xs : List Site). record { bius = xs; rmus = r }) (twice-list (λ n. same_side Biu me && (n == i)) f g 0 sites.bius)
     ∙ ap (λ (xs : List Site). record { bius = b; rmus = xs }) (twice-list (λ n. same_side Rmu me && (n == i)) f g 0 sites.rmus)
 
--- a change that changes nothing
+-- a change that changes nothing leaves the list
 id-list : (b : ℕ → Bool) (k : ℕ) (xs : List Site) → map_from k (λ n s. elim (b n) as (λ _. Site) [ true ↦ s | false ↦ s ]) xs ≡ xs
 id-list b k [] = refl
 id-list b k (x ∷ xs) =
@@ -150,7 +150,7 @@ same-list f g k (x ∷ xs) same =
     ap (λ y. y ∷ map_from (k + 1) f xs) (subst (λ m. f m x ≡ g m x) start (same 0 x refl))
     ∙ ap (λ l. g k x ∷ l) (same-list f g (k + 1) xs (λ n s e. let next : k + suc n ≡ k + 1 + n = omega arith in subst (λ m. f m s ≡ g m s) next (same (suc n) s e)))
 
--- changes that come to the same at the node's site
+-- changes that agree at the node's site give the same sites
 pub at-same : (me : Side) (i : ℕ) (f g : Site → Site) (sites : Each Site) → ((s : Site) → slice_get (of_kind me sites) i ≡ Some s → f s ≡ g s)
     → at_node me i f sites ≡ at_node me i g sites
 at-same me i f g sites same =

@@ -61,7 +61,7 @@ heard-alike sc me k s t is alike = record {
 
 -- An arrival that is taken in.
 
--- what is kept after it
+-- what is kept has the same number, runs as before, and lets ticks pass as far
 pub record StaysOn (me : Side) (before after : KeptSite) : Type 0 where
   pub number : number_of after ≡ number_of before
   pub runs : after.runs ≡ before.runs

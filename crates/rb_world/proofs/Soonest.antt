@@ -67,7 +67,7 @@ pub record TickNext (sizes : Sizes) (me : Side) (lane : Held) (s : Site) (time :
   pub later : All (λ c. time + 1 ≤ c.time) s.coming
   pub left : HoldsSite sizes me (without_ready 0 lane) (record s { ahead = None })
 
--- an event that is shown so
+-- a due arrival is the one that waits, and is shown with its time
 due-arrival : (me : Side) (i : ℕ) (lane : Held) (s : Site) (t n : ℕ) (x : Coming) (r : Ready) → IsOf t lane r
     → record { side = me; node = i; pending = Arrival n x } ≡ due_with me i s r → (Arrival n x ≡ waits_with s.ahead r) × (coming_with t (kind_with r) ≡ Some x)
 due-arrival me i lane s t n x (Comes m y) is e =
@@ -85,12 +85,12 @@ due-tick me i s t k Ticks e = (ap (λ (d : Due). d.pending) e, refl)
 head-begins : {X : Type 0} (d : X) (xs : List X) → Begins d xs → slice_get xs 0 ≡ Some d
 head-begins d xs is = ap (λ l. slice_get l 0) is.1
 
--- what may be taken at the site at the lane's least time is what is ready there
+-- what is ready in the lane is what may be taken at the site at the lane's least time
 ready-there : (sizes : Sizes) (me : Side) (i : ℕ) (lane : Held) (s : Site) (t : ℕ) → count_of (other me) sizes ≤ 256 → HoldsSite sizes me lane s → head_of lane ≡ Some t
     → ready_at sizes t me i s ≡ map (due_with me i s) (ready_of lane)
 ready-there sizes me i lane s t few holds head = ready-is sizes me i t lane s few holds ∙ ap (λ o. map (due_with me i s) (ready_from o lane)) (sym head)
 
--- the tick is ready where no arrival is
+-- if no arrival is due, the due event is the tick
 tick-ready : (me : Side) (i t : ℕ) (o : Option Timed) → Every (λ u. t ≤ u) (option_to_list (option_map (λ (a : Timed). a.time) o))
     → (d : Due) → slice_get (tick_at me i t o) 0 ≡ Some d → (a : Timed) × ((o ≡ Some a) × ((a.time ≡ t) × (record { side = me; node = i; pending = Tick a.tick } ≡ d)))
 tick-ready me i t None all d e = absurd (let never : ◌≡◌ {A = Option Due} None (Some d) = e in cc)
@@ -105,7 +105,7 @@ front-of : (us vs : List ℕ) (t : ℕ) → Every (λ u. t ≤ u) (us ++ vs) →
 front-of [] vs t all = tt
 front-of (u ∷ us) vs t all = (all.0, front-of us vs t all.1)
 
--- which it is
+-- the next event is the first arrival or the tick
 pub what-next : (sizes : Sizes) (me : Side) (i : ℕ) (lane : Held) (s : Site) (t : ℕ) (name : NodeName) (event : Event) → count_of (other me) sizes ≤ 256 → HoldsSite sizes me lane s → head_of lane ≡ Some t
     → ready_event name 0 lane ≡ Some event → ArrivalNext sizes me lane s t event.kind ⊎ TickNext sizes me lane s t event.kind
 what-next sizes me i lane s t name event few holds head shown = by (slice_get (ready_of lane) 0) refl
@@ -159,7 +159,7 @@ what-next sizes me i lane s t name event few holds head shown = by (slice_get (r
         which c e (same_Some (event_with name c) event (sym (ap (option_map (event_with name)) e) ∙ shown))
         (ready-first sizes t me i s (all-every (λ c. c.from < count_of (other me) sizes) s.coming holds.senders) (all-after t s.ahead s.coming all))
 
--- Something is ready where a time is the least.
+-- Something is ready if a time is the least.
 
 least-above : (m : ℕ) (us : List ℕ) (t : ℕ) → Every (λ u. m ≤ u) us → least us ≡ Some t → m ≤ t
 least-above m [] t all e = absurd (let never : ◌≡◌ {A = Option ℕ} None (Some t) = e in cc)
@@ -174,7 +174,7 @@ every-mapped : (m : ℕ) (cs : List Coming) → Every (λ (c : Coming). m ≤ c.
 every-mapped m [] all = tt
 every-mapped m (c ∷ cs) all = (all.0, every-mapped m cs all.1)
 
--- the tick comes at that time, if no arrival does
+-- the tick comes at the least time if no arrival does
 tick-then : (me : Side) (i t : ℕ) (o : Option Timed) (cs : List Coming) → least (option_to_list (option_map (λ (a : Timed). a.time) o) ++ map (λ (c : Coming). c.time) cs) ≡ Some t
     → Every (λ (c : Coming). t + 1 ≤ c.time) cs → tick_at me i t o ≡ [] → ⊥
 tick-then me i t None cs least_is later none = let up = least-above (t + 1) (map (λ (c : Coming). c.time) cs) t (every-mapped (t + 1) cs later) least_is in omega (arith, up)

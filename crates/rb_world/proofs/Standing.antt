@@ -47,7 +47,7 @@ arrive-together sizes me d got c there together below =
           absurd (omega (arith, same, below, ge))
     ]
 
--- taken in as it comes
+-- what is kept stands for the site after an arrival is taken in as it comes
 pub takes : (sc : Scenario) (me : Side) (k : KeptSite) (node : Running) (c : Coming) (s : Site) → Stands sc me k s → length k.times ≡ 16
     → IsSameNode k.node node → c.from < count_of (other me) sc.sizes → IsCore node (arrive sc.sizes me s.core c.from c.bytes)
     → Stands sc me (record { node = node; runs = k.runs; times = slice_set k.times c.from c.time }) (taken_in sc me c s)
@@ -154,7 +154,7 @@ row-same me i st times inbox got shown together holds sole =
     })
     (sees-same times inbox got shown together holds sole)
 
--- what it tells of a stage
+-- What a node tells of a stage.
 
 row-picked : (b : Bool) (before : Option Row) (told kept : Row) → told ≡ kept
     → (elim b as (λ _. Option Row) [ true ↦ before | false ↦ Some told ]) ≡ (if not b then Some kept else before)
@@ -180,7 +180,7 @@ epoch-row : (sc : Scenario) (ports : List PortState) (me : Side) (i : ℕ) (o : 
 epoch-row sc ports me i None s = refl
 epoch-row sc ports me i (Some e) s = refl
 
--- what it tells of a frame
+-- What a node tells of a frame.
 
 close-begun : (me : Side) (i : ℕ) (st : NodeState) (o : Option Closed) (s : Site) → (with_close me i st o s).begun ≡ s.begun
 close-begun me i st None s = refl

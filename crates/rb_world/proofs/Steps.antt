@@ -120,7 +120,7 @@ few-takes sc lawful =
     let product = mul-le (nodes_of sc.sizes) (2 ^ 31 * (most_at_once sc + 1) + most_at_once sc) 32 (2 ^ 31 * 32801 + 32800) nodes all in
     omega (arith, product)
 
--- no run of steps without a record is long
+-- fewer than 2^63 steps in a row give no record
 pub few-steps : (sc : Scenario) (ties : Ties) (n : ℕ) (s : Standing) → IsLawful sc → IsReached sc s.world
     → ((m : ℕ) → 1 ≤ m → m ≤ n → (after_steps sc ties m s).world.turn ≡ None) → n < 2 ^ 63
 few-steps sc ties n s lawful reached quiet =

@@ -138,7 +138,7 @@ sweep-begins sc me i until site lanes sites s may = record {
 pub there-now : (sc : Scenario) (me : Side) (i : ℕ) (sites : Each Site) (s z : Site) → slice_get (of_kind me sites) i ≡ Some s → slice_get (of_kind me (at_node me i (λ _. z) sites)) i ≡ Some z
 there-now sc me i sites s z there = changed-there me i (λ _. z) (record (first_world sc) { sites = sites }) s there
 
--- what may come next
+-- the arrival that is taken may come to the node
 pub may-come : (sc : Scenario) (me : Side) (i until : ℕ) (site : KeptSite) (lanes new : Each Held) (sites : Each Site) (s : Site) (c : Coming) → (on : SweepsOn sc me i until site lanes sites s)
     → (takes : TakesArrival sc.sizes me i until new (at_node me i (λ _. on.now) sites) on.now c) → MayCome sc me i until takes.place site on.now c
 may-come sc me i until site lanes new sites s c on takes = record {
@@ -206,7 +206,7 @@ kept-tick until (Some a) late = ap (λ b. elim b as (λ _. Option Timed) [ true 
 gone-tick : (until : ℕ) (o : Option Timed) (a : Timed) → o ≡ Some a → a.time < until → tick_from until o ≡ None
 gone-tick until o a e before = ap (tick_from until) e ∙ ap (λ b. elim b as (λ _. Option Timed) [ true ↦ None | false ↦ Some a ]) (lt-ltb a.time until before)
 
--- the sites, as they were to become
+-- at the end of the sweep the sites are cleared
 at-end : (sc : Scenario) (me : Side) (i until : ℕ) (sites : Each Site) (s z : Site) (o : Option Timed) → slice_get (of_kind me sites) i ≡ Some s
     → swept sc me i until s ≡ z → tick_from until s.ahead ≡ o → at_node me i (λ _. record z { ahead = o }) sites ≡ at_node me i (cleared sc me i until) sites
 at-end sc me i until sites s z o there is tick =

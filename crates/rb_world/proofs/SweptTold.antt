@@ -65,7 +65,7 @@ pub told-begins : (S : Type 0) (step : S → Told → S → Type 0) (a : S) (sc 
 unfolding sweep-begins
 told-begins S step a sc me i until site lanes sites s may = record { on = sweep-begins sc me i until site lanes sites s may; told = []; was = refl; all = refl }
 
--- what hearing does
+-- what is kept of the node stands for it after each arrival that it hears
 pub record Hears (sc : Scenario) (me : Side) (name : NodeName) (place : ℕ) (site after : KeptSite) (lanes new : Each Held) (c : Coming) : Type 0 where
   pub lane : new ≡ with_lane name (without_place place (lane_of lanes name)) lanes
   pub stands : (at : ℕ) (s : Site) → StandsFor sc me site s → StandsFor sc me after (after_arrival sc me (number_of site) at c s)
@@ -121,7 +121,7 @@ none-left sc me i until site lanes sites s name on named has_lane most later = b
         let none : NoneBefore until on.now = nothing-next sc.sizes lanes (at_node me i (λ _. on.now) sites) me i on.now until on.may.holds on.may.there late in
         all-every (λ c. until ≤ c.time) on.now.coming none.coming
 
--- all has been told
+-- at the end of the sweep all has been told
 pub told-ends : (S : Type 0) (step : S → Told → S → Type 0) (a b : S) (sc : Scenario) (me : Side) (i until : ℕ) (site : KeptSite) (lanes : Each Held) (sites : Each Site) (s : Site) (name : NodeName)
     → SweepsTold S step a b sc me i until site lanes sites s → name ≡ name_of me i → HasLane lanes name → until ≤ 18446744073709551615 → IsFirstBefore until (lane_of lanes name) None
     → WasTold S step a (heard sc me i until s) b

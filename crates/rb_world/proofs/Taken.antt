@@ -47,7 +47,7 @@ pub nothing-next : (sizes : Sizes) (lanes : Each Held) (sites : Each Site) (me :
 nothing-next sizes lanes sites me i s until holds there le =
     none-before sizes me (lane_of lanes (name_of me i)) s until (lane-holds sizes lanes sites me i s holds there) le
 
--- all that is known where the first event of a node was taken
+-- the first event of the node came before the time, and was taken
 pub record IsTaken (sizes : Sizes) (me : Side) (i until : ℕ) (lanes new : Each Held) (sites : Each Site) (s : Site) (time : ℕ) (event : Event) : Type 0 where
   pub held : HoldsSites sizes lanes sites
   pub there : slice_get (of_kind me sites) i ≡ Some s
@@ -64,7 +64,7 @@ which sizes me i until lanes new sites s time event h =
     what-next sizes me i (lane_of lanes (name_of me i)) s time (name_of me i) event (few-others sizes me h.held.shape) (lane-holds sizes lanes sites me i s h.held h.there)
     (head-some (lane_of lanes (name_of me i)) time h.is h.small) h.shown
 
--- the lanes hold what is left
+-- the lanes hold what is left after an event is taken
 left : (sizes : Sizes) (me : Side) (i until : ℕ) (lanes new : Each Held) (sites : Each Site) (s : Site) (time : ℕ) (event : Event) (change : Site → Site)
     → IsTaken sizes me i until lanes new sites s time event → HoldsSite sizes me (without_ready 0 (lane_of lanes (name_of me i))) (change s)
     → HoldsSites sizes new (at_node me i change sites)
@@ -125,7 +125,7 @@ remove-fewer [] n c e = absurd (let never : ◌≡◌ {A = Option Coming} None (
 remove-fewer (x ∷ arrivals) zero c e = omega arith
 remove-fewer (x ∷ arrivals) (suc n) c e = let less = remove-fewer arrivals n c e in omega (arith, less)
 
--- an arrival is gone
+-- a lane has fewer arrivals after one is taken out
 pub fewer-taken : (lanes new : Each Held) (name : NodeName) (place : ℕ) (c : Coming) → HasLane lanes name → slice_get (lane_of lanes name).arrivals place ≡ Some c
     → new ≡ with_lane name (without_place place (lane_of lanes name)) lanes → length (lane_of new name).arrivals + 1 ≤ length (lane_of lanes name).arrivals
 fewer-taken lanes new name place c h stands after =

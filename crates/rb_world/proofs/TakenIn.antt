@@ -24,7 +24,7 @@ use Rattle.rb_world.specs.Unstamped.{due_before, taken_all}
 abbrev pub stamped : ℕ → Coming → Arrival
 stamped had c = record { stamp = had; bytes = c.bytes }
 
--- what comes of a source
+-- the entries that come from source `j`
 abbrev pub of_node : ℕ → List Coming → List Coming
 of_node j cs = filter (λ (c : Coming). c.from == j) cs
 
@@ -65,7 +65,7 @@ taken-one : (sc : Scenario) (me : Side) (c : Coming) (s : Site) → c.from < cou
     → taken_in sc me c s ≡ record s { core = record s.core { inbox = s.core.inbox ++ (c.from, stamped s.core.had c) ∷ [] }; got = s.got ++ c ∷ [] }
 taken-one sc me c s known small = ap (λ core. record s { core = core; got = s.got ++ c ∷ [] }) (arrive-is sc me s.core c.from c.bytes known small)
 
--- all are
+-- the core takes all arrivals in
 pub taken : (sc : Scenario) (me : Side) (cs : List Coming) (s : Site) → s.core.had < 2 ^ 31 → Every (λ (c : Coming). c.from < count_of (other me) sc.sizes) cs → Taken s (taken_all sc me cs s) cs
 taken sc me [] s small known = record {
   state = refl;
@@ -113,7 +113,7 @@ abbrev pub first_stamp : List Arrival → ℕ
 first_stamp [] = 0
 first_stamp (a ∷ others) = a.stamp
 
--- the stamp that is kept of each source
+-- the stamp of the first arrival that the core has from source `j`
 abbrev pub stamps_in : Core → ℕ → ℕ
 stamps_in core j = first_stamp (of_source core.inbox j)
 
@@ -163,7 +163,7 @@ shows-alike had (x ∷ []) (c ∷ cs) after b =
     let long = length-mapped (with_stamp x.stamp) after in
     many (omega arith) (omega (arith, two, long))
 
--- a sole one that a sweep brings is the sole one that was taken in
+-- a sole arrival that a sweep brings is the sole one of those before and those that were due
 pub sole-alike : (before due after : List Coming) (c : Coming) → BringsComings before due after → after ≡ c ∷ [] → before ++ due ≡ c ∷ []
 sole-alike [] [] after c b e = let never : [] ≡ c ∷ [] = sym (b.none refl) ∙ e in cc
 sole-alike (x ∷ xs) [] after c b e = append-nil (x ∷ xs) ∙ sym (b.none refl) ∙ e

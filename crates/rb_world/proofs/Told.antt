@@ -124,7 +124,7 @@ pub changed-is : (name : NodeName) (change : Site → Site) (w : World) → chan
 changed-is (node.Biu i) change w = refl
 changed-is (node.Rmu i) change w = refl
 
--- what a node tells by what is kept of it
+-- what is kept of a node tells the close of its window as the world does
 pub close-is : (sc : Scenario) (scene after : Scene) (w : World) (name : NodeName) (me : Side) (closed : Bool) (c d : Closed) (times ts : List ℕ) (biu rmu : ℕ) (st : NodeState)
     → closed ≡ true → d ≡ c → ts ≡ times → biu ≡ trusted_of me Biu st → rmu ≡ trusted_of me Rmu st → after.agenda ≡ scene.agenda
     → after.running_biu ≡ scene.running_biu → after.running_rmu ≡ scene.running_rmu

@@ -1,4 +1,4 @@
--- What an observer is told where a run goes from tick to tick.
+-- What an observer is told when a run goes from tick to tick.
 use Rattle.std.proofs.Common.{◌≡◌, ℕ, zero, suc, ◌+◌, ◌≤◌, ◌||◌, Bool, true, false, List, [], ◌∷◌, ◌++◌, append_assoc, refl, sym, ap, ◌∙◌, subst, arith, Option, Some, None, flat_map, is_some, option_and_then, option_map, slice_get, if◌then◌else◌}
 use Rattle.std.proofs.lemmas.Bool.Decides.{nat_tests}
 use Rattle.std.proofs.lemmas.List.{append-nil}
@@ -97,7 +97,7 @@ alone-moved S step old new sc v me side i j a name same was =
 
 -- Nodes.
 
--- a node of the bus is there
+-- a node of the bus is in the world
 pub node-there : (sc : Scenario) (scene : Scene) (v : World) (name : NodeName) → Surrounds sc scene v → IsNodeOf sc.sizes name
     → (s : Site) × (slice_get (of_kind (kind_of name) v.sites) (number_of name) ≡ Some s)
 node-there sc scene v (node.Biu i) is of_bus = let many = is.counts Biu in let item = has-item v.sites.bius i (omega (arith, of_bus, many)) in (item.item, item.is)
@@ -118,7 +118,7 @@ told-none sc side j w idle =
     by None = refl
     by (Some s) = refl
 
--- takes in a row
+-- what takes in a row tell is told one after another
 told-takes : (sc : Scenario) (side : Side) (j n d k : ℕ) (s0 : Standing) (now : World)
     → ((m : ℕ) → m ≤ k → after_steps sc First (m + n) s0 ≡ record { world = after_takes sc m now; draws = d })
     → (m : ℕ) → m ≤ suc k → told_by sc side j (m + n) s0 ≡ told_by sc side j n s0 ++ told_in sc side j m now
@@ -144,7 +144,7 @@ told-first S step name a sc kept scene w d may of_bus =
       all = sym (ap (left_at sc (λ side j. 0) (kind_of name) (number_of name)) there.1 ∙ hears-none sc (kind_of name) (number_of name) 0 there.0 (at-any-time there.0.coming));
     }
 
--- what needs no event
+-- what needs no event is settled, and nothing is told
 pub told-by-itself : (S : Type 0) (step : S → Told → S → Type 0) (name : NodeName) (a b : S) (sc : Scenario) (kept : Each KeptSite) (scene : Scene) (until : Side → ℕ → ℕ) (n : ℕ) (w0 : World) (d : ℕ) (book : KeptBook) (turn : Turn)
     → (it : AlongTold S step name a b sc kept scene until n w0 d) → needs_no_event sc it.on.back.book.upcoming ≡ true → Settles sc ByItself it.on.back book turn
     → ComesTold S step name a b sc kept (record scene { book = book }) until n w0 d turn
@@ -212,7 +212,7 @@ told-by-tick S step name a b c sc kept new scene after until n w0 d at time turn
     subst (λ u. ComesTold S step name a c sc new after u n w0 d turn) (sym (until-named at to.me to.i time to.a.time to.named to.at))
     (told-to-tick S step name a b c sc kept new scene after until n w0 d at time turn it to of_bus did)
 
--- no record came
+-- if no record came, the steps go on
 pub told-quiet : (S : Type 0) (step : S → Told → S → Type 0) (name : NodeName) (a b : S) (sc : Scenario) (kept : Each KeptSite) (scene : Scene) (until : Side → ℕ → ℕ) (n : ℕ) (w0 : World) (d : ℕ) (turn : Turn)
     → ComesTold S step name a b sc kept scene until n w0 d turn → record_of turn ≡ None → AlongTold S step name a b sc kept scene until (n + 1) w0 d
 unfolding comes-quiet

@@ -34,7 +34,7 @@ reached-more sc w c reached = record {
   is = ap (λ v. choose sc v c) reached.is ∙ sym (after-more sc reached.choices c);
 }
 
--- what surrounds the nodes once something is settled
+-- what surrounds the nodes stands for the world once something is settled
 pub surrounds-settled : (sc : Scenario) (way : Way) (v : World) (scene : Scene) (book : KeptBook) (turn : Turn) → Surrounds sc scene v → Settles sc way v book turn
     → Surrounds sc (record scene { book = book }) (settle sc way 2 v)
 surrounds-settled sc way v scene book turn is settles =
@@ -57,7 +57,7 @@ surrounds-settled sc way v scene book turn is settles =
     running Biu = subst (AreRunning Biu scene.running_biu) (sym (settle-sites sc way 2 v)) (is.running Biu)
     running Rmu = subst (AreRunning Rmu scene.running_rmu) (sym (settle-sites sc way 2 v)) (is.running Rmu)
 
--- A choice that settles what is due in this way, the nodes being these before
+-- A choice that settles what is due leads to a world for which what is kept stands.
 pub gives : (sc : Scenario) (way : Way) (w v z : World) (c : Choice) (nodes : Each KeptSite) (scene : Scene) (draws : Seeding) (book : KeptBook) (turn : Turn) (last : Last) → IsLawful sc
     → IsReached sc w → z ≡ choose sc w c → z ≡ settle sc way 2 v → ((me : Side) → AreNodes sc me (of_kind me nodes) (of_kind me v.sites)) → Surrounds sc scene v
     → Settles sc way v book turn → last ≡ last_of (record_of turn)
@@ -82,7 +82,7 @@ taken sc w i d nodes scene draws book turn last lawful reached found happened se
     gives sc Way.ByAnEvent w (happens sc w d) (take sc w i) (Take i) nodes scene draws book turn last lawful reached refl (ap (take_if_due sc w) found) happened.nodes
     happened.surrounds settles kept
 
--- what may be taken is due now, where anything may be taken
+-- if the run goes on and its next record needs an event, what is due is what is due now
 pub due-is-now : (sc : Scenario) (w : World) → (w.book.ended || needs_no_event sc w.book.upcoming) ≡ false → due_of sc w ≡ due_now sc w
 unfolding due_of
 due-is-now sc w e = ap (λ b. elim b as (λ _. List Due) [ true ↦ [] | false ↦ due_now sc w ]) e

@@ -38,9 +38,9 @@ use Rattle.rb_world.proofs.Ready.{next-due}
 use Rattle.rb_world.proofs.Sites.{at-same, at-twice, holds-one, was-there}
 use Rattle.rb_world.proofs.Spans.{spans-by}
 
--- It may take the tick with another core, if that does at the tick what its own does.
+-- A node may take the tick with another core, if that does at the tick what its own does.
 
--- what is known of a node that has been swept up to its tick but for its core, which is this
+-- the node has been swept up to its tick, but for its core
 pub record Readied (sc : Scenario) (scene : Scene) (v : World) (me : Side) (i : ℕ) (a : Timed) (s : Site) (core : Core) (site : KeptSite) (lanes : Each Held) : Type 0 where
   pub number : number_of site ≡ i
   pub stands : StandsFor sc me site (bare_with sc me i a core s)

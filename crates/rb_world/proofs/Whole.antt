@@ -141,7 +141,7 @@ sees-nodes sc me i k site scene w s step shown may act is j past =
 abbrev pub act_of : Scenario → World → Side → KeptSite → ℕ → Site → Act
 act_of sc w me site k s = pass_and_tick sc w.ports me (number_of site) k s.core
 
--- the row that a close tells
+-- a close of a window other than the tail tells its row
 row-told : (sc : Scenario) (ports : List PortState) (me : Side) (i : ℕ) (x : Act) (s : Site) (shown : Closed) → x.closed ≡ Some shown → (shown.place.stage == 4) ≡ false
     → (after_tick sc ports me i x s).row ≡ Some (row_of me i x.core.state (coming_from s.got) shown)
 row-told sc ports me i x s shown closed stage =
@@ -197,7 +197,7 @@ may-then sc me k site after before scene w s step same may ticked agenda told =
       spans = subst (SpansFit sc me) (sym (after_tick-core sc w.ports me i x s)) may.spans;
     }
 
--- room for the message, when the node has gone on
+-- the lanes of the other kind have room for the message when the node has gone on
 pub room-then : (sc : Scenario) (me : Side) (i : ℕ) (before scene after : Scene) → HasRoomFor sc (other me) before → scene.agenda ≡ before.agenda → OthersStay me scene after
     → HasRoomFor sc (other me) after
 room-then sc me i before scene after room agenda others j h =

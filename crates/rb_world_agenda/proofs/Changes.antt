@@ -15,7 +15,7 @@ use Rattle.rb_rules.specs.Slots.{count_of}
 use Rattle.rb_queue.specs.Waiting.{HasLane, Held, empty_lane, lane_of, with_arrival, with_lane, with_tick, without_events}
 use Rattle.rb_world_agenda.specs.Holding.{HoldsAll, HoldsSite, HoldsSites}
 
--- the site with number n of a kind, if the kind is this one
+-- the site with number `n` after the change, if it is of this kind
 abbrev changed : Bool → ℕ → (Site → Site) → ℕ → Site → Site
 changed kind n change m s = elim (kind && (m == n)) [ true ↦ change s | false ↦ s ]
 
@@ -47,7 +47,7 @@ holds-list sizes me new change (l ∷ ls) (s ∷ ss) i (suc n) m at holds h step
     ap (λ b. elim b as (λ _. Site) [ true ↦ change s | false ↦ s ]) apart in
     (subst (HoldsSite sizes me l) (sym head) holds.0, holds-list sizes me new change ls ss (i + 1) n m (omega arith) holds.1 (omega arith) step)
 
--- the lane of a node changes, and with it the site: the lanes hold the sites afterwards
+-- if the lane and the site of a node change together, the lanes still hold the sites
 pub holds-at : (sizes : Sizes) (lanes : Each Held) (sites : Each Site) (me : Side) (n : ℕ) (new : Held) (change : Site → Site) → HoldsSites sizes lanes sites
     → HasLane lanes (name_of me n)
     → ((s : Site) → slice_get (of_kind me sites) n ≡ Some s → HoldsSite sizes me (lane_of lanes (name_of me n)) s → HoldsSite sizes me new (change s))
@@ -65,7 +65,7 @@ holds-at sizes lanes sites Rmu n new change holds h step = record {
 
 -- One more, or none.
 
--- an arrival is pushed
+-- the lane holds the site after an arrival is pushed
 pub holds-arrival : (sizes : Sizes) (me : Side) (lane : Held) (s : Site) (c : Coming) → HoldsSite sizes me lane s → c.from < count_of (other me) sizes
     → HoldsSite sizes me (with_arrival c lane) (record s { coming = s.coming ++ c ∷ [] })
 holds-arrival sizes me lane s c holds small = record {
@@ -75,12 +75,12 @@ holds-arrival sizes me lane s c holds small = record {
       (All-cons (λ c. c.from < count_of (other me) sizes) c [] small (All-nil (λ c. c.from < count_of (other me) sizes)));
 }
 
--- a tick is pending
+-- the lane holds the site after a tick becomes pending
 pub holds-tick : (sizes : Sizes) (me : Side) (lane : Held) (s : Site) (a : Timed) → HoldsSite sizes me lane s
     → HoldsSite sizes me (with_tick a.time lane) (record s { ahead = Some a })
 holds-tick sizes me lane s a holds = record { coming = holds.coming; ahead = refl; senders = holds.senders }
 
--- all that waits is dropped
+-- a lane without events holds a site at which nothing is pending
 pub holds-nothing : (sizes : Sizes) (me : Side) (lane : Held) (s : Site) → s.ahead ≡ None → s.coming ≡ [] → HoldsSite sizes me (without_events lane) s
 holds-nothing sizes me lane s no_tick nothing = record {
   coming = sym nothing;

@@ -19,7 +19,7 @@ use Rattle.rb_world_agenda.proofs.Heads.{AreLow, AreTimes, IsLow, IsTime, all-lo
 
 -- One kind.
 
--- what may be taken at a site at a time, if there is one
+-- what may be taken at a site at a time, if there is such a time
 abbrev site_due : Sizes → Option ℕ → Side → ℕ → Site → List Due
 site_due sizes None me i s = []
 site_due sizes (Some t) me i s = ready_at sizes t me i s

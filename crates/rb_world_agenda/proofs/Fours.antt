@@ -13,7 +13,7 @@ four-same : (xs ys : List ℕ) (i : ℕ) → get_or xs i 0 ≡ get_or ys i 0 →
     → get_or xs (i + 3) 0 ≡ get_or ys (i + 3) 0 → four_at xs i ≡ four_at ys i
 four-same xs ys i a b c d = ap₂ min (ap₂ min a b) (ap₂ min c d)
 
--- a mark among the four that are open changes
+-- a change of a mark among the four open ones keeps `AreFours`
 pub fours-put : (all leasts : List ℕ) (opened at place mark : ℕ) → AreFours all leasts opened at → place / 4 ≡ opened → AreFours (slice_set all place mark) leasts opened at
 fours-put all leasts opened at place mark h is = record {
   marks = length-set all place mark ∙ h.marks;
@@ -30,7 +30,7 @@ fours-put all leasts opened at place mark h is = record {
   there = h.there;
 }
 
--- the least of those that were open is kept, and others are open
+-- the least of the open four is kept, and another four is opened
 pub fours-turned : (all leasts after : List ℕ) (opened at own next place : ℕ) → AreFours all leasts opened at → own ≡ four_at all (opened * 4) → next < 8
     → after ≡ slice_set (slice_set leasts opened own) next 18446744073709551615 → (place < 32 → place / 4 ≡ next) → AreFours all after next place
 fours-turned all leasts after opened at own next place h is few new there =
@@ -79,7 +79,7 @@ four-low xs i k low high = elim (cases_eq k i) [
   ]
 ]
 
--- each four is no lower than the least
+-- the least of four keys is at least the least of all
 four-high : (all : List ℕ) (i : ℕ) → i + 4 ≤ length all → least_key all ≤ four_at all i
 four-high all i h =
     let a = least-low all i (omega (arith, h)) in
@@ -96,8 +96,7 @@ kept-high all leasts opened at j h few =
       | inr n ↦ subst (λ n. least_key all ≤ n) (sym (h.others j few n)) (four-high all (j * 4) (omega (arith, few, marks)))
     ]
 
--- what is kept of the first fours, with the four that are open, is no higher than any mark of those
--- fours
+-- the least of what is kept of the first fours and of the open four is at most each of their marks
 below : (all leasts : List ℕ) (opened at own rest n : ℕ) → AreFours all leasts opened at → own ≡ four_at all (opened * 4) → own < 18446744073709551616 → n ≤ 32
     → ((j : ℕ) → j * 4 < n → rest ≤ get_or leasts j 0) → min own rest ≤ least_key (take n all)
 below all leasts opened at own rest n h is fits most low =
@@ -142,7 +141,7 @@ fours-least all leasts opened at own h is fits =
         let d = kept-high all leasts opened at (i + 3) h (omega (arith, few)) in
         omega (arith, a, b, c, d)
 
--- the first 16, where the least is among them
+-- if the least is among the first 16 keys, the least of the first half is the least of all
 pub fours-half : (all leasts : List ℕ) (opened at own : ℕ) → AreFours all leasts opened at → own ≡ four_at all (opened * 4) → own < 18446744073709551616
     → least_key (take 16 all) ≡ least_key all → min own (four_at leasts 0) ≡ least_key all
 fours-half all leasts opened at own h is fits half =

@@ -86,7 +86,7 @@ unfolding least_key
 least-most [] = omega arith
 least-most (x ∷ xs) = omega (arith, least-most xs)
 
--- what is no greater than each is no greater than the least
+-- a number that is at most each key is at most the least
 pub least-above : (keys : List ℕ) (m : ℕ) → m ≤ 18446744073709551615 → ((k : ℕ) → k < length keys → m ≤ get_or keys k 0) → m ≤ least_key keys
 unfolding least_key
 least-above [] m small above = small

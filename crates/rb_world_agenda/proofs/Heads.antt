@@ -111,7 +111,7 @@ key-is (l ∷ ls) h =
 
 -- What is due in a lane.
 
--- the first is not later than the second
+-- the first time is not later than the second, if there is a second
 abbrev pub IsLow : Option ℕ → Option ℕ → Type 0
 IsLow o None = ⊤
 IsLow None (Some h) = ⊥
@@ -191,7 +191,7 @@ none-ready : (t : ℕ) (arrivals : List Coming) (tick : Option ℕ) → AllLater
 none-ready t arrivals None h = ap (λ l. unless_some l (tick_in t None)) (none-come t arrivals h)
 none-ready t arrivals (Some u) h = ap (λ l. unless_some l (tick_in t (Some u))) (none-come t arrivals h.1) ∙ no-tick t u h.0
 
--- the lane of which this is the head, where o is the first of all heads
+-- if the first of all heads is the lane's, what is ready in it is due, and else nothing of it is
 pub due-by : (o h : Option ℕ) (lane : Held) → h ≡ head_of lane → IsLow o h → IsTime o
     → elim (unwrap_or h 18446744073709551615 == unwrap_or o 18446744073709551615) [ true ↦ ready_from h lane | false ↦ [] ] ≡ ready_from o lane
 due-by o None lane is low time = go (18446744073709551615 == unwrap_or o 18446744073709551615) ∙ sym (none o)

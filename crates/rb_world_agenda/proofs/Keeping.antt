@@ -32,7 +32,7 @@ has-with lanes (node.Biu i) (node.Rmu j) lane h = h
 has-with lanes (node.Rmu i) (node.Biu j) lane h = h
 has-with lanes (node.Rmu i) (node.Rmu j) lane h = let e : length (slice_set lanes.rmus j lane) ≡ length lanes.rmus = length-set lanes.rmus j lane in omega arith
 
--- the lanes in order after it
+-- in the order of nodes the new lane is at the position of its node
 pub with-in-order : (lanes : Each Held) (name : NodeName) (lane : Held) → HasLane lanes name
     → in_order (with_lane name lane lanes) ≡ slice_set (in_order lanes) (position_of (length lanes.bius) name) lane
 with-in-order lanes (node.Biu i) lane h = sym (set-append_left lanes.bius lanes.rmus i lane h)

@@ -100,7 +100,7 @@ mark-above least first j u a b small le = go (nat_lt u 576460752303423488) refl 
         let late : 576460752303423488 ≤ u = grind (arith, nat_tests) in
         (omega (arith, late, small), λ h. omega (arith, late, small))
 
--- the front is read off it
+-- the front is read off the least mark
 pub front-marks : (ts : List ℕ) (first least : ℕ) → length ts ≤ 32 → first < 32 → least_key (marks_from 0 ts) ≡ least * 32 + first → least * 32 + first < 18446744073709551615
     → IsFront ts (record { first = first; least = least })
 front-marks ts first least few small is some =

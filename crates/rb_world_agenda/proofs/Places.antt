@@ -18,7 +18,7 @@ use Rattle.rb_world_agenda.specs.Holding.{HoldsSite, waits_with, without_waiting
 
 -- Arrivals.
 
--- each of the items is the arrival at its place, and comes at this time
+-- each item is the arrival at its place, and comes at time `t`
 abbrev AreAt : ℕ → List Coming → List (ℕ × Coming) → Type 0
 AreAt t arrivals xs = (n : ℕ) → (c : ℕ × Coming) → slice_get xs n ≡ Some c → (c.1.time ≡ t) × (slice_get arrivals c.0 ≡ Some c.1)
 
@@ -88,7 +88,7 @@ of-unless : (t : ℕ) (lane : Held) (cs : List (ℕ × Coming)) → AreAt t lane
 of-unless t lane [] all n r e = of-tick t lane lane.tick refl n r e
 of-unless t lane (c ∷ cs) all n r e = of-comes t lane (c ∷ cs) all n r e
 
--- what is ready at the least time
+-- the ready event is of the lane's least time
 pub record IsAtHead (lane : Held) (r : Ready) : Type 0 where
   pub time : ℕ
   pub head : head_of lane ≡ Some time

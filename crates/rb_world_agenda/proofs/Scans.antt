@@ -21,7 +21,7 @@ least-more keys i h = ap least_key (take_more keys i 0 h) ∙ least-push (take i
 
 -- Counts.
 
--- what is known at a position: its node has a lane, and this is its key
+-- the node at the position has a lane with this key
 pub record IsHere (lanes : Each Held) (bius position time : ℕ) : Type 0 where
   pub lane : HasLane lanes (node_at bius position)
   pub at : slice_get (in_order lanes) position ≡ Some (lane_of lanes (node_at bius position))
@@ -86,7 +86,7 @@ in-due t l n h = go (key_of l == t) refl h
     go true e h = (e, h)
     go false e h = absurd (omega arith)
 
--- the event that is looked for is of this node
+-- the event that is looked for is one of the node at this position
 pub stands-here : (lanes : Each Held) (bius position key t i left due : ℕ) → bius ≡ length lanes.bius → IsHere lanes bius position key
     → i ≡ due_count t (take position (in_order lanes)) + left → due ≡ length (due_in t (lane_of lanes (node_at bius position))) → left < due
     → StandsAt lanes t i (node_at bius position) left

@@ -78,7 +78,7 @@ tick-place lanes ticks bius name split kept h =
     ap (λ ts. get_or ts place 0) kept ∙ get_or_append_left ms rest 0 place (omega (arith, within, marks, long, same))
     ∙ mark-at (tick_times lanes) place (omega (arith, within, long, same)) ∙ ap (mark_of place) time
 
--- the ticks stay where the lane's does
+-- if the tick of a lane stays, all ticks stay
 pub ticks-same : (lanes new : Each Held) (ticks : List ℕ) (bius : ℕ) (name : NodeName) (lane : Held) → bius ≡ length lanes.bius → AreTicks lanes ticks → HasLane lanes name
     → new ≡ with_lane name lane lanes → tick_time_of lane ≡ tick_time_of (lane_of lanes name) → AreTicks new ticks
 ticks-same lanes new ticks bius name lane split kept h after same =
@@ -108,7 +108,7 @@ ticks-taken lanes new ticks bius place name i event split at kept h shown after 
         subst (λ (x : Event). AreTicks new (ticks_after x.kind place ticks)) same
         (kinds r (after ∙ ap (λ o. with_lane name (without_found o lane) lanes) e))
 
--- no event is left
+-- a node whose events are dropped has no tick
 pub ticks-dropped : (lanes new : Each Held) (ticks : List ℕ) (bius place : ℕ) (name : NodeName) → bius ≡ length lanes.bius → place ≡ position_of bius name
     → AreTicks lanes ticks → HasLane lanes name → new ≡ with_lane name (without_events (lane_of lanes name)) lanes → AreTicks new (slice_set ticks place 18446744073709551615)
 ticks-dropped lanes new ticks bius place name split at kept h after =
@@ -131,7 +131,7 @@ ticks-empty sizes lanes room bius n split all few is =
 
 -- Which is the first.
 
--- the time of the tick that is pending
+-- the time of the pending tick, or the greatest number if none is pending
 abbrev ahead_key : Option Timed → ℕ
 ahead_key None = 18446744073709551615
 ahead_key (Some a) = a.time
@@ -253,7 +253,7 @@ first-is sizes lanes sites ticks bius front holds kept split is me i time first 
           ]
         ]
 
--- what is known at a position: its node has a lane, and this is the time of its tick
+-- the node at the position has a lane, and this is the time of its tick
 pub record IsTimeHere (lanes : Each Held) (bius position : ℕ) : Type 0 where
   pub lane : HasLane lanes (node_at bius position)
   pub time : get_or (tick_times lanes) position 0 ≡ tick_time_of (lane_of lanes (node_at bius position))
@@ -286,7 +286,7 @@ place-few lanes bius place name few at h =
     let many = many-few lanes bius few in
     omega (arith, within, many.0, many.1, at, ap (λ b. position_of b name) few.split)
 
--- the node at a position that is its own
+-- the node at the position of a node is that node
 pub name-there : (sizes : Sizes) (lanes : Each Held) (sites : Each Site) (bius position : ℕ) → HoldsSites sizes lanes sites → bius ≡ length lanes.bius → (me : Side) (i time : ℕ)
     → IsFirstAhead sites me i time → position ≡ position_of bius (name_of me i) → node_at bius position ≡ name_of me i
 name-there sizes lanes sites bius position holds split Biu i time first at =

@@ -82,7 +82,7 @@ due-in sizes t me i (k ∷ ls) (s ∷ ss) holds n (suc p) l place at is before h
           ∙ ap (λ m. Some (due_with me m more.site more.event)) e;
     }
 
--- Of all lanes.
+-- All lanes.
 
 the-lane : (ls : List Held) (p : ℕ) → p < length ls → slice_get ls p ≡ Some (unwrap_or (slice_get ls p) (empty_lane 0))
 the-lane ls p h = let c = has-item ls p h in c.is ∙ ap (λ o. Some (unwrap_or o (empty_lane 0))) (sym c.is)
@@ -138,7 +138,7 @@ of-rmu sc w lanes i p place holds times h is ready before =
           ∙ ap (λ m. Some (due_with Rmu m got.site got.event)) f;
     }
 
--- what stands at the first time is due in the world
+-- an event that is due by the lanes is due in the world
 pub is-due : (sc : Scenario) (w : World) (lanes : Each Held) (i : ℕ) (name : NodeName) (place : ℕ) → HoldsSites sc.sizes lanes w.sites → AreTimes (in_order lanes)
     → StandsAt lanes (first_time lanes) i name place → IsDue sc w lanes i name place
 is-due sc w lanes i name place holds times at =

@@ -30,9 +30,9 @@ use Rattle.rb_world_book.specs.Telling.{is_at, told_at, told_closed}
 use Rattle.rb_world_book.proofs.Counted.{first_counted}
 use Rattle.rb_world_book.proofs.Noting.{none-seen, other-kind, row-noted, sees-kept, with-bius, with-rmus}
 
--- Of which sources it counts what was seen.
+-- The sources of which a node counts what was seen.
 
--- who lasts does so in the frame of the upcoming stage
+-- a node that lasts does so in the frame of the upcoming stage
 last-there : (m : Milestone) (place : Place) (lasting j : ℕ) → is_at m place ≡ true → has lasting j ≡ true → Lasts m place.frame lasting j
 last-there (Begin f) place lasting j here member = absurd (cc)
 last-there End place lasting j here member = absurd (cc)

@@ -1,4 +1,4 @@
--- The sources of which it counts what was seen.
+-- The sources of which a node counts what was seen.
 use Rattle.std.proofs.Common.{◌≡◌, ℕ, ◌<◌, ◌≤◌, ◌&&◌, not, nat_lt, true, ◌∙◌, ap, arith}
 use Rattle.rb_base.specs.Nodes.{has, set_of}
 use Rattle.std.proofs.lemmas.Bool.{ltb-true}

@@ -132,7 +132,7 @@ some_begun kind frame (Some b) = by (b.frame == frame)
     by true = refl
     by false = refl
 
--- whatever was seen
+-- what was seen does not matter to whether a row is there
 told-seeing : (place : Place) (saw : ℕ → See) (t : Told) → is_some (row_for place (row_seeing saw t)) ≡ has_told (Stage place) t
 told-seeing place saw t = by t.has_closed
   where
@@ -225,7 +225,7 @@ ended-book sc sites b Mile.End e = rw e refl
 ended-same : (sc : Scenario) (w : World) → w.book.ended ≡ true → passed sc w ≡ w
 ended-same sc w e = ap (λ (b : Book). let v : World = record w { book = b } in v) (ended-book sc w.sites w.book w.book.upcoming e)
 
--- what is due
+-- a milestone is due: the run goes on, nobody is awaited, and the next step passes the milestone
 pub record IsDue (sc : Scenario) (k : KeptWay) (l : KeptBook) (w : World) : Type 0 where
   pub going : l.ended ≡ false
   pub bius : l.bius.waiting ≡ 0

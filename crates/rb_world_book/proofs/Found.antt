@@ -54,14 +54,14 @@ found_split find told i n h within =
     take_take (suc i) (suc n) [] h = refl
     take_take (suc i) (suc n) (x ∷ xs) h = ap (λ l. x ∷ l) (take_take i n xs (omega arith))
 
--- the lists with one more
+-- what is found of one more node is added
 pub adds_more : {X : Type 0} (find : ℕ → Told → Option X) (told : List Told) (i : ℕ) (before now after : List X) → i < length told
     → now ≡ before ++ found_of find i told → after ≡ now ++ option_to_list (find i (told_at told i)) → after ≡ before ++ found_of find (i + 1) told
 adds_more find told i before now after h so_far is =
     is ∙ ap (λ l. l ++ option_to_list (find i (told_at told i))) so_far ∙ append_assoc before (found_of find i told) _
     ∙ ap (λ l. before ++ l) (sym (found_more find told i h))
 
--- a list that has grown by what is found of one node more
+-- the list has grown by what is found of the first `k` nodes
 pub record HasAdded {X : Type 0} (find : ℕ → Told → Option X) (told : List Told) (k : ℕ) (before now : List X) : Type 0 where
   pub is : now ≡ before ++ found_of find k told
   pub most : length now ≤ length before + k

@@ -54,7 +54,7 @@ unlike-form : (sc : Scenario) (place : Place) (rows : Each (Option Row)) (kind :
 unfolding some_node
 unlike-form sc place rows kind j = refl
 
--- what is kept of receivers of which nobody is awaited
+-- if nobody is awaited, what is kept of the receivers is what they saw
 have-seen : {R : Type 0} (sc : Scenario) (place : Place) (kind : Side) (o : Group R) (sites : Each Site) (j : ℕ) → count_of (other kind) sc.sizes ≤ 16
     → (holds : HoldsKind sc (other kind) (Stage place) o sites) → o.waiting ≡ 0
     → HaveSeen holds.saw (is_good sc kind j place.frame (sync_slot_of sc.sizes)) place (count_of kind sc.sizes) (count_of (other kind) sc.sizes) o.good o.told j
@@ -114,7 +114,7 @@ sets-are sc place kind g o sites sets most most_others holds holds_others none g
           ∙ ap (λ b. saw_unlike eps (good_at sc (other kind) place.frame place.slot) b (of_kind (other kind) rows) j) (sym (lasts_is j)) ∙ sym (unlike-form sc place rows kind j);
     }
 
--- the trusted nodes are those of the rows that are found, whatever was seen
+-- The trusted nodes are those of the rows that are found, whatever was seen.
 
 abbrev fields : Row → ℕ × ℕ
 fields r = (r.biu, r.rmu)

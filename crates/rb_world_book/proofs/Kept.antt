@@ -32,12 +32,12 @@ pub length-kept : {X : Type 0} (counted : ℕ) (d : X) (new : ℕ → X) (before
 unfolding kept_of
 length-kept counted d new before = refl
 
--- what is kept of one
+-- what is kept of source `j` is the new value if it counts, and else the one before
 pub kept-at : {X : Type 0} (counted : ℕ) (d : X) (new : ℕ → X) (before : List X) (j : ℕ) → j < 16 → get_or (kept_of counted d new before) j d ≡ (if has counted j then new j else get_or before j d)
 unfolding kept_of
 kept-at counted d new before j h = get_or-map-range_with_len (λ j. if has counted j then new j else get_or before j d) 0 16 j j d h (let e : 0 + j ≡ j = omega arith in e)
 
--- who is left was left before
+-- a source that is left was left before
 pub left-before : (left left' k j : ℕ) → left' ≡ set_of (λ i. has left i && not (i == k)) → j < 16 → has left' j ≡ true → has left j ≡ true
 left-before left left' k j removed h is = front (has left j) (j == k) (sym (has-is left' j (λ i. has left i && not (i == k)) removed h) ∙ is)
   where

@@ -57,7 +57,7 @@ one-changes {X = X} {Y = Y} h k i (suc j) change v (x ∷ xs) same shows =
     ap (λ b. let y : X = elim b [ true ↦ change x | false ↦ x ] in h y ∷ map h (map_from (k + 1) (λ n s. elim (n == i) as (λ _. X) [ true ↦ change s | false ↦ s ]) xs)) (eq_other k i (omega arith))
     ∙ ap (λ l. h x ∷ l) (one-changes h (k + 1) i j change v xs (omega arith) shows)
 
--- sites change, and what they show does not
+-- a change that leaves what a site shows leaves what all sites show
 pub none-changes : {X Y : Type 0} (h : X → Y) (k : ℕ) (b : ℕ → Bool) (change : X → X) (xs : List X) → ((s : X) → h (change s) ≡ h s)
     → map h (map_from k (λ n s. elim (b n) [ true ↦ change s | false ↦ s ]) xs) ≡ map h xs
 none-changes h k b change [] same = refl
@@ -72,7 +72,7 @@ pub at-kind : (kind me : Side) (i : ℕ) (change : Site → Site) (sites : Each 
 at-kind Biu me i change sites = refl
 at-kind Rmu me i change sites = refl
 
--- what the nodes of a kind show that stays
+-- a change that leaves what a site shows leaves what the nodes of a kind show
 pub shows-same : {Y : Type 0} (h : Site → Y) (kind me : Side) (i : ℕ) (change : Site → Site) (sites : Each Site) → ((s : Site) → h (change s) ≡ h s)
     → map h (of_kind kind (at_node me i change sites)) ≡ map h (of_kind kind sites)
 shows-same h kind me i change sites same = ap (map h) (at-kind kind me i change sites) ∙ none-changes h 0 (λ n. same_side kind me && (n == i)) change (of_kind kind sites) same
@@ -125,14 +125,14 @@ told-then told node i t h = by (i == node) refl
 told-list : {Y : Type 0} (f : Told → Y) (n i : ℕ) (told : List Told) (t : Told) → i < n → map f (take n (set told i t)) ≡ set (map f (take n told)) i (f t)
 told-list f n i told t h = ap (map f) (take-set-lt n told i t h) ∙ map-set f (take n told) i t
 
--- what is made of each by its number
+-- to set an item sets what is made of it
 from-set : {Y : Type 0} (f : ℕ → Told → Y) (k i j : ℕ) (told : List Told) (t : Told) → i ≡ k + j → map_from k f (set told j t) ≡ set (map_from k f told) j (f i t)
 from-set f k i zero [] t same = refl
 from-set f k i (suc j) [] t same = refl
 from-set f k i zero (x ∷ xs) t same = let e : k ≡ i = omega arith in ap (λ n. f n t ∷ map_from (k + 1) f xs) e
 from-set f k i (suc j) (x ∷ xs) t same = ap (λ l. f k x ∷ l) (from-set f (k + 1) i j xs t (omega arith))
 
--- two ways that differ at one number alone
+-- two ways that differ at one number alone give the same list once that item is set
 from-other : {Y : Type 0} (f g : ℕ → Told → Y) (k i j : ℕ) (v : Y) (told : List Told) → i ≡ k + j → ((n : ℕ) (x : Told) → (n == i) ≡ false → f n x ≡ g n x)
     → set (map_from k f told) j v ≡ set (map_from k g told) j v
 from-other f g k i j v [] same alike = refl
@@ -202,7 +202,7 @@ noted sc kind m g h node t sites after saw is inside most holds rows sights begi
     unseen i j past true = nobody j past
     unseen i j past false = holds.within i j past
 
--- a node has told this, and it is noted whether it is awaited still
+-- a group notes what a node has told, and whether the node is still awaited
 pub told-noted : {K : Type 0} (before told after : Group K) (node : ℕ) (m : Milestone) (t : Told) → node < length before.told → told ≡ record before { told = set before.told node t }
     → after ≡ record told { waiting = set_of (λ i. if i == node then has told.good node && not (has_told m (told_at told.told node)) else has told.waiting i) }
     → IsNoted before after node m t
@@ -288,7 +288,7 @@ none-seen counted c times biu rmu line t n nobody none j past = by (nat_lt j 16)
         let most : length (kept_of counted Nothing (timed_in c.sees times) t.sees) ≤ j = grind (arith, nat_tests) in
         get_or_past (kept_of counted Nothing (timed_in c.sees times) t.sees) j Nothing most
 
--- what is kept at a close of sources that are not good to the end of its frame
+-- a close keeps what was seen of sources that are not good to the end of its frame
 pub sees-kept : {K : Type 0} (counted : ℕ) (sc : Scenario) (source : Side) (m : Milestone) (o : Group K) (sites : Each Site) (c : Closed) (times : List ℕ) (biu rmu : ℕ) (line : Option SlotLine) (t : Told)
     → count_of source sc.sizes ≤ 16 → HoldsKind sc source m o sites → OthersLast m c.place.frame (count_of source sc.sizes) o.lasting counted
     → ((j : ℕ) → count_of source sc.sizes ≤ j → get_or c.sees j Nothing ≡ Nothing) → ((j : ℕ) → count_of source sc.sizes ≤ j → get_or t.sees j Nothing ≡ Nothing)

@@ -37,7 +37,7 @@ use Rattle.rb_world_book.proofs.Rows.{begins-kept, no-ports, node-lines, port-li
 since-is : (xs ys : List Record) → slice_get (xs ++ ys) (length xs) ≡ slice_get ys 0
 since-is xs ys = let e : length xs ≡ length xs + 0 = omega arith in ap (slice_get (xs ++ ys)) e ∙ slice_get-back xs ys 0
 
--- what is kept stands for the world with this book
+-- `Passes` holds if what is kept stands for the world with this book
 pub passes-by : (sc : Scenario) (w : World) (after : KeptBook) (turn : Turn) (b : Book) (records : List Record)
     → book_with sc w.sites w.book w.book.upcoming ≡ b → Holds sc after (record w { book = b }) → b.given ≡ w.book.given ++ records
     → record_of turn ≡ slice_get records 0 → Passes sc w after turn
@@ -114,7 +114,7 @@ few-slots sizes slot is h =
     let c = is.most_slots in
     omega arith
 
--- the nodes of a kind, where a milestone is the upcoming one
+-- what is kept of a kind holds when another milestone becomes the upcoming one
 pub turns-holds : {K : Type 0} (sc : Scenario) (kind : Side) (before now : Kept) (g h : Group K) (sizes : Sizes) (sites : Each Site) → sizes ≡ sc.sizes
     → HoldsKind sc kind before g sites → TurnsKind kind sizes g h now → h.good ≡ good_for sc kind now
     → ((place : Place) → now ≡ kept.Stage place → h.lasting ≡ good_at sc kind place.frame (sync_slot_of sc.sizes))

@@ -34,12 +34,12 @@ same_or_not j k = elim (cases_order j k) [
   | inr order ↦ inr (elim order as (λ _. (j == k) ≡ false) [ inl less ↦ eq_other j k (omega arith) | inr more ↦ eq_other j k (omega arith) ])
 ]
 
--- all others stay
+-- to take out the first member leaves all others
 pub stays : (before after k j : ℕ) → j < 16 → TakesFirst before after k → (j == k) ≡ false → has after j ≡ has before j
 stays before after k j h takes apart =
     has-is after j (λ i. has before i && not (i == k)) takes.rest h ∙ ap (λ b. has before j && not b) apart ∙ and-true (has before j)
 
--- what is asked of each member holds after one more, where it holds of this one
+-- what holds for each node that is gone holds with one more gone, if it holds for that one
 each-next : (before after k : ℕ) (P : ℕ → Type 0) → TakesFirst before after k → P k → ((j : ℕ) → j < 16 → has before j ≡ false → P j)
     → (j : ℕ) → j < 16 → has after j ≡ false → P j
 each-next before after k P takes here so_far j h out = elim (same_or_not j k) [
@@ -50,9 +50,9 @@ each-next before after k P takes here so_far j h out = elim (same_or_not j k) [
 pub left-before : (before after k j : ℕ) → j < 16 → TakesFirst before after k → has after j ≡ true → has before j ≡ true
 left-before before after k j h takes is = (and_parts _ _ (sym (has-is after j (λ i. has before i && not (i == k)) takes.rest h) ∙ is)).0
 
--- Until a member passes.
+-- Walks until a member passes.
 
--- what is left is of these, and none that is gone passed
+-- what is left is of `these`, and none of `these` that is gone passed
 pub record NonePassed (these : ℕ → Bool) (left : ℕ) (passes : ℕ → Bool) : Type 0 where
   pub within : (j : ℕ) → j < 16 → has left j ≡ true → these j ≡ true
   pub none : (j : ℕ) → j < 16 → has left j ≡ false → these j ≡ true → passes j ≡ false
@@ -71,7 +71,7 @@ one_less these before after k passes so_far takes fails = record {
 
 -- A set of those that pass.
 
--- the set has those that pass of these that are gone, and what is left is of these
+-- `set` has those of `these` that are gone and pass, and what is left is of `these`
 pub record ArePassed (these : ℕ → Bool) (left set : ℕ) (passes : ℕ → Bool) : Type 0 where
   pub within : (j : ℕ) → j < 16 → has left j ≡ true → these j ≡ true
   pub is : set ≡ set_of (λ j. these j && (not (has left j) && passes j))
@@ -170,7 +170,7 @@ nobody_told place count good left told most within so_far none =
 
 -- Lists of what is found.
 
--- what is found of the good ones below a number is added, and all good ones from there on are left
+-- what is found of the good nodes below `from` is added, and all good nodes from `from` on are left
 pub record HasFollowed {X : Type 0} (find : ℕ → Told → Option X) (count good left : ℕ) (told : List Told) (before now : List X) : Type 0 where
   pub from : ℕ
   pub most : from ≤ count
@@ -193,14 +193,14 @@ follows_none find count good left told before now most is same = record {
   };
 }
 
--- the next good one is not below that number
+-- the next good node is not below that number
 not_below : (from before after k : ℕ) → ((j : ℕ) → j < from → has before j ≡ false) → TakesFirst before after k → from ≤ k
 not_below from before after k earlier takes = elim (cases_lt k from) [
   | inl less ↦ let no : true ≡ false = sym takes.inside ∙ earlier k less in absurd (cc)
   | inr more ↦ more
 ]
 
--- what is found of those below the next good one
+-- what is found up to a number is found up to the next good node
 followed_to : {X : Type 0} (find : ℕ → Told → Option X) (from to : ℕ) (told : List Told) (before now : List X) → from ≤ to → to ≤ length told
     → ((j : ℕ) → from ≤ j → j < to → find j (told_at told j) ≡ None) → HasAdded find told from before now → HasAdded find told to before now
 followed_to find from to told before now h within none so_far = record {

@@ -38,7 +38,7 @@ pub from-from : {X Y Z : Type 0} (k : ℕ) (f : ℕ → Y → Z) (h : ℕ → X 
 from-from k f h [] = refl
 from-from k f h (x ∷ xs) = ap (λ l. f k (h k x) ∷ l) (from-from (k + 1) f h xs)
 
--- what is made of what is there is there of what is made
+-- What is made of the items that are there.
 
 one-map : {Y Z : Type 0} (g : Y → Z) (o : Option Y) (l : List Y) (m : List Z) → map g l ≡ m → map g (cons_option o l) ≡ cons_option (option_map g o) m
 one-map g None l m e = e
@@ -158,7 +158,7 @@ no-ports frame n g =
     present-then 0 (λ x. x.port) (begun_at Rmu g.good frame) (take n g.told)
     ∙ ap present (from-same 0 _ _ (take n g.told) (λ i t. no_port frame (has g.good i) t.begun)) ∙ present-none 0 (take n g.told)
 
--- what a row has but for what was seen, whatever was seen
+-- what a row has besides sights does not depend on what was seen
 pub seeing-same : {Y : Type 0} (h : Row → Y) (place : Place) (s u : ℕ → See) (t : Told) → h (latest_seeing s t) ≡ h (latest_seeing u t)
     → option_map h (row_for place (row_seeing s t)) ≡ option_map h (row_for place (row_seeing u t))
 seeing-same {Y = Y} h place s u t same = by t.has_closed

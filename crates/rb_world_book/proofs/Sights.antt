@@ -15,7 +15,7 @@ use Rattle.rb_judge.proofs.SomeNode.{some_same}
 use Rattle.rb_world_book.specs.Waiting.{some_good}
 use Rattle.rb_world_book.proofs.Popped.{is_below, joined, left-before, same_or_not, stays}
 
--- what those of these receivers saw that are not left
+-- what receiver `i` saw, if it is one of these and is not left
 abbrev pub seen_so_far : ℕ → ℕ → (ℕ → See) → ℕ → See
 seen_so_far among left sight i = if has among i && not (has left i) then sight i else Nothing
 
@@ -64,7 +64,7 @@ one_noted eps among before after r x sight kept more few so_far takes hr seen st
       | inr apart ↦ same i apart ∙ sym (ap (λ b. if b then x else seen_so_far among before sight i) apart)
     ]
 
--- If none is left.
+-- No receiver is left.
 
 seen_all : (among left : ℕ) (sight : ℕ → See) (i : ℕ) → left ≡ 0 → has among i ≡ true → seen_so_far among left sight i ≡ sight i
 seen_all among left sight i none e =

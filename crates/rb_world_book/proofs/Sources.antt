@@ -72,7 +72,7 @@ saw-same-unlike eps count good sight seen there same =
 get-node : (f : ℕ → See) (j : ℕ) → j < 16 → get_or (each_node f) j Nothing ≡ f j
 get-node f j h = get_or-map-range_with_len f 0 16 j j Nothing h (let e : 0 + j ≡ j = omega arith in e)
 
--- the item of a list of rows
+-- item `i` of the rows is that of node `i`
 row-item : (k : ℕ) (f : ℕ → Told → Option Row) (xs : List Told) (i : ℕ) → i < length xs → get_or (map_from k f xs) i None ≡ f (k + i) (told_at xs i)
 row-item k f [] i h = absurd (omega arith)
 row-item k f (x ∷ xs) zero h = let e : k ≡ k + 0 = omega arith in ap (λ n. f n x) e
@@ -110,7 +110,7 @@ in-list place [] i e = absurd (cc)
 in-list place (t ∷ told) zero e = omega arith
 in-list place (t ∷ told) (suc i) e = let h : i < length told = in-list place told i e in omega arith
 
--- what it saw, in the definitions and in what is kept
+-- what a good receiver saw is the same in the definitions and in what is kept
 pub saw : (seen : ℕ → ℕ → See) (good count : ℕ) (place : Place) (told : List Told) (i j : ℕ) → j < 16 → nat_lt i count ≡ true → has good i ≡ true → has_told (Stage place) (told_at told i) ≡ true
     → see_in (get_or (map_from 0 (row_saw seen good place) (take count told)) i None) j ≡ seen i j
 saw seen good count place told i j hj within e told_it =
@@ -143,7 +143,7 @@ has-told count good place told i none h within e =
 
 -- A source, whether it is good to the end of the frame, and what its receivers saw.
 
--- what holds of the good receivers of a source, of which this is kept
+-- what is kept of the good receivers of a source is what they told and saw
 pub record HaveSeen (seen : ℕ → ℕ → See) (lasts : Bool) (place : Place) (sources count good : ℕ) (told : List Told) (j : ℕ) : Type 0 where
   pub there : (i : ℕ) → i < 16 → has good i ≡ true → nat_lt i count ≡ true
   pub told_it : (i : ℕ) → i < 16 → has good i ≡ true → has_told (Stage place) (told_at told i) ≡ true

@@ -71,7 +71,7 @@ all-wait sc kind place next good n told same other is none =
         e ∙ ap (λ b. b && (true && true)) (sym (within i h e)) ∙ ap (λ b. nat_lt i n && (b && true)) (sym e)
         ∙ ap (λ b. nat_lt i n && (has good i && not b)) (sym not_yet)
 
--- who is good at a slot and at a later one is good at those between
+-- if a node is good at two slots, or at neither, the same holds at those between
 between : (onset : Option (ℕ × ℕ)) (frame a b c : ℕ) → a ≤ b → b ≤ c → is_before onset frame a ≡ is_before onset frame c → is_before onset frame a ≡ is_before onset frame b
 between None frame a b c low high same = refl
 between (Some at) frame a b c low high same = by (nat_lt frame at.0) (frame == at.0) (nat_lt a at.1) (nat_lt b at.1) (nat_lt c at.1) refl refl refl same
@@ -118,7 +118,7 @@ stays-good kind sizes good lasting sync place next same sync_is before frame slo
         ∙ has-is lasting i (λ i. is_good sc kind i place.frame (sync_slot_of sc.sizes)) last h)
         (between (get_or (onsets_of kind sc) i None) place.frame place.slot next.slot (sync_slot_of sc.sizes) low high)
 
--- the stage after the last of a slot, where all that are good are good to the end of the frame
+-- if all good nodes stay good to the end of the frame, the stage after the last of a slot is steady
 pub next-slot : (l : KeptBook) (place : Place) (sync slot : ℕ) → 3 ≤ place.stage → sync ≡ sync_slot_of l.shape → sync < 65536 → (place.slot ≡ sync → ⊥)
     → AllStay l.bius l.rmus → slot ≡ min (place.slot + 1) 65535 → IsSteady l place (record { frame = place.frame; slot = slot; stage = 1 })
 next-slot l place sync slot late sync_is few before stay slot_is = record {
@@ -143,7 +143,7 @@ next-slot l place sync slot late sync_is few before stay slot_is = record {
     least : (a : ℕ) → a < 65536 → min a 65535 ≡ a
     least a h = grind (arith, nat_tests)
 
--- What the nodes of a kind told, where the next stage is the upcoming one.
+-- What the nodes of a kind told if the next stage is the upcoming one.
 
 pub goes-on : {K : Type 0} (kind : Side) (sizes : Sizes) (onsets : Faults) (place next : Place) (before after : Group K) → (place.stage == next.stage) ≡ false
     → GoodNext kind sizes before.good before.lasting place next → AwaitsGood before after → GoesKind kind sizes onsets place before after (Stage next)

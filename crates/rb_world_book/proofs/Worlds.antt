@@ -21,7 +21,7 @@ use Rattle.rb_world_book.specs.Changing.{changed_at, number_in, row_shown, side_
 use Rattle.rb_world_book.specs.Holding.{Holds}
 use Rattle.rb_world_book.proofs.Noting.{at-kind, same-shown}
 
--- the times at hand are those of what came of each source that was seen with a stamp
+-- `times` has the time of the sole arrival from each source that was seen with a stamp
 pub record HasTimes (c : Closed) (heard : ℕ → List Coming) (times : List ℕ) : Type 0 where
   pub time : (j stamp : ℕ) → get_or c.sees j Nothing ≡ Time stamp → slice_index times j ≡ sole_time (heard j)
 
@@ -39,7 +39,7 @@ row-is me i st heard c times has =
     one t u (Value v) same = refl
     one t u (Time stamp) same = ap Time (same stamp refl)
 
--- two changes of a site of which it shows the same
+-- Two changes of a site after which it shows the same.
 
 alike : {Y : Type 0} (h : Site → Y) (k : ℕ) (b : ℕ → Bool) (f g : Site → Site) (xs : List Site)
     → ((j : ℕ) (s : Site) → slice_get xs j ≡ Some s → b (k + j) ≡ true → h (f s) ≡ h (g s))

@@ -40,7 +40,7 @@ more_origin : {P Q R : Type 0} → P ⊎ Q → (Q → R) → P ⊎ R
 more_origin (inl p) more = inl p
 more_origin (inr q) more = inr (more q)
 
--- the onsets below k + 1 are steady, where those below k and that of k are
+-- the onsets below k + 1 are steady if those below `k` and that of `k` are
 steady_more : (onsets : List (Option (ℕ × ℕ))) (frame slot k f s : ℕ) (o : Option (ℕ × ℕ)) → o ≡ get_or onsets k None
     → ((i : ℕ) → i < k → is_before (get_or onsets i None) f s ≡ is_before (get_or onsets i None) frame slot) → is_before o f s ≡ is_before o frame slot
     → (i : ℕ) → i < k + 1 → is_before (get_or onsets i None) f s ≡ is_before (get_or onsets i None) frame slot
@@ -53,7 +53,7 @@ steady_more onsets frame slot k f s o is below here i h =
           ap (λ o. is_before o f s) at ∙ here ∙ sym (ap (λ o. is_before o frame slot) at)
     ]
 
--- the onset is not taken, as the node is steady up to what was known
+-- a node that is steady up to the known change leaves that change the next
 passed_over : (onsets : List (Option (ℕ × ℕ))) (frame slot k : ℕ) (first next o : Option (ℕ × ℕ)) → IsNextAmong k onsets frame slot first next → o ≡ get_or onsets k None
     → ((f s : ℕ) → is_before (Some (frame, slot)) f s ≡ false → is_before next f s ≡ true → is_before o f s ≡ is_before o frame slot)
     → IsNextAmong (k + 1) onsets frame slot first next
@@ -64,7 +64,7 @@ passed_over onsets frame slot k first next o so_far is here = record {
   origin = more_origin so_far.origin (λ q. record { node = q.node; within = let w : q.node < k = q.within in omega arith; good = q.good; is = q.is });
 }
 
--- the onset is taken
+-- an onset that comes before the known change is the next change
 taken : (onsets : List (Option (ℕ × ℕ))) (frame slot k : ℕ) (first next : Option (ℕ × ℕ)) (at : ℕ × ℕ) → IsNextAmong k onsets frame slot first next
     → Some at ≡ get_or onsets k None → is_before (Some at) frame slot ≡ true → is_before next at.0 at.1 ≡ true
     → IsNextAmong (k + 1) onsets frame slot first (Some at)

@@ -119,7 +119,7 @@ named : (to : NodeName) → to ≡ name_of (kind_of to) (number_of to)
 named (node.Biu i) = refl
 named (node.Rmu i) = refl
 
--- the lanes hold the sites of the world once it is said
+-- after what is said is pushed the lanes hold the sites of the world
 pub said-holds : (sc : Scenario) (lanes new : Each Held) (sites : Each Site) (to : NodeName) (span : Span) → HoldsSites sc.sizes lanes sites → HasLane lanes to
     → new ≡ with_lane to (with_arrivals (says_in sc (kind_of to) (number_of to) span) (lane_of lanes to)) lanes
     → HoldsSites sc.sizes new (at_node (kind_of to) (number_of to) (hears sc to span) sites)

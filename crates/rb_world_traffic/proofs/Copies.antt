@@ -1,4 +1,4 @@
--- If nothing is to be said.
+-- What holds if nothing is to be said.
 use Rattle.std.proofs.Common.{◌≡◌, ◌==◌, ℕ, true, List, [], ◌∷◌, length, refl, arith}
 use Rattle.std.proofs.lemmas.Bool.{eqb-true}
 

@@ -13,7 +13,7 @@ use Rattle.rb_rules.specs.Lawful.{kind_of}
 use Rattle.rb_rules.specs.Links.{name_of}
 use Rattle.rb_world_traffic.specs.Saying.{AreFor, AreOfKind, entries_at, entries_to, is_between}
 
--- Of one sender.
+-- One sender.
 
 -- one more entry is added if it passes
 filter-more : (p : Say → Bool) (says : List Say) (n : ℕ) (s : Say) → slice_get says n ≡ Some s → filter p (take (n + 1) says) ≡ filter p (take n says) ++ cond (p s) (s ∷ []) []
@@ -45,7 +45,7 @@ one-number says old places from to n s b at is so_far =
     let as_many : (b : Bool) → length (cond b (n ∷ []) []) ≡ length (cond b (s ∷ []) []) = λ b. elim b as (λ b. length (cond b (n ∷ []) []) ≡ length (cond b (s ∷ []) [])) [ true ↦ refl | false ↦ refl ] in
     length-append places (cond b (n ∷ []) []) ∙ omega (arith, so_far, more, as_many b)
 
--- Of all senders.
+-- All senders.
 
 -- the entries of the first `n` senders for the receiver `to`
 abbrev pub entries_of : NodeName → ℕ → List Say → List Say
@@ -91,7 +91,7 @@ are-for says to n places so_far = record { entries = so_far.entries; many = so_f
 pub so-far-none : (says : List Say) (to : NodeName) (places : List ℕ) → places ≡ [] → AreSoFar says to 0 places
 so-far-none says to places none = record { entries = ap (entries_at says) none; many = ap length none }
 
--- Of all receivers of a kind.
+-- All receivers of a kind.
 pub kind-none : (says : List Say) (side : Side) (senders : ℕ) (lists : List (List ℕ)) → lists ≡ [] → AreOfKind says side 0 senders lists
 kind-none says side senders lists none = record { many = ap length none; each = λ i h. absurd (omega arith) }
 

@@ -63,7 +63,7 @@ pub with-same : (side : Side) (coming : ℕ → Coming) (p q : ℕ → Bool) (la
 with-same Biu coming p q lanes same = ap (λ ls. record lanes { bius = ls }) (same-list Biu coming p q lanes.bius 0 (λ k low high. same k))
 with-same Rmu coming p q lanes same = ap (λ ls. record lanes { rmus = ls }) (same-list Rmu coming p q lanes.rmus 0 (λ k low high. same k))
 
--- the lane of a node that got nothing yet
+-- a node still has its lane after others got arrivals
 pub has-still : (side : Side) (coming : ℕ → Coming) (p : ℕ → Bool) (lanes : Each Held) (k : ℕ) → HasLane lanes (name_of side k) → HasLane (lanes_with side coming p lanes) (name_of side k)
 has-still Biu coming p lanes k h = let e : length (map_from 0 (lane_with Biu coming p) lanes.bius) ≡ length lanes.bius = length-list Biu coming p lanes.bius 0 in omega arith
 has-still Rmu coming p lanes k h = let e : length (map_from 0 (lane_with Rmu coming p) lanes.rmus) ≡ length lanes.rmus = length-list Rmu coming p lanes.rmus 0 in omega arith
@@ -82,7 +82,7 @@ with-more Rmu coming p q lanes k h inside same =
 
 -- Node after node.
 
--- the nodes of a set that are no more left
+-- the running nodes that are no longer left
 abbrev pub those_gone : ℕ → ℕ → ℕ → Bool
 those_gone running left i = has running i && not (has left i)
 
@@ -90,7 +90,7 @@ in-and-left : (b : Bool) → (b && not b) ≡ false
 in-and-left true = refl
 in-and-left false = refl
 
--- all others stay as they are
+-- to take out the first node leaves all others
 gone-others : (before after k m : ℕ) → before < 2 ^ 16 → TakesFirst before after k → m ≢ k → has before m ≡ has after m
 gone-others before after k m fits takes apart = elim (cases_lt m 16) [
   | inl less ↦
@@ -98,7 +98,7 @@ gone-others before after k m fits takes apart = elim (cases_lt m 16) [
   | inr more ↦ has_above before m fits more ∙ sym (has_above after m (omega (arith, takes.less)) more)
 ]
 
--- the nodes that are left after a step were left before it
+-- a node that is left after a step was left before it
 pub left-before : (before after k m : ℕ) → before < 2 ^ 16 → TakesFirst before after k → k < 16 → has after m ≡ true → has before m ≡ true
 left-before before after k m fits takes within is = elim (cases_same m k) [
   | inl e ↦ let never : true ≡ false = sym is ∙ ap (has after) e ∙ first_gone before after k within takes in absurd cc

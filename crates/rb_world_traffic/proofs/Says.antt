@@ -29,7 +29,7 @@ brought-append sc clock span xs ys =
     ap (map (brought sc.plan.version clock span)) (filter-append (is_said_in sc span) xs ys)
     ∙ map-append (brought sc.plan.version clock span) (filter (is_said_in sc span) xs) (filter (is_said_in sc span) ys)
 
--- Of one sender.
+-- One sender.
 pub good-of : (sc : Scenario) (side : Side) (j frame slot : ℕ) → is_node_good sc (name_of side j) frame slot ≡ is_good sc side j frame slot
 good-of sc Biu j frame slot = refl
 good-of sc Rmu j frame slot = refl
@@ -42,7 +42,7 @@ map-cond : (f : Say → Coming) (b : Bool) (x : Say) (xs : List Say) → map f (
 map-cond f true x xs = refl
 map-cond f false x xs = refl
 
--- the entries between the two, if it is known whether the sender is good
+-- if the sender is not good, the entries between the two nodes bring what it says
 one-said : (sc : Scenario) (me : Side) (i j : ℕ) (span : Span) (says : List Say) → is_good sc (other me) j span.place.frame span.place.slot ≡ false
     → map (coming_said sc.plan.version (clock_of sc me i) j span) (filter (is_said me i j span) says)
     ≡ all_brought sc (clock_of sc me i) span (filter (is_between (name_of (other me) j) (name_of me i)) says)
@@ -104,7 +104,7 @@ by-sender : (sc : Scenario) (me : Side) (i j : ℕ) (span : Span) (g : Bool) →
 by-sender sc me i j span true e = sym (none-said sc me i j (clock_of sc me i) span sc.says e)
 by-sender sc me i j span false e = one-said sc me i j span sc.says e
 
--- Of all senders.
+-- All senders.
 by-senders : (sc : Scenario) (me : Side) (i a n : ℕ) (span : Span)
     → flat_map (λ j. elim (is_good sc (other me) j span.place.frame span.place.slot) as (λ _. List Coming) [ true ↦ [] | false ↦ said_by sc me i span j ]) (range_with_len a n)
     ≡ all_brought sc (clock_of sc me i) span (flat_map (λ j. filter (is_between (name_of (other me) j) (name_of me i)) sc.says) (range_with_len a n))
@@ -138,7 +138,7 @@ entries-one-more : (says : List Say) (places : List ℕ) (i : ℕ) → i < lengt
 entries-one-more says places i within =
     ap (entries_at says) (take_more places i 0 within) ∙ filter_map-append (slice_get says) (take i places) (get_or places i 0 ∷ [])
 
--- what is gathered of all so far
+-- what is gathered goes on with the entry of the next place
 pub fold-more : (f : ℕ → Say → ℕ) (a : ℕ) (says : List Say) (places : List ℕ) (i : ℕ) → i < length places
     → fold f a (entries_at says (take (i + 1) places)) ≡ fold f (fold f a (entries_at says (take i places))) (entries_at says (get_or places i 0 ∷ []))
 fold-more f a says places i within =

@@ -23,7 +23,7 @@ use Rattle.rb_world_traffic.specs.declared.sending.Departure.{Departure}
 use Rattle.rb_world_traffic.specs.Arriving.{AreRunning, coming_to, lane_with, lanes_with, number_of}
 use Rattle.rb_world_traffic.specs.Departing.{IsOfScenario, with_departure, with_sent}
 
--- the sites of a kind, each of which gets what comes to it if it runs
+-- the site with what comes to it, if it runs
 abbrev gets : (ℕ → Coming) → ℕ → Site → Site
 gets coming i s = elim (s.runs) as (λ _. Site) [ true ↦ record s { coming = s.coming ++ coming i ∷ [] } | false ↦ s ]
 
@@ -50,7 +50,7 @@ all-get sizes side coming running (l ∷ ls) (s ∷ ss) i holds runs small = (
   all-get sizes side coming running ls ss (i + 1) holds.1 (λ n x at. let e : i + 1 + n ≡ i + suc n = omega arith in ap (has running) e ∙ runs (suc n) x at) small,
 )
 
--- the other kind gets nothing
+-- the sender's own kind gets nothing
 no-biu-gets : (sc : Scenario) (j frame : ℕ) (m : Sending) (ss : List Site) (i : ℕ) → map_from i (sent_to sc Biu j frame m Biu) ss ≡ ss
 no-biu-gets sc j frame m [] i = refl
 no-biu-gets sc j frame m (s ∷ ss) i = ap (λ l. s ∷ l) (no-biu-gets sc j frame m ss (i + 1))

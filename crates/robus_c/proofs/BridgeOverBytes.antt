@@ -33,7 +33,7 @@ never_both code.ReadFault h f = h
 never_both code.WriteFault h f = h
 never_both code.OutOfMemory h f = h
 
--- the end that is due, where nothing but memory has failed
+-- if only memory has failed, the status is the end that is due or `OutOfMemory`
 due_or_memory : (status end : Status) → (status ≡ end) ⊎ HasFailed status → HasEnded status ⊎ (status ≡ code.OutOfMemory) → (status ≡ end) ⊎ (status ≡ code.OutOfMemory)
 due_or_memory status end (inl is) second = inl is
 due_or_memory status end (inr failed) (inl h) = absurd (never_both status h failed)

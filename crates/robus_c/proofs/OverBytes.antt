@@ -1,4 +1,4 @@
--- What clauses over a source and a sink come to, where these tell their bytes and never fail.
+-- What clauses over a source and a sink come to if these tell their bytes and never fail.
 use Rattle.std.proofs.Common.{◌≡◌, ℕ, ◌+◌, ◌<◌, List, [], ◌++◌, length, Some, false, sym, ap, subst, ◌∙◌, arith, length-append}
 use Rattle.std.proofs.lemmas.List.{append-nil}
 use Rattle.std.specs.Io.KnownBytes.{Appends}

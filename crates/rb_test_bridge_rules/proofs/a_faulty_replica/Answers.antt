@@ -42,7 +42,7 @@ pub returns-clause-owners : goal.returns-clause-owners
 unfolding Outnumber set_below set_of size with_frame with_stage convicted_by turn close_exact outcome_of heard_from row_of sending classes_of verdict_of delay_of after_window begin_frame close_on go_through results_of sent_in step message_in close_sync sync_outcome_of
 returns-clause-owners c = lit< tt
 
--- the third offers nothing, and nobody else owns a slot
+-- no BIU but the first three owns a slot
 no-slot : (i : ℕ) → 3 ≤ i → first_slot faulty_replica.sizes slot_each i ≡ None
 no-slot i high =
     let first : (0 == i) ≡ false = grind (arith, nat_tests) in

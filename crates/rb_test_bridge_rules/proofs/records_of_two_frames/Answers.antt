@@ -28,7 +28,7 @@ pub returns-clause-later : goal.returns-clause-later
 unfolding set_below set_of size with_frame with_stage convicted_by turn close_exact outcome_of heard_from row_of sending classes_of verdict_of delay_of after_window begin_frame close_on go_through results_of sent_in step message_in close_sync sync_outcome_of
 returns-clause-later c = refl
 
--- each of them is of frame 0
+-- each record is of frame 0
 abbrev are_first : List Record → Bool
 are_first [] = true
 are_first (r ∷ rs) = nat_le (frame_told 2 r) 0 && are_first rs

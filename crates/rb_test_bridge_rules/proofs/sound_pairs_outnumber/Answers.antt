@@ -26,7 +26,7 @@ use Rattle.rb_test_bridge_rules.specs.Bridges.{outvoted, pair, slot_each}
 use Rattle.rb_test_bridge_rules.proofs.Triples.{HoldTheSlots, all_three, lawful, schedule}
 use Rattle.rb_test_bridge_rules.proofs.sound_pairs_outnumber.Goals as goal
 
--- what is handed in on the right
+-- the hand-ins on the right
 abbrev hands : List HandIn
 hands =
     record { frame = 1; biu = 0; state = 10 } ∷ record { frame = 1; biu = 1; state = 10 } ∷ record { frame = 1; biu = 2; state = 0 }

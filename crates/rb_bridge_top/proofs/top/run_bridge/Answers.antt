@@ -50,7 +50,7 @@ returns-in-Some-Run-clause-write_fault g c asked both plain e = (c.serve.ensures
 pub returns-in-Some-Run-clause-complete : goal.returns-in-Some-Run-clause-complete
 returns-in-Some-Run-clause-complete g c asked both plain = completes both c.serve.result _ _ _ _ _ _ _ _ _ _ _ _ _ _ (c.serve.ensures.answers both plain)
 
--- They are a flag.
+-- The words are a flag.
 
 pub returns-in-Some-Show-clause-usage : goal.returns-in-Some-Show-clause-usage
 returns-in-Some-Show-clause-usage g c = record {
@@ -92,7 +92,7 @@ returns-in-Some-Show-clause-write_fault g c asked = absurd (no_flag_runs c.args.
 pub returns-in-Some-Show-clause-complete : goal.returns-in-Some-Show-clause-complete
 returns-in-Some-Show-clause-complete g c asked = absurd (no_flag_runs c.args.words.now c.in-Some-Show.flag asked (subst (AskFor c.args.words.now) c.in-Some-Show.field-0-is c.in-Some-Show.ensures.some))
 
--- They are others.
+-- The words are others.
 
 pub returns-in-None-clause-shown : goal.returns-in-None-clause-shown
 returns-in-None-clause-shown g c flag asked = absurd (c.in-None.ensures.none (Show flag) asked)

@@ -7,7 +7,7 @@ use Rattle.rb_clock.proofs.Clock.late_at.Goals as goal
 abbrev kept : goal.After-from → Timeline
 kept c = record { start = c.self.inside.start; segments = c.self.inside.segments.items }
 
--- the walk, where the first segment is the only one
+-- if the first segment is the only one, the walk begins with it
 one : (c : goal.After-from) → IsAt (kept c) c.self.inside.start 0 c.from.result (drop 1 c.as_slice.result.now)
 one c = begins (kept c) c.as_slice.result.now c.from.result c.self.invariant (sym c.as_slice.ensures.value) c.in-len1-up.len_at_least c.from.ensures
 

@@ -5,7 +5,7 @@ use Rattle.rb_rules.specs.declared.say.Say.{Say}
 use Rattle.rb_test_rules.specs.Lawful.{saying, saying_from}
 use Rattle.rb_test_rules.proofs.lawful.beyond_the_edge.Goals as goal
 
--- the sole entry of a lawful scenario is one of it
+-- the sole entry is one that the lawful scenario may have
 said : (say : Say) → IsLawful (saying say) → IsSayOf (saying say) say
 said say lawful = lawful.says 0 say (omega arith)
 

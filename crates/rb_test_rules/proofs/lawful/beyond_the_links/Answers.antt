@@ -5,7 +5,7 @@ use Rattle.rb_rules.specs.declared.say.Say.{Say}
 use Rattle.rb_test_rules.specs.Lawful.{ruled_by, saying}
 use Rattle.rb_test_rules.proofs.lawful.beyond_the_links.Goals as goal
 
--- the sole rule of a lawful scenario is one of it, and so is the sole entry
+-- the sole rule is one that the lawful scenario may have, and so is the sole entry
 ruled : (rule : Rule) → IsLawful (ruled_by rule) → IsRuleOf (ruled_by rule) rule
 ruled rule lawful = lawful.rules 0 rule (omega arith)
 

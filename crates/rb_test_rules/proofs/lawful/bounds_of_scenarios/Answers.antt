@@ -7,7 +7,7 @@ use Rattle.rb_test_rules.specs.Lawful.{saying}
 use Rattle.rb_test_rules.specs.Ordinary.{ordinary_use}
 use Rattle.rb_test_rules.proofs.lawful.bounds_of_scenarios.Goals as goal
 
--- the sole entry of a lawful scenario is one of it
+-- the sole entry is one that the lawful scenario may have
 said : (say : Say) → IsLawful (saying say) → IsSayOf (saying say) say
 said say lawful = lawful.says 0 say (omega arith)
 

@@ -45,7 +45,7 @@ one-each : (me : Side) (i : ℕ) → is_good smallest_bus me i 0 4 ≡ true → 
 one-each Biu i good = ltb-true i 1 (and_first (nat_lt i 1) (is_before (get_or smallest_bus.biu_onsets i None) 0 4) good)
 one-each Rmu i good = ltb-true i 1 (and_first (nat_lt i 1) (is_before (get_or smallest_bus.rmu_onsets i None) 0 4) good)
 
--- the node is there, and trusts the RMU
+-- there is a node, and it trusts the RMU
 abbrev trusts : Side → Option NodeState → Bool
 trusts me None = false
 trusts me (Some st) = has (trusted_of Rmu me st) 0

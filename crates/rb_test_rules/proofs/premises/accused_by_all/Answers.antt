@@ -19,7 +19,7 @@ use Rattle.rb_test_rules.specs.Lies.{silent_rmu}
 use Rattle.rb_test_rules.proofs.LawfulTests.{lawful_by_tests}
 use Rattle.rb_test_rules.proofs.premises.accused_by_all.Goals as goal
 
--- the node is there, and accuses RMU 2
+-- there is a node, and it accuses RMU 2
 abbrev accuses : Option NodeState → Bool
 accuses None = false
 accuses (Some st) = has st.far.direct 2 || has st.far.mismatch 2

@@ -43,7 +43,7 @@ calls-at (suc (suc zero)) small Biu j good h = good-cases (λ j. call_tick_of tw
 calls-at (suc (suc zero)) small Rmu j good h = absurd (cc)
 calls-at (suc (suc (suc q))) small kind j good h = absurd (omega (arith, small))
 
--- each comes 10000 units later
+-- each call comes 10,000 reference units later
 brings : (q : ℕ) → q < 3 → (me : Side) (i j : ℕ) → nat_lt i 2 ≡ true → nat_lt j 2 ≡ true → listens me Sync (q + 1) ≡ true
     → BringsTheCall early_call q me i j (if q == 0 then 366 else (if q == 1 then 382 else 401))
 brings zero small Rmu i j here good h =

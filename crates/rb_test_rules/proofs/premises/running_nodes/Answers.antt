@@ -22,13 +22,13 @@ use Rattle.rb_test_rules.specs.Ordinary.{one_state}
 use Rattle.rb_test_rules.specs.Premises.{RunsAfterSlot, RunsInSlot, third_stage}
 use Rattle.rb_test_rules.proofs.premises.running_nodes.Goals as goal
 
--- a node is found that runs, has a tick to come, and is in the third stage of slot 2
+-- the node runs, has a tick to come, and is in the third stage of slot 2
 abbrev is_found : Side → Option Site → Bool
 is_found me None = false
 is_found me (Some s) =
     s.runs && (is_some s.ahead && (((ready_state one_state me s.core).frame == 0) && (((open_window one_state me s.core).slot == 2) && ((open_window one_state me s.core).stage == 3))))
 
--- what is known of one that is
+-- node `i` runs, and is in the third stage of slot 2 of frame 0
 record Found (w : World) (me : Side) (i : ℕ) : Type 0 where
   node : RunningNode w me
   index : node.index ≡ i

@@ -13,7 +13,7 @@ use Rattle.rb_world.proofs.Told.{begin-none}
 use Rattle.rb_world.proofs.Whole.{act_of, may-then, sees-nodes, told-then, whole}
 use Rattle.rb_world.proofs.ticking.tick.Goals as goal
 
--- a window ends, and nothing else happens
+-- the step in which a window ends and nothing else happens
 abbrev end : Step
 end = record { epoch = None; message = None; closed = true }
 
