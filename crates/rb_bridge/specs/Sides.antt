@@ -76,20 +76,21 @@ drive_of is_plain told since = record { is_plain = is_plain; told = told; since 
 
 -- Between two frames, with any drive.
 
--- these turns were given. The last one is beyond the frame of which all is kept that the turns tell
+-- the drive has given the turns `before`, which do not end the run, and then the turn of side s,
+-- with which the frame of s is over. What is kept of that frame is all that `before` tells of it
 pub record HasPassed (sc : Scenario) (handed : List HandIn) (is_plain : Bool) (told since : Option (List Turn)) (s : Side) (before : List Turn) : Type 0 where
   pub given : IsUnderWay sc handed is_plain told since s.world (before ++ s.turn ∷ []) (is_last (record_of s.turn))
   pub going : AreNotLast before
   pub holds : HoldsPassage s.terms s.passage.ports.frame (records_in before) s.passage
   pub over : is_over s.terms.frames s.passage.ports.frame (record_of s.turn) ≡ true
 
--- the last of the turns ended the run
+-- side s has passed its frame after some turns of its drive
 pub record HasStopped (sc : Scenario) (handed : List HandIn) (is_plain : Bool) (told since : Option (List Turn)) (s : Side) : Type 0 where
   pub before : List Turn
   pub passed : HasPassed sc handed is_plain told since s before
 
--- these turns were given, and all is kept that they tell of the frame that has begun, unless the
--- run has ended
+-- the drive has given `turns`. If the run goes on, what is kept of the frame of side s is all that
+-- `turns` tell of it. If the run has ended, s has passed its frame
 pub record IsReady (sc : Scenario) (handed : List HandIn) (is_plain : Bool) (told since : Option (List Turn)) (s : Side) (turns : List Turn) : Type 0 where
   pub given : IsUnderWay sc handed is_plain told since s.world turns (is_last (record_of s.turn))
   pub holds : is_last (record_of s.turn) ≡ false → HoldsPassage s.terms s.passage.ports.frame (records_in turns) s.passage

@@ -17,7 +17,7 @@ pub record SaysBuses (t : Members) (left right : Accepted) : Type 0 where
   pub left_text : IsAccepted (text_at (codes "left") t) left
   pub right_text : IsAccepted (text_at (codes "right") t) right
 
--- this is the first rule that a document breaks
+-- a refusal names the first rule that document t breaks. BridgeToml and OutOfMemory name none
 abbrev pub IsFirstBroken : Members → BridgeRefusal → Type 0
 IsFirstBroken t BridgeToml = ⊥
 IsFirstBroken t BridgeForm = has_bridge_form t ≡ false
@@ -29,7 +29,7 @@ IsFirstBroken t BridgeRange =
     (left : Accepted) × ((right : Accepted) × (SaysBuses t left right × (is_in_range (as_scenario left) (as_scenario right) t ≡ false)))
 IsFirstBroken t OutOfMemory = ⊥
 
--- the bytes are the text of a document that breaks it
+-- the bytes are the text of a document, and `why` names the first rule that this document breaks
 pub record IsBridgeBroken (bytes : List ℕ) (why : BridgeRefusal) : Type 0 where
   pub document : Members
   pub text : IsDocument bytes document
@@ -41,7 +41,7 @@ IsBridgeRefused bytes BridgeToml = (t : Members) → ¬ IsDocument bytes t
 IsBridgeRefused bytes OutOfMemory = ⊤
 IsBridgeRefused bytes why = IsBridgeBroken bytes why
 
--- the bridge that the code's own shows
+-- the bridge of the definitions that bridge b of the code stands for
 abbrev pub as_bridge : Kept → Bridge
 as_bridge b = record {
   left = as_scenario b.left;
@@ -51,7 +51,7 @@ as_bridge b = record {
   right_slot = b.right_slot;
 }
 
--- the document breaks no rule, and says the bridge
+-- the document breaks no rule, and says bridge b
 pub record SaysBridge (document : Members) (b : Bridge) : Type 0 where
   pub left : Accepted
   pub right : Accepted
@@ -59,13 +59,13 @@ pub record SaysBridge (document : Members) (b : Bridge) : Type 0 where
   pub range : is_in_range (as_scenario left) (as_scenario right) document ≡ true
   pub is : b ≡ bridge_of (as_scenario left) (as_scenario right) document
 
--- the bytes are the text of such a document
+-- the bytes are the text of a document that breaks no rule and says bridge b
 pub record IsBridgeAccepted (bytes : List ℕ) (b : Bridge) : Type 0 where
   pub document : Members
   pub text : IsDocument bytes document
   pub says : SaysBridge document b
 
--- Which refusal comes of a scenario's.
+-- The refusal of a bridge for a refusal of one of its scenarios.
 
 abbrev pub left_refusal : Refusal → BridgeRefusal
 left_refusal scenario.OutOfMemory = OutOfMemory

@@ -70,12 +70,13 @@ pub record Opens (text : List ℕ) (b : Bus) : Type 0 where
 
 -- Records.
 
--- after n records this is record n of the rounds, counted from 0, and now it is given too
+-- after n records r is record n of the rounds, counted from 0, and now r is given too
 pub record GivesNext (run : Run) (r : Record) (after : Bus) : Type 0 where
   pub is_next : slice_get (records_in run) (length run.given) ≡ Some r
   pub runs : HasRun (with_record run r) after
 
--- this is the last of the records given, once more
+-- record r is the last of the records that the run has given. It is given once more, and the run
+-- stays as it is
 pub record GivesLastAgain (run : Run) (r : Record) (after : Bus) : Type 0 where
   pub others : List Record
   pub is : run.given ≡ others ++ r ∷ []

@@ -28,9 +28,9 @@ AreTakenOf kept s e expected taken = (received : List Received) → HoldsArrival
 abbrev pub AccusesBy : KeptArrivals → Standing → Expect → ℕ → Standing → Type 0
 AccusesBy kept s e expected after = (received : List Received) → HoldsArrivals kept received → after ≡ with_evidence (has_evidence s (has expected) (sense_in e received)) s
 
--- of the sources in `left` only those in `rest` are left: each of the others has the same bytes as
--- `sole`, and `value` is what was taken of it, perhaps nothing; nothing changed for those that were
--- not left before
+-- the sources in `rest` are some of those in `left`. Each other source in `left` has the bytes of
+-- `sole`, and `value` is what is accepted from it, perhaps nothing. For the sources outside of
+-- `left` nothing changes
 pub record IsRun (kept : KeptArrivals) (left rest : ℕ) (sole : Sole) (value : Option Heard) (before taken : List (Option Heard)) : Type 0 where
   pub within : (j : ℕ) → j < 16 → has rest j ≡ true → has left j ≡ true
   pub same : (j : ℕ) → j < 16 → has left j ≡ true → has rest j ≡ false

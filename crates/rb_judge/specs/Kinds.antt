@@ -119,7 +119,8 @@ pub record KnowsKind (kind : Side) (stages : List JudgedStage) (s : KeptKind) : 
   pub unlike : (j : ℕ) → j < 16 → unlike_so_far s j ≡ list_any (was_unlike kind j) stages
   pub taken : (j : ℕ) → j < 16 → taken_so_far s j ≡ list_any (was_taken kind j) stages
 
--- these are the sets of the nodes of this kind in a stage
+-- `sets` are the sets of the nodes of a kind in stage s: the good ones, the trusted ones, those
+-- from which something was accepted, and those that were seen unlike
 pub record AreSetsOf {K : Type 0} (kind : Side) (sets : StageSets K) (s : JudgedStage) : Type 0 where
   pub good : sets.good ≡ s.good kind
   pub trusted : sets.trusted ≡ s.trusted kind

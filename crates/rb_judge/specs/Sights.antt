@@ -56,8 +56,8 @@ is_unlike Unlike = true
 is_unlike (Value v) = false
 is_unlike (Times least greatest) = false
 
--- this is kept of what the receivers saw: whether two saw the source unlike, and if not, what
--- decides of each further sight of something whether it is unlike one of theirs
+-- `kept` says whether two receivers saw the source unlike. If none did, `kept` decides whether a
+-- further sight of something is unlike a sight of one of the receivers
 pub record IsKept (eps nodes : ℕ) (sight : ℕ → See) (kept : KeptSight) : Type 0 where
   pub unlike : is_unlike kept ≡ some_unlike eps nodes sight
   pub further : is_unlike kept ≡ false → (x : See) → is_something x ≡ true → clashes eps kept x ≡ some_differs eps nodes sight x

@@ -22,7 +22,7 @@ use Rattle.rb_laws_agreement.specs.Values.{vote_on}
 
 -- One stage at one node.
 
--- these good sources outnumber the other sources from which a node accepts something in a stage
+-- the good sources outnumber the other sources from which a node accepts something in a stage
 abbrev pub GoodOutnumber : (ℕ → Bool) → (ℕ → Option Heard) → Type 0
 GoodOutnumber good takes = count_if (λ j. not (good j) && is_some (takes j)) (numbers 16) < count_if good (numbers 16)
 
@@ -44,7 +44,8 @@ VotesAgree =
 
 -- A slot at all nodes.
 
--- who is good in a slot, what each node holds before it, and what comes
+-- a slot at all nodes: the good nodes, the state and the word of each node before the slot, and
+-- what the nodes get in its stages
 pub record Exchange : Type 0 where
   pub sizes : Sizes
   pub slot : ℕ
@@ -63,7 +64,7 @@ unfoldable pub state_after : Exchange → ℕ → Side → ℕ → NodeState
 state_after x zero me i = x.before me i
 state_after x (suc q) me i = (closes_in x (q + 1) me i (state_after x q me i)).state
 
--- what it takes of source j in the stage after these
+-- what node i of kind me accepts from source j in the stage after the first q stages
 abbrev pub takes_after : Exchange → ℕ → Side → ℕ → ℕ → Option Heard
 takes_after x q me i j =
     let st = state_after x q me i in
@@ -123,7 +124,7 @@ VoteAlike x =
     (me you : Side) (i j : ℕ) → x.good me i ≡ true → x.good you j ≡ true
     → votes_on x.sizes x.slot me ≡ true → votes_on x.sizes x.slot you ≡ true → vote_after x me i ≡ vote_after x you j
 
--- who sends in stage 1, by what all good nodes hold
+-- the sender in stage 1 of the slot, by the trusted nodes and the owners that all good nodes hold
 abbrev pub sender_of : Exchange → (Side → ℕ) → List ℕ → Sender
 sender_of x trusted owners = sender_in (trusted Biu) (trusted Rmu) owners (role_of x.sizes x.slot)
 

@@ -60,7 +60,7 @@ frame_told frames (Slot frame slot lines) = frame
 frame_told frames Ended = frames
 frame_told frames (Breach place cause) = place.frame
 
--- these records tell of a frame what all records of the run tell of it
+-- `records` tell the deliveries and the breach of a frame as all records of the run tell them
 pub record TellAll (sc : Scenario) (hands : List HandIn) (frame : ℕ) (records : List Record) : Type 0 where
   pub deliveries : (receiver : ℕ) → port_deliveries frame receiver records ≡ port_deliveries frame receiver (records_of sc hands)
   pub breach : (bank : Bank) → break_in bank frame records ≡ break_in bank frame (records_of sc hands)

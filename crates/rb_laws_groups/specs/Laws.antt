@@ -30,7 +30,7 @@ IsGoodPort sc frame i = is_good sc Biu i frame (last_data_slot sc.sizes) ≡ tru
 abbrev pub AreServed : Scenario → List HandIn → ℕ → Type 0
 AreServed sc hands frame = IsComplete sc hands frame (last_data_slot sc.sizes)
 
--- these are the owners of the data slots, by the schedule of any good node
+-- `owner` gives the owner of each data slot of the frame as each node holds it that is good there
 abbrev pub IsSchedule : Scenario → List HandIn → ℕ → (ℕ → Option ℕ) → Type 0
 IsSchedule sc hands frame owner =
     (slot : ℕ) → sc.sizes.bius ≤ slot → slot ≤ last_data_slot sc.sizes
@@ -38,7 +38,7 @@ IsSchedule sc hands frame owner =
 
 -- The owners of slots.
 
--- the answer is this number
+-- the answer is the number i
 abbrev pub is_number : ℕ → Option ℕ → Bool
 is_number i None = false
 is_number i (Some n) = n == i
@@ -74,7 +74,7 @@ is_good_owner sc hands frame owner members i = has members i && is_some (offer_o
 abbrev pub offers : Scenario → List HandIn → ℕ → (ℕ → Option ℕ) → ℕ → ℕ → ℕ → Bool
 offers sc hands frame owner members word i = has members i && is_number word (offer_of sc hands frame owner i)
 
--- of the 16 BIUs that there may be more pass the first test than pass only the second
+-- among the 16 BIUs that there may be, more pass the test `chosen` than pass only the test `all`
 unfoldable pub Outnumber : (ℕ → Bool) → (ℕ → Bool) → Type 0
 Outnumber chosen all = count_if (λ i. not (chosen i) && all i) (numbers 16) < count_if chosen (numbers 16)
 

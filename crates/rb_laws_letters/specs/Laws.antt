@@ -44,7 +44,7 @@ SendersSendTheirLetters = (calls : List Call) → SendsItsLetters (after_calls c
 
 -- Rounds.
 
--- these are the first records of a scenario's run, or all of them
+-- `records` are the first records of the run of a scenario, or all of them
 abbrev pub AreFirst : Scenario → List HandIn → List Record → Type 0
 AreFirst sc hands records = IsFirstPart records (records_of sc hands)
 

@@ -1,4 +1,4 @@
--- Who is good in the slots of records, and what a BIU offers in them.
+-- The slots of records in which a BIU is good, and what it offers in them.
 use Rattle.std.specs.Prelude.{ℕ, ◌≡◌, ◌==◌, All, Bool, true, false, if◌then◌else◌, Option, Some, None, List, [], ◌∷◌, get_or}
 use Rattle.std.specs.List.{flat_map}
 use Rattle.rb_base.specs.Nodes.Side.{Biu}
@@ -10,27 +10,27 @@ use Rattle.rb_rules.specs.NodeState.{NodeState, first_state}
 use Rattle.rb_rules.specs.NodeSteps.{owner_at}
 use Rattle.rb_rules.specs.Ports.{HandIn}
 
--- the BIU is good in the slot that this record tells
+-- BIU i is good in the slot that a record tells
 abbrev pub is_good_in : Scenario → ℕ → Record → Bool
 is_good_in sc i (Frame frame nodes ports) = true
 is_good_in sc i (Slot frame slot lines) = is_good sc Biu i frame slot
 is_good_in sc i Ended = true
 is_good_in sc i (Breach place cause) = true
 
--- BIU i is good in all that these records tell
+-- BIU i is good in all slots that `records` tell
 abbrev pub IsGoodThrough : Scenario → ℕ → List Record → Type 0
 IsGoodThrough sc i records = All (λ r. is_good_in sc i r ≡ true) records
 
--- the BIU's state before a slot
+-- the state of BIU i before a slot
 abbrev pub state_before : Scenario → List HandIn → ℕ → ℕ → ℕ → NodeState
 state_before sc hands frame slot i = get_or (of_kind Biu (before_slot sc hands frame slot).nodes) i (first_state sc.sizes Biu)
 
--- this BIU is the owner
+-- BIU i is the owner of a slot
 abbrev pub is_owner : ℕ → Option ℕ → Bool
 is_owner i None = false
 is_owner i (Some owner) = owner == i
 
--- the word that the BIU offers in the slot of a record, if it owns that slot
+-- the word that BIU i offers in the slot of a record, if it owns that slot
 abbrev pub offers : Scenario → List HandIn → ℕ → Record → List ℕ
 offers sc hands i (Frame frame nodes ports) = []
 offers sc hands i (Slot frame slot lines) =
@@ -38,6 +38,6 @@ offers sc hands i (Slot frame slot lines) =
 offers sc hands i Ended = []
 offers sc hands i (Breach place cause) = []
 
--- the words that it offers in the slots of these records, in order
+-- the words that BIU i offers in the slots of `records`, in order
 abbrev pub offered_by : Scenario → List HandIn → ℕ → List Record → List ℕ
 offered_by sc hands i records = flat_map (offers sc hands i) records

@@ -86,11 +86,11 @@ if_stamped k (Some s) = if suc s.tick == k then comes s ∷ [] else []
 unfoldable pub heard_with : ℕ → List Coming
 heard_with k = elim (is_offset k) [ true ↦ if_stamped k (sends_at (window_of k)) | false ↦ [] ]
 
--- this listener starts when the bus does
+-- a listener that starts when the bus does, and 484 of its ticks. Each message takes a tick
 abbrev pub ear : Ear
 ear = record { clock = steady; delay = λ j place. 10000; heard = heard_with; ticks = 484 }
 
--- what it has found by a tick, while it seeks and learns
+-- the search of a listener that seeks or learns. For any other listener it is the first search
 abbrev pub search_in : Listening → Search
 search_in (now.Searching s) = s
 search_in (now.Waiting had first) = first_search
@@ -99,6 +99,6 @@ search_in (now.Following core) = first_search
 unfoldable pub found_by : ℕ → Search
 found_by k = search_in (listening_at two_frames ear k)
 
--- this listener learns frame 1, and decides with tick 463
+-- what the listener has found by tick 463, with which it decides. It has learned frame 1
 abbrev pub decided : Search
 decided = found_by 463

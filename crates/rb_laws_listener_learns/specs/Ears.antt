@@ -28,7 +28,7 @@ pub record Ear : Type 0 where
   pub heard : ℕ → List Coming
   pub ticks : ℕ
 
--- this message comes to the listener with this stamp
+-- message c comes to the listener with stamp k
 pub record IsHeard (ear : Ear) (k : ℕ) (c : Coming) : Type 0 where
   pub nth : ℕ
   pub there : slice_get (ear.heard k) nth ≡ Some c
@@ -44,7 +44,7 @@ pub record IsEar (sc : Scenario) (ear : Ear) : Type 0 where
 
 -- What good RMUs send.
 
--- window n of the run comes before its end. RMU j is good there, and sends this
+-- window n of the run comes before its end. RMU j is good there, and sends s
 pub record SendsIn (sc : Scenario) (hands : List HandIn) (n j : ℕ) (s : Sending) : Type 0 where
   pub running : IsRunning (moment sc hands n)
   pub in_frame : (moment sc hands n).window < windows_in sc.sizes

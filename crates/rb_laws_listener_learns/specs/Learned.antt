@@ -50,7 +50,7 @@ pub record HasCall (sc : Scenario) (hands : List HandIn) (ear : Ear) (frame : �
   pub recorded : stamp_in (record_of records (sync_slot_of sc.sizes) j) ≡ Some stamp
   pub time : call_time sc ear frame j stamp ≡ (coming_to sc ear j frame sending).time
 
--- these are the trusted nodes at each node that is good in the slot
+-- each node that is good in the slot trusts the BIUs `bius` and the RMUs `rmus`, and no others
 pub record AreTrusted (sc : Scenario) (hands : List HandIn) (frame slot bius rmus : ℕ) : Type 0 where
   pub biu : (me : Side) (i : ℕ) (st : NodeState) → IsGoodBefore sc hands frame slot me i st → trusted_of Biu me st ≡ bius
   pub rmu : (me : Side) (i : ℕ) (st : NodeState) → IsGoodBefore sc hands frame slot me i st → trusted_of Rmu me st ≡ rmus

@@ -26,11 +26,11 @@ use Rattle.rb_laws_logs.specs.Replays.{replay_text}
 abbrev pub first_tick_of : NodeName → ℕ → NodeLine → List ℕ
 first_tick_of name frame n = if same_node n.node name then epoch_text frame name n.tick None else []
 
--- whom it holds convicted
+-- the line of the nodes that a node holds convicted when it begins a frame
 abbrev pub convicted_by : NodeName → ℕ → NodeLine → List ℕ
 convicted_by name frame n = if same_node n.node name then convicted_text frame name n.biu n.rmu else []
 
--- what it delivered in a slot
+-- the line of what a node delivered in a slot
 abbrev pub delivered_by : NodeName → ℕ → ℕ → SlotLine → List ℕ
 delivered_by name frame slot l = if same_node (Biu l.receiver) name then delivery_text frame slot l.receiver l.sender l.value else []
 

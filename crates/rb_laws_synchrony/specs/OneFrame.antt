@@ -26,15 +26,15 @@ use Rattle.rb_laws_synchrony.specs.OneStage.{Listener, TakeNear, stamp_taken}
 
 -- A frame at all nodes.
 
--- who is good in the frame, each node's clock and its state before the sync slot, and what comes in
--- the three stages of that slot
+-- a frame at all nodes: the good nodes, the clock of each node and its state before the sync slot,
+-- and what the nodes get in the three stages of that slot
 pub record Frame : Type 0 where
   pub sizes : Sizes
   pub plan : Plan
   pub good : Side → ℕ → Bool
   pub clock : Side → ℕ → Timeline
   pub before : Side → ℕ → NodeState
-  -- in a stage, to node i of a kind, from source j of the other kind
+  -- what node i of a kind gets from source j of the other kind in a stage
   pub came : ℕ → Side → ℕ → ℕ → Sense
 
 -- the number of the window of the sync slot's stage after q stages

@@ -44,21 +44,21 @@ size_of (Ticks count) = 5
 size_of (Arrival from size) = 3 + size
 size_of End = 1
 
--- how many ticks it tells of
+-- how many ticks a record tells of
 abbrev pub ticks_of : Entry → ℕ
 ticks_of (Tick word) = 1
 ticks_of (Ticks count) = count
 ticks_of (Arrival from size) = 0
 ticks_of End = 0
 
--- the events that it tells of
+-- the events that a record at a place of the bytes tells of
 abbrev pub events_of : List ℕ → ℕ → Entry → List CoreEvent
 events_of bytes place (Tick word) = event.Tick word ∷ []
 events_of bytes place (Ticks count) = replicate count (event.Tick 0)
 events_of bytes place (Arrival from size) = event.Arrive from (slice_range bytes (place + 3) (place + 3 + size)) ∷ []
 events_of bytes place End = []
 
--- these events before the others
+-- `events` before the other events. A refusal stays as it is
 abbrev pub before : List CoreEvent → Result (List CoreEvent) LogRefusal → Result (List CoreEvent) LogRefusal
 before events (Ok others) = Ok (events ++ others)
 before events (Err fault) = Err fault

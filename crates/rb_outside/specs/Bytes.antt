@@ -2,20 +2,20 @@
 use Rattle.std.specs.Prelude.{◌≡◌, ℕ, List, ◌++◌, length, Option}
 use Rattle.std.specs.Io.KnownBytes.{Appends, Consumes, IsAtEnd}
 
--- a first part of these bytes was appended, perhaps none and perhaps all
+-- a first part of `bytes` was appended, perhaps none and perhaps all
 pub record AppendsPart (before after : Option (List ℕ)) (bytes : List ℕ) : Type 0 where
   pub part : List ℕ
   pub rest : List ℕ
   pub whole : bytes ≡ part ++ rest
   pub appended : Appends before after part
 
--- some bytes were given, and this holds of their number
+-- some bytes were given, and P holds of their number
 pub record Gave (before after : Option (List ℕ)) (P : ℕ → Type 0) : Type 0 where
   pub given : List ℕ
   pub consumed : Consumes before after given
   pub number : P (length given)
 
--- these are all the bytes that were left
+-- `bytes` were given, and they are all that was left
 pub record ReadsToEnd (before after : Option (List ℕ)) (bytes : List ℕ) : Type 0 where
   pub consumed : Consumes before after bytes
   pub at_end : IsAtEnd after

@@ -15,7 +15,7 @@ use Rattle.rb_picture.specs.Sheets.{sheet_height, sheet_width}
 abbrev pub last_whole : Extent → ℕ
 last_whole extent = if is_behind extent extent.last then extent.last - 1 else extent.last
 
--- which of the run's frames are drawn
+-- the words that name the frames of the run that are drawn
 abbrev pub frames_words : Extent → List ℕ
 frames_words extent =
     if nat_lt extent.last extent.first then codes "No frame"
@@ -23,7 +23,7 @@ frames_words extent =
     else if extent.first == last_whole extent then codes "Frame " ++ decimal extent.first
     else ((codes "Frames " ++ decimal extent.first) ++ codes " to ") ++ decimal (last_whole extent)
 
--- how many frames the run has, if it came to its end
+-- the words for the number of frames of the run, if it came to its end
 abbrev pub run_words : Extent → List ℕ
 run_words extent = if nat_lt extent.run 4294967296 then codes " of " ++ decimal extent.run else []
 

@@ -167,7 +167,7 @@ abbrev pub lane_of : Each Held → NodeName → Held
 lane_of lanes (node.Biu i) = unwrap_or (slice_get lanes.bius i) (empty_lane 0)
 lane_of lanes (node.Rmu i) = unwrap_or (slice_get lanes.rmus i) (empty_lane 0)
 
--- this node's lane changes, and no other
+-- the lanes with `lane` as the lane of a node, and all others as they are
 abbrev pub with_lane : NodeName → Held → Each Held → Each Held
 with_lane (node.Biu i) lane lanes = record lanes { bius = slice_set lanes.bius i lane }
 with_lane (node.Rmu i) lane lanes = record lanes { rmus = slice_set lanes.rmus i lane }

@@ -17,7 +17,7 @@ use Rattle.rb_record.specs.Buffering.{PassesOn}
 abbrev pub timetable_of : Scenario → Timetable
 timetable_of sc = record { sizes = sc.sizes; plan = sc.plan }
 
--- the log in which a node of the bus is given these events
+-- the log in which a node of the bus is given `events`
 abbrev pub log_text : Scenario → NodeName → List Event → List ℕ
 log_text sc name events = header_of (timetable_of sc) name ++ written 0 events
 
@@ -27,7 +27,7 @@ pub record WritesAll (sc : Scenario) (name : NodeName) (held since : Option (Lis
   pub given : AreGiven sc name events
   pub text : Appends held since (log_text sc name events)
 
--- a first part of it
+-- a first part of the log of all that the node is given in the run was written
 pub record WritesPart (sc : Scenario) (name : NodeName) (held since : Option (List ℕ)) : Type 0 where
   pub events : List Event
   pub given : AreGiven sc name events
@@ -35,22 +35,22 @@ pub record WritesPart (sc : Scenario) (name : NodeName) (held since : Option (Li
 
 -- While the run goes on.
 
--- a log that has `ticks` ticks has room for this event: a log has at most 2^31 ticks, and what
--- arrives has bytes
+-- a log of `ticks` ticks has room for event e: a log has at most 2^31 ticks, and an arrival has
+-- bytes
 abbrev pub HasRoom : ℕ → Event → Type 0
 HasRoom ticks e = (ticks + ticks_given e ≤ 2147483648) × HasBytes e.kind
 
--- these events may be told one after another
+-- a log of `ticks` ticks has room for the events, one after another
 abbrev pub MayTell : ℕ → List Event → Type 0
 MayTell ticks [] = ⊤
 MayTell ticks (e ∷ events) = HasRoom ticks e × MayTell (ticks + ticks_given e) events
 
--- the writer was told these events: these bytes are complete with them, whatever follows
+-- the writer was told `events`, with which `bytes` are complete, whatever follows
 pub record IsTold (before after : Tally) (events : List Event) (bytes : List ℕ) : Type 0 where
   pub text : (others : List Event) → written before.waiting (events ++ others) ≡ bytes ++ written after.waiting others
   pub ticks : after.ticks ≡ before.ticks + ticks_in events
 
--- these events come next in the log, and the bytes that are complete with them were passed on
+-- `events` come next in the log, and the bytes that are complete with them were passed on
 pub record PassesNext (log later : Tally) (before after : List ℕ) (events : List Event) (held since : Option (List ℕ)) : Type 0 where
   pub bytes : List ℕ
   pub told : IsTold log later events bytes

@@ -41,7 +41,7 @@ first_bus sizes low = record {
   rmus = set_of (λ i. nat_lt i sizes.rmus);
 }
 
--- who sends in the slot that comes next
+-- the sender in stage 1 of the slot that comes next
 abbrev pub sender_on : Sizes → AbstractBus → Sender
 sender_on sizes bus = sender_in bus.bius bus.rmus bus.owners (role_of sizes bus.slot)
 

@@ -49,6 +49,6 @@ trusted_of Biu Rmu st = st.far.trusted
 trusted_of Rmu Biu st = st.far.trusted
 trusted_of Rmu Rmu st = st.near
 
--- who sends in stage 1 of a slot, as a node of kind me holds it
+-- the sender in stage 1 of a slot, as a node of kind me in state st holds it
 abbrev pub sender_at : Sizes → Side → NodeState → ℕ → Sender
 sender_at sizes me st slot = sender_in (trusted_of me Biu st) (trusted_of me Rmu st) st.owners (role_of sizes slot)

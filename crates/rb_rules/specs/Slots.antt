@@ -53,7 +53,7 @@ abbrev pub listens : Side → Role → ℕ → Bool
 listens me role stage =
     if same_side me (sender_kind role) then stage == 2 else ((stage == 1) || ((stage == 3) && has_third_stage role))
 
--- which nodes send in stage 1 of a slot
+-- the sender in stage 1 of a slot: nobody, one node, or each trusted node of the kind that sends
 pub data Sender : Type 0 where
   Nobody : Sender  -- the slot is idle
   Node : (index : ℕ) → Sender
@@ -68,7 +68,7 @@ abbrev pub if_owned : Option ℕ → Sender
 if_owned None = Nobody
 if_owned (Some i) = Node i
 
--- who sends in stage 1, by the trusted BIUs and RMUs and the owners of the data slots in order
+-- the sender in stage 1 of a slot, by the trusted BIUs and RMUs and the data slots' owners in order
 abbrev pub sender_in : ℕ → ℕ → List ℕ → Role → Sender
 sender_in bius rmus owners (Schedule i) = if_trusted bius i
 sender_in bius rmus owners (Data n) = if_owned (slice_get owners n)

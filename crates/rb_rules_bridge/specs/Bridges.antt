@@ -26,12 +26,12 @@ abbrev pub bus_on : Bridge → Bank → Scenario
 bus_on b Left = b.left
 bus_on b Right = b.right
 
--- which of its data slots is carried over
+-- the data slot of the bus on a bank that is carried over, counted from 0
 abbrev pub slot_on : Bridge → Bank → ℕ
 slot_on b Left = b.left_slot
 slot_on b Right = b.right_slot
 
--- the number of that slot in a frame
+-- the number in a frame of the slot that is carried over from the bus on a bank
 abbrev pub carried_slot : Bridge → Bank → ℕ
 carried_slot b bank = (bus_on b bank).sizes.bius + slot_on b bank
 

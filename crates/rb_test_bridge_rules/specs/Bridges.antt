@@ -175,7 +175,7 @@ two_of_a_sender =
     ∷ record { frame = 0; slot = 5; sender = 0; value = Word 11 }
     ∷ []
 
--- of two values of BIU 0 one is delivered at receiver 0, and the other at receiver 1
+-- receiver 0 delivers one of two values of BIU 0, and receiver 1 the other
 abbrev pub one_at_each : List Record
 one_at_each =
     Slot 0 3 (record { receiver = 0; sender = 0; value = Word 10 } ∷ [])

@@ -6,8 +6,8 @@ use Rattle.rb_world_book.specs.declared.milestone.Milestone.{Milestone}
 use Rattle.rb_world_book.specs.declared.told.Told.{Told}
 use Rattle.rb_world_book.specs.Telling.{has_told}
 
--- this is what the node told last now, and the node is awaited if and only if it is good and has
--- not told of the milestone; the other nodes are awaited as before
+-- t is now what a node told last, and the node is awaited if and only if it is good and t does not
+-- tell of milestone m. Nothing else has changed
 pub record IsNoted {K : Type 0} (before after : Group K) (node : ℕ) (m : Milestone) (t : Told) : Type 0 where
   pub told : after.told ≡ slice_set before.told node t
   pub good : after.good ≡ before.good
@@ -15,7 +15,7 @@ pub record IsNoted {K : Type 0} (before after : Group K) (node : ℕ) (m : Miles
   pub counted : after.counted ≡ before.counted
   pub waiting : after.waiting ≡ set_of (λ i. if i == node then has before.good node && not (has_told m t) else has before.waiting i)
 
--- the same nodes are good, and all of them are awaited
+-- all good nodes are awaited, and nothing else has changed
 pub record AwaitsGood {K : Type 0} (before after : Group K) : Type 0 where
   pub told : after.told ≡ before.told
   pub good : after.good ≡ before.good

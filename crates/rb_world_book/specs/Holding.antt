@@ -92,7 +92,7 @@ pub record Fits (sc : Scenario) (l : KeptBook) : Type 0 where
   pub eps : l.eps ≡ sc.plan.dmax - sc.plan.dmin
   pub onsets : l.onsets ≡ faults_of sc
 
--- this is kept of what the nodes of a world have told, and of its book, but for the records given
+-- l is what is kept of world w: what its nodes have told, and its book but for the records given
 pub record Holds (sc : Scenario) (l : KeptBook) (w : World) : Type 0 where
   pub fits : Fits sc l
   pub upcoming : w.book.upcoming ≡ milestone_of l.upcoming
@@ -110,7 +110,7 @@ pub record Holds (sc : Scenario) (l : KeptBook) (w : World) : Type 0 where
 abbrev pub passed : Scenario → World → World
 passed sc w = record w { book = book_with sc w.sites w.book w.book.upcoming }
 
--- the next milestone is settled, and this is the record that it gives, if any
+-- the next milestone of world w is settled, and `turn` is the record that it gives, if any
 pub record Passes (sc : Scenario) (w : World) (after : KeptBook) (turn : Turn) : Type 0 where
   pub holds : Holds sc after (passed sc w)
   pub record_is : record_of turn ≡ record_since w (passed sc w)
@@ -154,7 +154,8 @@ pub record AllStay {B R : Type 0} (bs : Group B) (rs : Group R) : Type 0 where
   pub bius : bs.good ≡ bs.lasting
   pub rmus : rs.good ≡ rs.lasting
 
--- the same nodes of a kind are good at the next stage
+-- if `good` are the nodes of a kind that are good at `place`, and `lasting` those that are good to
+-- the end of its frame, then `good` are also the nodes that are good at `next`
 abbrev pub GoodNext : Side → Sizes → ℕ → ℕ → Place → Place → Type 0
 GoodNext kind sizes good lasting place next =
     (sc : Scenario) → sizes ≡ sc.sizes → place.slot ≤ sync_slot_of sc.sizes → good ≡ good_at sc kind place.frame place.slot

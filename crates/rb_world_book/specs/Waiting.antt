@@ -16,11 +16,11 @@ use Rattle.rb_world_book.specs.declared.milestone.Milestone.{Milestone}
 use Rattle.rb_world_book.specs.declared.told.Told.{Told}
 use Rattle.rb_world_book.specs.Telling.{begun_told, has_told, row_seeing, row_told, see_of, told_at}
 
--- those of the first `count` nodes that are good and have not told of a milestone
+-- the nodes among the first `count` that are good and have not told of milestone m
 unfoldable pub waiting_for : ℕ → ℕ → Milestone → List Told → ℕ
 waiting_for count good m told = set_of (λ i. nat_lt i count && (has good i && not (has_told m (told_at told i))))
 
--- those of the first `count` nodes that are not in a set
+-- the nodes among the first `count` that are not in the set `out`
 abbrev pub all_but : ℕ → ℕ → ℕ
 all_but count out = set_of (λ j. nat_lt j count && not (has out j))
 

@@ -59,7 +59,7 @@ sooner_frame first s = min first s.frames.0
 abbrev pub first_frame : List Say → ℕ
 first_frame says = fold sooner_frame 4294967296 says
 
--- the last
+-- the last frame of which one of the entries speaks
 abbrev pub later_frame : ℕ → Say → ℕ
 later_frame last s = max last s.frames.1
 
@@ -70,7 +70,7 @@ last_frame says = fold later_frame 0 says
 abbrev pub entries_at : List Say → List ℕ → List Say
 entries_at says places = filter_map (slice_get says) places
 
--- these are the numbers of the entries for a node
+-- `places` are the numbers of the entries for `to` from the first `senders` nodes of the other kind
 pub record AreFor (says : List Say) (to : NodeName) (senders : ℕ) (places : List ℕ) : Type 0 where
   pub entries : entries_at says places ≡ entries_to to senders says
   pub many : length places ≡ length (entries_to to senders says)
