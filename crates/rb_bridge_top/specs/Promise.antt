@@ -17,9 +17,9 @@ pub record KeepsTheBridge (status : Status) (left left' held held' : Option (Lis
   pub input : List ℕ
   pub bridge : Bridge
   pub read : ReadsToEnd left left' input  -- the input is read to its end
-  pub accepted : IsBridgeAccepted input bridge  -- it is the text of an accepted bridge
+  pub accepted : IsBridgeAccepted input bridge  -- the input is the text of an accepted bridge
   pub is : IsBridge bridge  -- both buses of the bridge are lawful, and the bridge fits them
-  pub written : Appends held held' (bridge_text bridge)  -- what was added to the sink is the text of that bridge
+  pub written : Appends held held' (bridge_text bridge)  -- what was added to the sink is the text of the bridge
   pub ends : status ≡ end_of bridge  -- the answer is Breach if and only if the bridge ends with a breach
   pub promise : WordsCrossOn bridge  -- words cross the bridge up to a breach
   -- each bus keeps the promise of the bus up to its breach, with the words that cross as its

@@ -15,14 +15,14 @@ use Rattle.rb_judge.specs.declared.stage_sets.StageSets.{StageSets}
 
 -- the sets and sights that are kept of the nodes of one kind
 pub record KeptKind : Type 0 where
-  pub good : ℕ  -- the good nodes and the trusted ones in the newest stage
-  pub trusted : ℕ
-  pub unlike : ℕ  -- those that were seen unlike in an earlier stage of the frame, and those of which something was taken
-  pub taken : ℕ
-  pub unlike_now : ℕ  -- the same of the newest stage
-  pub heard_now : ℕ
-  pub by : List ℕ  -- by source, which receivers saw something of it in the newest stage
-  pub kept : List KeptSight  -- and what is kept of that
+  pub good : ℕ  -- the nodes that are good in the newest stage
+  pub trusted : ℕ  -- the nodes that are trusted in the newest stage
+  pub unlike : ℕ  -- the nodes that were seen unlike in an earlier stage of the frame
+  pub taken : ℕ  -- the nodes from which something was accepted in an earlier stage of the frame
+  pub unlike_now : ℕ  -- the nodes that were seen unlike in the newest stage
+  pub heard_now : ℕ  -- the nodes of which something was seen in the newest stage
+  pub by : List ℕ  -- by source, the receivers that saw something of it in the newest stage
+  pub kept : List KeptSight  -- by source, what is kept of the sights of it in the newest stage
 
 -- what the code keeps, as these
 abbrev pub kept_kind : {K : Type 0} → Sources K → KeptKind

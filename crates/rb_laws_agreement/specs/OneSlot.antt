@@ -51,8 +51,8 @@ pub record Exchange : Type 0 where
   pub slot : ℕ
   pub good : Side → ℕ → Bool
   pub before : Side → ℕ → NodeState
-  pub word : ℕ → ℕ  -- of each node, what it says in a schedule or data slot of its own
-  pub came : ℕ → Side → ℕ → ℕ → Sense  -- in a stage, to node i of a kind, of source j of the other kind
+  pub word : ℕ → ℕ  -- what node i says in a schedule or data slot of its own
+  pub came : ℕ → Side → ℕ → ℕ → Sense  -- what node i of a kind gets from source j in a stage
 
 -- a node closes a stage on what came; if it is the sender, it keeps what it says
 abbrev pub closes_in : Exchange → ℕ → Side → ℕ → NodeState → Outcome

@@ -12,8 +12,8 @@ use Rattle.rb_laws_events.specs.RunningNodes.{NodesConvictWhomAllAccused, Runnin
 -- what the rounds with these hand-ins keep beside the headline
 pub record RoundsKeepThePromise (sc : Scenario) (hands : List HandIn) : Type 0 where
   pub timely : EachWindowIsTimely sc hands  -- what good nodes send each other comes in its window
-  pub accused : ConvictWhomAllAccuse sc hands  -- whom all good nodes of the other kind accuse is convicted
-  pub unheard : GiveUnheardNodesNoVector sc hands  -- whom no good node heard has no valid vector
+  pub accused : ConvictWhomAllAccuse sc hands  -- a node accused by all good nodes of the other kind is convicted
+  pub unheard : GiveUnheardNodesNoVector sc hands  -- a node that no good node heard has no valid vector
   pub follow : GoodPortsFollowTheBus sc hands  -- good ports are what the bus's values make
   pub ports : GoodPortsAgree sc hands  -- good BIUs that are alike have equal ports
 
@@ -24,7 +24,7 @@ pub record NodesKeepThePromise (sc : Scenario) (w : World) : Type 0 where
   pub agree : RunningNodesAgree sc w  -- in one slot the same as each other
   pub ports : RunningPortsAgree sc w  -- after one slot equal ports
   pub bus : RunningPortsFollowTheBus sc w  -- the ports that the bus's values make
-  pub accused : NodesConvictWhomAllAccused sc w  -- whom all accused is convicted in the first slot of the next frame
+  pub accused : NodesConvictWhomAllAccused sc w  -- a node that all accused is convicted in the first slot of the next frame
   pub rounds : RoundsKeepThePromise sc w.hands
 
 -- What holds in every world to which choices lead from the scenario's first one, and in the rounds

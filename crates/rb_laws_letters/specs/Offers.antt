@@ -1,4 +1,4 @@
--- The slots of records in which a BIU is good, and what it offers in them.
+-- Who is good in the slots of records, and what a BIU offers in them.
 use Rattle.std.specs.Prelude.{ℕ, ◌≡◌, ◌==◌, All, Bool, true, false, if◌then◌else◌, Option, Some, None, List, [], ◌∷◌, get_or}
 use Rattle.std.specs.List.{flat_map}
 use Rattle.rb_base.specs.Nodes.Side.{Biu}

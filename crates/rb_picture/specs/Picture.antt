@@ -25,9 +25,9 @@ use Rattle.rb_picture.specs.Markup.{with_opening}
 
 -- a part of a picture
 pub data Piece : Type 0 where
-  Ground : (frame : ℕ) (before facts : Facts) → Piece  -- of a frame, with what is known of the one before it
-  Head : (column : Column) → Piece  -- of a slot in which something is delivered
-  Tick : (frame : ℕ) (node : NodeName) (after : ℕ) → Piece  -- of a node that begins a frame, so long after the first
+  Ground : (frame : ℕ) (before facts : Facts) → Piece  -- the ground of a frame, with the facts before and in it
+  Head : (column : Column) → Piece  -- the head of a slot in which something is delivered
+  Tick : (frame : ℕ) (node : NodeName) (after : ℕ) → Piece  -- the mark of a node that begins `after` units after the first
   Cell : (delivery : DeliveryLine) → Piece
   Break : (place : Place) (cause : Cause) → Piece
   Ending : (frames : ℕ) → Piece

@@ -20,10 +20,10 @@ pub record AbstractBus : Type 0 where
   pub low : ℕ  -- the time before which no good node began the frame
   pub frame : ℕ
   pub slot : ℕ  -- the slot that comes next
-  pub values : List Heard  -- those of the finished slots of this frame
-  pub owners : List ℕ  -- of this frame's data slots, once they stand
-  pub bius : ℕ  -- the nodes that are not convicted
-  pub rmus : ℕ
+  pub values : List Heard  -- the values of the finished slots of the frame
+  pub owners : List ℕ  -- the owners of the frame's data slots, once they are known
+  pub bius : ℕ  -- the BIUs that are not convicted
+  pub rmus : ℕ  -- the RMUs that are not convicted
 
 abbrev pub trusted_on : Side → AbstractBus → ℕ
 trusted_on Biu bus = bus.bius

@@ -70,9 +70,9 @@ pub data Milestone : Type 0 where
   End : Milestone
 
 pub record Book : Type 0 where
-  pub upcoming : Milestone  -- the first that is not settled
-  pub stages : List JudgedStage  -- those of this frame, the newest first
-  pub lines : List SlotLine  -- what was delivered in this slot
+  pub upcoming : Milestone  -- the first milestone that is not settled
+  pub stages : List JudgedStage  -- the judged stages of the frame, the newest first
+  pub lines : List SlotLine  -- what was delivered in the slot
   pub given : List Record
   pub ended : Bool  -- the last record is given
 

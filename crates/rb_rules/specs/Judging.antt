@@ -32,10 +32,10 @@ is_something (Time t) = true
 
 -- a stage of a slot as it is judged. The sets are by kind; a time in a sight is in reference units
 pub record JudgedStage : Type 0 where
-  pub good : Side → ℕ  -- the nodes that are good at its place
+  pub good : Side → ℕ  -- the nodes that are good in the stage
   pub trusted : Side → ℕ  -- the trusted nodes
   pub eps : ℕ  -- how far apart the times of one message may be
-  pub sight : Side → ℕ → ℕ → See  -- of receiver i of this kind, what it saw of source j of the other kind
+  pub sight : Side → ℕ → ℕ → See  -- what receiver i of a kind saw of source j of the other kind
 
 -- the first value for BIUs and the second for RMUs
 abbrev pub by_kind : {X : Type 0} → X → X → Side → X

@@ -11,13 +11,13 @@ use Rattle.rb_rules.specs.Standing.{Standing, first_standing}
 pub record NodeState : Type 0 where
   pub frame : ℕ
   pub epoch : ℕ  -- the tick with which the frame began
-  pub far : Standing  -- on the nodes of the other kind
+  pub far : Standing  -- the standing of the nodes of the other kind
   pub near : ℕ  -- the trusted nodes of its own kind
   pub sent : Option Heard  -- what it sent in stage 1 of its own slot, until the close of stage 2
-  pub got : Option Heard  -- what it took of the slot's sender in stage 1
-  pub votes : List Heard  -- its votes of this frame, by slot; Fault where there is none
-  pub owners : List ℕ  -- the owners of this frame's data slots, once they stand
-  pub k1 : Option ℕ  -- the middle stamps of this frame's sync slot, by stage
+  pub got : Option Heard  -- what it accepted from the slot's sender in stage 1
+  pub votes : List Heard  -- the node's votes of the frame, by slot; Fault if there is none
+  pub owners : List ℕ  -- the owners of the frame's data slots, once they are known
+  pub k1 : Option ℕ  -- the middle stamps of the frame's sync slot, by stage
   pub k2 : Option ℕ
   pub k3 : Option ℕ
 

@@ -10,9 +10,9 @@ use Rattle.rb_rules.specs.Sense.{is_one, is_silent}
 
 pub record Standing : Type 0 where
   pub trusted : ℕ  -- the nodes that are not convicted
-  pub direct : ℕ  -- those accused for what came of them, or did not come
-  pub mismatch : ℕ  -- those accused for a value that differed
-  pub fresh : ℕ  -- those with direct evidence in this frame
+  pub direct : ℕ  -- the nodes accused for what came from them, or did not come
+  pub mismatch : ℕ  -- the nodes accused for a value that differed
+  pub fresh : ℕ  -- the nodes with direct evidence against them in the frame
   pub calm : List ℕ  -- for each accused node the frames in a row that ended without direct evidence
 
 -- at first the nodes below `count` are trusted, and nobody is accused

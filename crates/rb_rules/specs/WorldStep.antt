@@ -46,7 +46,7 @@ pub record World : Type 0 where
   pub sites : Each Site
   pub ports : List PortState
   pub book : Book
-  pub hands : List HandIn  -- so far
+  pub hands : List HandIn  -- what was handed in so far
   pub turn : Option Record  -- the record that came last, unless an event without a record came after it
 
 -- What is due.

@@ -18,8 +18,8 @@ pub record Bridge : Type 0 where
   pub left : Scenario
   pub right : Scenario
   pub pairs : List Pair
-  pub left_slot : ℕ  -- which data slot of the left bus is carried over, counted from 0
-  pub right_slot : ℕ
+  pub left_slot : ℕ  -- the data slot of the left bus that is carried over, counted from 0
+  pub right_slot : ℕ  -- the data slot of the right bus that is carried over, counted from 0
 
 -- the bus on a bank
 abbrev pub bus_on : Bridge → Bank → Scenario

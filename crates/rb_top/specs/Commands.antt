@@ -122,11 +122,11 @@ pub record IsGroupSoFar (which : Which) (members : ℕ) (input : List ℕ) (is_p
 -- Commands.
 
 pub record Command : Type 1 where
-  pub limit : Option ℕ  -- the most bytes of its input, where it has one
-  pub is_end : List ℕ → Status → Type 0  -- so it ends on its input
-  pub is_due : List ℕ → Bool → Option (List Turn) → Option (List Turn) → Status → List ℕ → Type 0  -- its text for its input, where it ends so
-  pub is_due_so_far : List ℕ → Bool → Option (List Turn) → Option (List Turn) → List ℕ → Type 0  -- its text, as far as it was due when a write failed
-  pub is_refused : List ℕ → List ℕ → Type 0  -- its input is refused with this line
+  pub limit : Option ℕ  -- the most bytes of the command's input, if it has one
+  pub is_end : List ℕ → Status → Type 0  -- the command may end so on an input
+  pub is_due : List ℕ → Bool → Option (List Turn) → Option (List Turn) → Status → List ℕ → Type 0  -- the text due for an input if the command ends so
+  pub is_due_so_far : List ℕ → Bool → Option (List Turn) → Option (List Turn) → List ℕ → Type 0  -- the text due for an input when a write failed
+  pub is_refused : List ℕ → List ℕ → Type 0  -- an input is refused with a line
 
 -- a command without an input whose text is fixed: `gen`, `spell`, and what the program says of
 -- itself

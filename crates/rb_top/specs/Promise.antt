@@ -24,9 +24,9 @@ pub record KeepsTheHeadline (tells : Telling) (status : Status) (left left' held
   pub input : List ℕ
   pub scenario : Scenario
   pub read : ReadsToEnd left left' input  -- the input is read to its end
-  pub accepted : IsTextOf input scenario  -- it is the text of an accepted scenario
-  pub lawful : IsLawful scenario  -- which is lawful
-  pub written : Appends held held' (tells scenario (records_of scenario []))  -- what was added to the sink is what is told of its rounds
+  pub accepted : IsTextOf input scenario  -- the input is the text of an accepted scenario
+  pub lawful : IsLawful scenario  -- the scenario is lawful
+  pub written : Appends held held' (tells scenario (records_of scenario []))  -- what was added to the sink is what is told of the scenario's rounds
   pub ends : EndsAs scenario status  -- the answer is Breach if and only if the rounds end with a breach
   pub promise : KeepsThePromise scenario []  -- the run keeps the promise of the bus up to its breach
 
@@ -40,13 +40,13 @@ pub record SumsTheHeadline (seed frames : ℕ) (status : Status) (held held' : O
 pub record KeepsTheLetters (status : Status) (left left' held held' : Option (List ℕ)) : Type 0 where
   pub report : KeepsTheHeadline told_by_letters status left left' held held'
   pub alike : PortsReceiveAlike report.scenario []  -- good ports receive the same letters from each sender, in the same slots
-  pub received : PortsReceiveGoodSenders report.scenario []  -- they receive the letters of a good sender whole, once and in order
+  pub received : PortsReceiveGoodSenders report.scenario []  -- good ports receive the letters of a good sender whole, once and in order
 
 -- The promise of `group`, at Done and at Breach: that of its report, and of what ports find
 pub record KeepsTheGroup (which : Which) (members : ℕ) (status : Status) (left left' held held' : Option (List ℕ)) : Type 0 where
   pub report : KeepsTheHeadline (told_by_group which members) status left left' held held'
   pub alike : PortsFindAlike report.scenario [] which members  -- good ports find equal values in each frame
-  pub found : FindsTheMembers report.scenario [] which members  -- and the word of the good members, if these outnumber the others
+  pub found : FindsTheMembers report.scenario [] which members  -- good ports find the word of the good members, if these outnumber the others
 
 -- The promise of `record`, at Done and at Breach
 pub record KeepsTheLog (node : NodeName) (left left' held held' : Option (List ℕ)) : Type 0 where
@@ -54,8 +54,8 @@ pub record KeepsTheLog (node : NodeName) (left left' held held' : Option (List �
   pub scenario : Scenario
   pub log : List ℕ
   pub read : ReadsToEnd left left' input  -- the input is read to its end
-  pub accepted : IsTextOf input scenario  -- it is the text of an accepted scenario
-  pub written : Appends held held' log  -- what was added to the sink is this log
+  pub accepted : IsTextOf input scenario  -- the input is the text of an accepted scenario
+  pub written : Appends held held' log  -- what was added to the sink is the log
   -- if the node is good throughout and the run has no breach, what is due of `replay` for this log
   -- is what the run's report tells of the node
   pub replayed : EndsWithoutBreach scenario → IsGoodThroughout scenario node → IsReplay log (report_of_node node (records_of scenario []))

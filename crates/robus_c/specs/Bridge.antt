@@ -39,7 +39,7 @@ pub record KeepsTheBridge (status : Status) (input output : List ℕ) : Type 0 w
   pub bridge : Bridge
   pub accepted : IsBridgeAccepted input bridge  -- the input is the text of an accepted bridge
   pub lawful : IsBridge bridge  -- both buses of the bridge are lawful, and the bridge fits them
-  pub is : output ≡ bridge_text bridge  -- the output is the text of that bridge
+  pub is : output ≡ bridge_text bridge  -- the output is the text of the bridge
   pub ends : status ≡ end_of bridge  -- the answer is Breach if and only if the bridge ends with a breach
   pub promise : WordsCrossOn bridge  -- words cross the bridge up to a breach
   -- each bus keeps the promise of the bus up to its breach, with the words that cross as its

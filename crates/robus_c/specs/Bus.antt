@@ -53,8 +53,8 @@ IsOver (Some limit) input = limit < length input
 pub record KeepsTheHeadline (tells : Telling) (status : Status) (input output : List ℕ) : Type 0 where
   pub scenario : Scenario
   pub accepted : IsTextOf input scenario  -- the input is the text of an accepted scenario
-  pub lawful : IsLawful scenario  -- which is lawful
-  pub is : output ≡ tells scenario (records_of scenario [])  -- the output is what is told of its rounds
+  pub lawful : IsLawful scenario  -- the scenario is lawful
+  pub is : output ≡ tells scenario (records_of scenario [])  -- the output is what is told of the scenario's rounds
   pub ends : EndsAs scenario status  -- the answer is Breach if and only if the rounds end with a breach
   pub promise : KeepsThePromise scenario []  -- the run keeps the promise of the bus up to its breach
 
@@ -68,13 +68,13 @@ pub record SumsTheHeadline (seed frames : ℕ) (status : Status) (output : List 
 pub record KeepsTheLetters (status : Status) (input output : List ℕ) : Type 0 where
   pub report : KeepsTheHeadline told_by_letters status input output
   pub alike : PortsReceiveAlike report.scenario []  -- good ports receive the same letters from each sender, in the same slots
-  pub received : PortsReceiveGoodSenders report.scenario []  -- they receive the letters of a good sender whole, once and in order
+  pub received : PortsReceiveGoodSenders report.scenario []  -- good ports receive the letters of a good sender whole, once and in order
 
 -- The promise of `group`, at Done and at Breach: that of its report, and of what ports find
 pub record KeepsTheGroup (which : Which) (members : ℕ) (status : Status) (input output : List ℕ) : Type 0 where
   pub report : KeepsTheHeadline (told_by_group which members) status input output
   pub alike : PortsFindAlike report.scenario [] which members  -- good ports find equal values in each frame
-  pub found : FindsTheMembers report.scenario [] which members  -- and the word of the good members, if these outnumber the others
+  pub found : FindsTheMembers report.scenario [] which members  -- good ports find the word of the good members, if these outnumber the others
 
 -- The promise of `record`, at Done and at Breach
 pub record KeepsTheLog (node : NodeName) (input output : List ℕ) : Type 0 where
