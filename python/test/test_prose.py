@@ -5,7 +5,7 @@ import unittest
 
 from helpers import script_ending
 
-# Each comment of a proof, and the rules that it breaks
+# Each comment of a lemma or a definition, and the rules that it breaks
 COMMENTS = {
     "if no segment is left, its length stays": [],
     "where no segment is left": ["fragment"],
@@ -35,12 +35,14 @@ class Prose(unittest.TestCase):
                 self.assertEqual(status, 1 if broken[-1] else 0)
             return broken
 
-    def test_each_comment_of_a_proof(self):
-        self.assertEqual(self.rules("proofs"), list(COMMENTS.values()))
+    def test_each_comment_of_a_lemma_and_of_a_definition(self):
+        for folder in ("proofs", "specs"):
+            with self.subTest(folder=folder):
+                self.assertEqual(self.rules(folder), list(COMMENTS.values()))
 
-    def test_a_definition_may_open_with_any_word(self):
+    def test_a_comment_elsewhere_may_open_with_any_word(self):
         expected = [[rule for rule in rules if rule != "fragment"] for rules in COMMENTS.values()]
-        self.assertEqual(self.rules("specs"), expected)
+        self.assertEqual(self.rules("src"), expected)
 
 
 if __name__ == "__main__":
