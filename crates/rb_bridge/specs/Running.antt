@@ -16,7 +16,7 @@ use Rattle.rb_world.specs.Worlds.{KeptWorld, Stands}
 abbrev pub latest : List Turn → Option Record
 latest turns = option_and_then record_of (last_or None turns)
 
--- none of these ends a run
+-- no turn of a list ends a run
 abbrev pub AreNotLast : List Turn → Type 0
 AreNotLast [] = ⊤
 AreNotLast (t ∷ ts) = (is_last (record_of t) ≡ false) × AreNotLast ts

@@ -87,7 +87,7 @@ is_below count _ = false
 abbrev pub is_head : Scenario → Option Data → Bool
 is_head sc d = is_below sc.sizes.bius d && (get_or sc.apps (number_or 0 d) 0 == 0)
 
--- a pair of such BIUs of two buses
+-- the value is a pair of a BIU of `left` and one of `right`, whose applications are tables
 abbrev pub joins : Scenario → Scenario → Data → Bool
 joins left right d = is_head left (at 0 d) && is_head right (at 1 d)
 
@@ -100,7 +100,7 @@ are_apart bank (p ∷ ps) = not (list_any (λ q. biu_on bank p == biu_on bank q)
 abbrev pub has_slot : Bank → Scenario → Members → Bool
 has_slot bank sc t = is_below sc.sizes.data_slots (get_member (slot_key bank) t)
 
--- all of it holds of these two buses
+-- the pairs and the slots of document t fit the buses `left` and `right`
 abbrev pub is_in_range : Scenario → Scenario → Members → Bool
 is_in_range left right t =
     every_item (joins left right) (pair_items t)

@@ -42,7 +42,7 @@ timetable_of s = record { sizes = sizes_of s; plan = plan_of s }
 abbrev pub name_of : Seat → NodeName
 name_of s = if s.kind == 0 then Biu s.index else Rmu s.index
 
--- how many nodes of its kind there are
+-- how many nodes of the seat's kind there are
 abbrev pub count_in : Seat → ℕ
 count_in s = if s.kind == 0 then s.biu else s.rmu
 

@@ -15,15 +15,15 @@ use Rattle.rb_judge.specs.declared.seen.SourceSights.{SourceSights}
 unfoldable pub some_node : (ℕ → Bool) → Bool
 some_node passes = list_any passes (numbers 16)
 
--- two of these receivers saw unlike
+-- two of the receivers `nodes` saw unlike sights
 abbrev pub some_unlike : ℕ → ℕ → (ℕ → See) → Bool
 some_unlike eps nodes sight = some_node (λ a. has nodes a && some_node (λ b. has nodes b && not (are_alike eps (sight a) (sight b))))
 
--- one of these receivers saw unlike this sight
+-- one of the receivers `nodes` saw a sight unlike x
 abbrev pub some_differs : ℕ → ℕ → (ℕ → See) → See → Bool
 some_differs eps nodes sight x = some_node (λ i. has nodes i && not (are_alike eps (sight i) x))
 
--- a sight is unlike one of the sights of which this is kept
+-- sight x is unlike one of the sights of which something is kept
 abbrev pub clashes : ℕ → KeptSight → See → Bool
 clashes eps Unlike x = true
 clashes eps (Value v) see.Nothing = true

@@ -26,7 +26,7 @@ use Rattle.rb_rules.specs.WorldStep.{Choice, Site, Timed, World, world_after}
 abbrev pub ready_state : Scenario → Side → Core → NodeState
 ready_state sc me c = state_at sc.sizes sc.plan me c.state c.had
 
--- the window in which its next tick lies
+-- the window in which the next tick of core c lies
 abbrev pub open_window : Scenario → Side → Core → Window
 open_window sc me c = window_here sc.sizes sc.plan me (ready_state sc me c) c.had
 

@@ -22,19 +22,20 @@ use Rattle.rb_laws_events.specs.OwnMoments.{IsBeforeTheBreak, RunningNode, momen
 
 -- One running node.
 
--- the state in which it takes its next tick
+-- the state in which a running node takes its next tick
 abbrev pub state_of : {w : World} → {me : Side} → Scenario → RunningNode w me → NodeState
 state_of {w} {me} sc node = ready_state sc me node.site.core
 
--- the window in which that tick lies
+-- the window in which the next tick of a running node lies
 abbrev pub window_of : {w : World} → {me : Side} → Scenario → RunningNode w me → Window
 window_of {w} {me} sc node = open_window sc me node.site.core
 
--- the time at which it begins a slot of its frame: that of the slot's first tick by its own clock
+-- the time at which a running node begins a slot of its frame: that of the slot's first tick by the
+-- node's clock
 abbrev pub begin_of_slot : {w : World} → {me : Side} → Scenario → ℕ → RunningNode w me → ℕ
 begin_of_slot {w} {me} sc slot node = time_in_frame sc me node.index (state_of sc node) (3 * slot * sc.plan.l)
 
--- the nodes of a kind that it holds convicted
+-- the nodes of a kind that a running node holds convicted
 abbrev pub convicted_by : {w : World} → {me : Side} → Scenario → Side → RunningNode w me → ℕ
 convicted_by {w} {me} sc kind node = convicted_of sc.sizes kind me (state_of sc node)
 

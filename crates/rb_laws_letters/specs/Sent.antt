@@ -14,11 +14,11 @@ pub record IsLetter (letter : List ℕ) : Type 0 where
   pub length : is_length (length letter) ≡ true
   pub bytes : All (λ b. b < 256) letter
 
--- the words of these letters, one letter after another
+-- the words of the letters, one letter after another
 abbrev pub words_of : List (List ℕ) → List ℕ
 words_of letters = flat_map spelling_of letters
 
--- words without those that say nothing
+-- the words without the zeros, which say nothing
 abbrev pub without_zeros : List ℕ → List ℕ
 without_zeros words = filter (λ w. not (w == 0)) words
 
@@ -56,7 +56,7 @@ abbrev pub after_call : Call → Sent → Sent
 after_call (Push letter) s = with_push letter (refusal_of s.waiting letter) s
 after_call Next s = record { waiting = without_word s.waiting; taken = s.taken; words = s.words ++ next_word_of s.waiting ∷ [] }
 
--- after these calls, one after another
+-- a sender after the calls, one after another
 abbrev pub after_calls : List Call → Sent → Sent
 after_calls [] s = s
 after_calls (call ∷ calls) s = after_calls calls (after_call call s)

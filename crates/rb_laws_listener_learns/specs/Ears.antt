@@ -106,16 +106,16 @@ pub record HearsTheRun (sc : Scenario) (hands : List HandIn) (ear : Ear) : Type 
 
 -- The listener.
 
--- after it has heard these
+-- a listener after it has heard some messages, one after another
 abbrev pub hears : Scenario → List Coming → Listening → Listening
 hears sc [] l = l
 hears sc (c ∷ cs) l = hears sc cs (hear sc.sizes sc.plan c.from c.bytes l)
 
--- at tick k, when it has heard all that comes before it
+-- a listener at tick k, when it has heard all that comes before that tick
 abbrev pub listening_at : Scenario → Ear → ℕ → Listening
 listening_at sc ear zero = hears sc (ear.heard zero) (now.Searching first_search)
 listening_at sc ear (suc k) = hears sc (ear.heard (suc k)) (heed sc.sizes sc.plan (listening_at sc ear k)).listening
 
--- what it tells at tick k
+-- what a listener tells at tick k
 abbrev pub told_at : Scenario → Ear → ℕ → Heed
 told_at sc ear k = (heed sc.sizes sc.plan (listening_at sc ear k)).heed

@@ -18,7 +18,7 @@ abbrev pub events_from : Ear → (ℕ → ℕ) → ℕ → ℕ → List CoreEven
 events_from ear word k zero = []
 events_from ear word k (suc n) = arrivals_of (ear.heard k) ++ Tick (word k) ∷ events_from ear word (suc k) n
 
--- what it tells at n ticks from tick k on
+-- what a listener tells at n ticks from tick k on
 abbrev pub told_from : Scenario → Ear → ℕ → ℕ → List Heed
 told_from sc ear k zero = []
 told_from sc ear k (suc n) = told_at sc ear k ∷ told_from sc ear (suc k) n

@@ -82,7 +82,7 @@ seen_learned sc ear frame records window s =
 
 -- While it follows it sees what it takes.
 
--- what it closes at tick k
+-- what a listener closes at its next tick, if it follows
 abbrev pub closing_in : Scenario → Listening → Option Closed
 closing_in sc (now.Searching s) = None
 closing_in sc (now.Waiting had first) = None
@@ -108,7 +108,7 @@ abbrev pub seen_closed : Scenario → Ear → ℕ → Option Closed → Option (
 seen_closed sc ear frame None = None
 seen_closed sc ear frame (Some c) = Some (λ j. timed_see sc ear frame j (get_or c.sees j Nothing))
 
--- what it sees in a frame, having learned by these records of the frame `learned`
+-- what a listener sees in a frame if it has learned by `records` of the frame `learned`
 abbrev pub seen_in : Scenario → Ear → ℕ → List Sense → ℕ → ℕ → JudgedStage → Option (ℕ → See)
 seen_in sc ear learned records frame window s =
     if frame == learned then seen_learned sc ear learned records window s else seen_closed sc ear frame (seen_by sc ear frame window ear.ticks)

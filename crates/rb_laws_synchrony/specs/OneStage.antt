@@ -32,14 +32,14 @@ pub record Listener : Type 0 where
 abbrev pub state_after : Listener → NodeState
 state_after x = (close_sync x.sizes x.me x.state x.stage x.first x.came).state
 
--- the middle that it keeps of the stage
+-- the middle that a node keeps of a stage
 abbrev pub middle_of_stage : ℕ → NodeState → Option ℕ
 middle_of_stage stage st = if stage == 1 then st.k1 else (if stage == 2 then st.k2 else st.k3)
 
 abbrev pub middle_kept : Listener → Option ℕ
 middle_kept x = middle_of_stage x.stage (state_after x)
 
--- the stamp that it takes of source j
+-- the stamp that a listening node accepts from source j
 abbrev pub stamp_taken : Listener → ℕ → Option ℕ
 stamp_taken x j = taken_of stamp_in x.state.far (expects_call x.me x.state x.stage) x.came j
 

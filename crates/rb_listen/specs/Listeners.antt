@@ -70,7 +70,7 @@ pub record IsSameBus (before after : Hearer) : Type 0 where
   pub sizes : after.sizes ≡ before.sizes
   pub plan : after.plan ≡ before.plan
 
--- how many ticks it has had
+-- how many ticks a listener in a stage has had
 abbrev pub had_in : Stage → Search → Running → ℕ
 had_in Searching s n = s.had
 had_in (Waiting first) s n = s.had

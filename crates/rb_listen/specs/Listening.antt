@@ -24,7 +24,7 @@ pub data Listening : Type 0 where
   Waiting : (had : ℕ) (first : First) → Listening
   Following : (core : Core) → Listening
 
--- at first it has heard nothing, and seeks
+-- the search of a listener at first: it has heard nothing, and seeks
 unfoldable pub first_search : Search
 first_search = record { had = 0; newest = replicate 16 None; learns = false; lesson = lesson_on 0 }
 
@@ -34,7 +34,8 @@ first_search = record { had = 0; newest = replicate 16 None; learns = false; les
 abbrev pub learning : ℕ → Search → Search
 learning frame s = record s { learns = true; lesson = lesson_on frame }
 
--- the tick at which it decides by the lesson is fixed at the first pass for the lesson's frame
+-- the tick at which the listener decides by a lesson is fixed at the first pass for the lesson's
+-- frame
 abbrev pub timed : ℕ → Lesson → Lesson
 timed tick lesson = elim (is_some lesson.decides) [ true ↦ lesson | false ↦ record lesson { decides = Some tick } ]
 
@@ -120,7 +121,7 @@ is_deciding s = s.learns && is_tick s.lesson.decides s.had
 unfoldable pub search_on : Sizes → Plan → Search → Listening
 search_on sizes plan s = elim (is_deciding s) [ true ↦ decided s (first_of sizes plan s.lesson) | false ↦ Searching (later s) ]
 
--- what it tells while it follows
+-- what a listener that follows tells of an act of its core
 abbrev pub told : Act → Heed
 told x = record { epoch = x.epoch; delivered = option_and_then (λ c. c.delivered) x.closed }
 
@@ -158,7 +159,7 @@ TellNothing sizes plan (suc n) l = ((heed sizes plan l).heed ≡ no_heed) × Tel
 
 -- What can be asked.
 
--- how many ticks it has had
+-- how many ticks a listener has had
 abbrev pub had_by : Listening → ℕ
 had_by (Searching s) = s.had
 had_by (Waiting had first) = had
@@ -188,7 +189,8 @@ next_heed sizes plan (Following c) = next_wake sizes plan c
 
 -- Events in a row.
 
--- what it tells at each tick among the events, in order; the words of ticks are nothing to it
+-- what listener l tells at each tick among the events, in order. The words of ticks are nothing to
+-- it
 abbrev pub told_of : Sizes → Plan → Listening → List CoreEvent → List Heed
 told_of sizes plan l [] = []
 told_of sizes plan l (Tick word ∷ events) = (heed sizes plan l).heed ∷ told_of sizes plan (heed sizes plan l).listening events

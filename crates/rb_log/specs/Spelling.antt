@@ -27,13 +27,13 @@ spelled (OneTick word) = 1 ∷ big_bytes 4 word
 spelled (ManyTicks count) = 2 ∷ big_bytes 4 count
 spelled (Message from bytes) = 3 ∷ from ∷ length bytes ∷ bytes
 
--- what it may say
+-- what a record may say in the log of a node with `senders` sources
 abbrev pub MayBeTold : ℕ → Told → Type 0
 MayBeTold senders (OneTick word) = word < 2 ^ 32
 MayBeTold senders (ManyTicks count) = (1 ≤ count) × (count < 2 ^ 32)
 MayBeTold senders (Message from bytes) = (from < senders) × (1 ≤ length bytes) × (length bytes ≤ 32)
 
--- the events that it says
+-- the events that a record says
 abbrev pub events_told : Told → List CoreEvent
 events_told (OneTick word) = event.Tick word ∷ []
 events_told (ManyTicks count) = replicate count (event.Tick 0)

@@ -6,7 +6,7 @@ use Rattle.rb_rules.specs.declared.plan.Plan.{Plan}
 use Rattle.rb_rules.specs.Core.{Core, CoreEvent, arrive, tick, ticks, acts_of}
 use Rattle.rb_rules.specs.Core.CoreEvent.{Tick, Arrive}
 
--- the core after these events
+-- core c after the events, one after another
 abbrev pub core_after : Sizes → Plan → Side → ℕ → Core → List CoreEvent → Core
 core_after sizes plan me index c [] = c
 core_after sizes plan me index c (Tick word ∷ events) = core_after sizes plan me index (tick sizes plan me index c word).core events

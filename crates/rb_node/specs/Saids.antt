@@ -12,7 +12,7 @@ use Rattle.rb_slot.specs.Engines.{Seated}
 abbrev pub sending_in : Side → Seated → ℕ → ℕ → ℕ → Option Sending
 sending_in me v slot stage word = sending v.sizes v.plan me v.index v.state slot stage word
 
--- the message that it says at tick k in one of the stages of the slot
+-- the message that a node says at tick k in one of the stages of the slot
 abbrev pub said_in : Side → Seated → ℕ → ℕ → ℕ → Option Message
 said_in me v slot k word =
     option_or (if_at k (sending_in me v slot 1 word)) (option_or (if_at k (sending_in me v slot 2 word)) (if_at k (sending_in me v slot 3 word)))

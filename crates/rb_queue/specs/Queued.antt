@@ -97,7 +97,7 @@ has_place (kind.Tick word wanted) tick = (word == 0) && not wanted && is_none ti
 abbrev pub fits_lane : Event → Queued → Bool
 fits_lane event q = (length q.more == 0) && (event.quiet == 0) && has_place event.kind q.lane.tick
 
--- the lane is this one
+-- queue q with `lane` as its lane
 abbrev pub with_held : Held → Queued → Queued
 with_held lane q = record q { lane = lane }
 
@@ -105,7 +105,7 @@ with_held lane q = record q { lane = lane }
 abbrev pub with_beside : ℕ → Event → Queued → Queued
 with_beside time event q = record q { more = q.more ++ record { time = time; event = event } ∷ [] }
 
--- an event more, at this time
+-- queue q with one event more, which is due at `time`
 abbrev pub with_pushed : ℕ → Event → Queued → Queued
 with_pushed time event q = elim (fits_lane event q) [
   | true ↦ with_held (with_event time event.kind q.lane) q
@@ -168,7 +168,7 @@ without_takeable i q = without_any (slice_get (takeable_of q) i) q
 abbrev pub emptied : Queued → Queued
 emptied q = record { lane = without_events q.lane; more = [] }
 
--- nothing, and this room
+-- a queue without an event, whose lane has room for `room` events
 abbrev pub empty_queue : ℕ → Queued
 empty_queue room = record { lane = empty_lane room; more = [] }
 
@@ -184,7 +184,7 @@ abbrev pub queue_of : Each Queued → NodeName → Queued
 queue_of queues (node.Biu i) = unwrap_or (slice_get queues.bius i) (empty_queue 0)
 queue_of queues (node.Rmu i) = unwrap_or (slice_get queues.rmus i) (empty_queue 0)
 
--- what is pending at this node changes, and at no other
+-- the queues with q as the queue of a node, and all others as they are
 abbrev pub with_queue : NodeName → Queued → Each Queued → Each Queued
 with_queue (node.Biu i) q queues = record queues { bius = slice_set queues.bius i q }
 with_queue (node.Rmu i) q queues = record queues { rmus = slice_set queues.rmus i q }

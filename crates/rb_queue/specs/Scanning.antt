@@ -34,11 +34,11 @@ abbrev pub HasFirst : List Coming → ℕ → Type 0
 HasFirst [] place = ⊤
 HasFirst (c ∷ arrivals) place = IsFirst (c ∷ arrivals) place
 
--- each is due by this time
+-- each arrival is due by the time `latest`
 abbrev pub AreBy : ℕ → List Coming → Type 0
 AreBy latest arrivals = (k : ℕ) (c : Coming) → slice_get arrivals k ≡ Some c → c.time ≤ latest
 
--- the tick comes before this time
+-- there is a tick, and it comes before a time
 abbrev pub is_sooner : Option ℕ → ℕ → Bool
 is_sooner None time = false
 is_sooner (Some ahead) time = nat_lt ahead time

@@ -20,7 +20,7 @@ pub record Held : Type 0 where
 
 -- One lane.
 
--- how many events more it has room for
+-- how many events more a lane has room for
 abbrev pub spare_of : Held → ℕ
 spare_of lane = lane.room - (length lane.arrivals + length (option_to_list lane.tick))
 
@@ -151,7 +151,7 @@ IsFirstBefore until lane (Some place) = IsReadyBefore until lane place
 abbrev pub without_events : Held → Held
 without_events lane = record lane { arrivals = []; tick = None }
 
--- nothing, and this room
+-- a lane without an event, with room for `room` events
 abbrev pub empty_lane : ℕ → Held
 empty_lane room = record { arrivals = []; tick = None; room = room }
 

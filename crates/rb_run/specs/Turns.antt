@@ -10,7 +10,7 @@ use Rattle.rb_world_book.specs.declared.turn.Turn.TheVariants as turn
 use Rattle.rb_report.specs.Texts.{report_of}
 use Rattle.rb_world.specs.Driving.{bare}
 
--- the turn that is this record
+-- the turn that is a given record
 abbrev pub turn_of : Record → Turn
 turn_of (Record.Frame frame nodes ports) =
     turn.Frame (record { frame = frame; nodes = record { items = nodes }; ports = record { items = ports } })
@@ -37,10 +37,10 @@ pub record AreGiven (sc : Scenario) (is_plain : Bool) (before after : Option (Li
 abbrev pub AreAll : Scenario → List Turn → Type 0
 AreAll sc turns = length turns ≡ length (records_of sc [])
 
--- the records that these turns are
+-- the records that the turns are
 abbrev pub records_in : List Turn → List Record
 records_in turns = filter_map record_of turns
 
--- the report of these turns
+-- the report of the turns
 abbrev pub text_of : List Turn → List ℕ
 text_of turns = report_of (records_in turns)

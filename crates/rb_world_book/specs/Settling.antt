@@ -48,7 +48,7 @@ abbrev pub comes_when : Bool → KeptWay → Bool
 comes_when free way.ByAnEvent = not free
 comes_when free way.ByItself = free
 
--- nobody is awaited, and this is the way
+-- nobody is awaited, the upcoming milestone is settled in the way w, and the run has not ended
 abbrev pub is_due : KeptWay → KeptBook → Bool
 is_due w l = (l.bius.waiting == 0) && ((l.rmus.waiting == 0) && (comes_when (is_free l) w && not l.ended))
 
@@ -75,7 +75,7 @@ pub record GoesPast (before after : KeptBook) (place : Place) (turn : Turn) : Ty
   pub bius : GoesKind Biu before.shape before.onsets place before.bius after.bius after.upcoming
   pub rmus : GoesKind Rmu before.shape before.onsets place before.rmus after.rmus after.upcoming
 
--- what is due in this way is settled, and this is the turn
+-- what is due in a way is settled, and `turn` is the turn of the world after that
 pub record Settles (sc : Scenario) (way : Way) (w : World) (after : KeptBook) (turn : Turn) : Type 0 where
   pub holds : Holds sc after (settle sc way 2 w)
   pub turn_is : (settle sc way 2 w).turn ≡ record_of turn

@@ -17,7 +17,7 @@ use Rattle.rb_world_book.specs.declared.milestone.Milestone.TheVariants.{Begin, 
 use Rattle.rb_world_book.specs.declared.told.Begin.{Begin as LatestBegin}
 use Rattle.rb_world_book.specs.declared.told.Told.{Told}
 
--- what it saw of source j in its latest stage
+-- what a node saw of source j in its latest stage
 abbrev pub see_of : Told → ℕ → See
 see_of t j = get_or t.sees j Nothing
 

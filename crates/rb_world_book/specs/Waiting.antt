@@ -39,7 +39,7 @@ row_at good place i t = row_if place (has good i) t
 abbrev pub row_saw : (ℕ → ℕ → See) → ℕ → Place → ℕ → Told → Option Row
 row_saw saw good place i t = elim (has good i) [ true ↦ row_for place (row_seeing (saw i) t) | false ↦ None ]
 
--- what it told of the start of a frame, likewise
+-- what node i told of the start of a frame, if it is good and told of that
 abbrev pub begun_at : Side → ℕ → ℕ → ℕ → Told → Option Begun
 begun_at kind good frame i t = elim (has good i) [ true ↦ begun_for frame (begun_told kind t) | false ↦ None ]
 

@@ -31,7 +31,7 @@ kept_of sc = record { faults = faults_of sc; version = sc.plan.version; says = s
 
 -- By receiver.
 
--- the entry is what this node says to that one
+-- the entry is for what node `from` says to node `to`
 abbrev pub is_between : NodeName → NodeName → Say → Bool
 is_between from to s = same_node s.from from && stands_for s.to to
 
@@ -66,7 +66,7 @@ later_frame last s = max last s.frames.1
 abbrev pub last_frame : List Say → ℕ
 last_frame says = fold later_frame 0 says
 
--- the entries with these numbers
+-- the entries with the numbers `places`
 abbrev pub entries_at : List Say → List ℕ → List Say
 entries_at says places = filter_map (slice_get says) places
 
@@ -87,7 +87,7 @@ pub record AreIndexed (sizes : Sizes) (says : List Say) (bius rmus : List (List 
 
 -- In a window.
 
--- the entry is for this place
+-- the entry is for a place
 abbrev pub is_for : Place → Say → Bool
 is_for place s = covers s.frames s.slots s.stages place
 
@@ -97,7 +97,7 @@ abbrev pub is_said_in : Scenario → Span → Say → Bool
 is_said_in sc span s =
     covers s.frames s.slots s.stages span.place && nat_le (span.first + s.offset) span.last && not (is_node_good sc s.from span.place.frame span.place.slot)
 
--- the entry as it comes to a node with this clock
+-- the entry as it comes in a window to a node with a clock
 abbrev pub brought : Version → Timeline → Span → Say → Coming
 brought version clock span s =
     record { time = time_of clock (span.first + s.offset) - s.early; from = number_of s.from; bytes = bytes_of version span.place s.content }
