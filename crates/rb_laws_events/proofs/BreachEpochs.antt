@@ -47,7 +47,7 @@ use Rattle.rb_laws_events.proofs.MomentSteps.{good-state}
 use Rattle.rb_laws_events.proofs.NodeCloses.{heard-all}
 use Rattle.rb_laws_events.proofs.RoundNodes.{Stands, moments-stand}
 use Rattle.rb_laws_events.proofs.SameHeard.{Every}
-use Rattle.rb_laws_events.proofs.SayLists.{ComesIn, said-all}
+use Rattle.rb_laws_events.proofs.SayLists.{ComesIn, said-in-window}
 use Rattle.rb_laws_events.proofs.TimelyMoments.{good-in}
 
 -- Middles.
@@ -123,7 +123,7 @@ heard-from sc hands lawful p running inside me i j st c h heard =
           let span : Span = span_of st w in
           let said : said_by sc me i span j ≡ c ∷ [] =
           sym (ap (λ b. elim b as (λ _. List Coming) [ true ↦ entry_of sc m me i j | false ↦ said_by sc me i span j ]) e) ∙ heard-all sc m me i j st (λ j. true) stood.frame (λ g. inl refl) ∙ heard in
-          let comes : Every (ComesIn (clock_of sc me i) span) (said_by sc me i span j) = said-all sc me i j span lengths sc.says lawful.says in
+          let comes : Every (ComesIn (clock_of sc me i) span) (said_by sc me i span j) = said-in-window sc me i j span in
           let one : Every (ComesIn (clock_of sc me i) span) (c ∷ []) = subst (Every (ComesIn (clock_of sc me i) span)) said comes in
           first-stamp (clock_of sc me i) moves (st.epoch + w.first) c.time (one.0.0)
     ] in

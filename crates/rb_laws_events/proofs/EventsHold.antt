@@ -82,5 +82,5 @@ runs-left sc lawful w (inr (inl off)) me i s there runs =
 runs-left sc lawful w (inr (inr over)) me i s there runs = over.small me i s there runs
 
 pub ends-hold : EveryRunEndsInLawful
-ends-hold sc lawful =
-    every-run-ends sc (λ choices. ticks-left sc lawful (world_after sc choices) (any sc lawful choices)) (λ choices. runs-left sc lawful (world_after sc choices) (any sc lawful choices))
+ends-hold sc lawful listed =
+    every-run-ends sc listed (λ choices. ticks-left sc lawful (world_after sc choices) (any sc lawful choices)) (λ choices. runs-left sc lawful (world_after sc choices) (any sc lawful choices))

@@ -102,9 +102,9 @@ first-enters sc hands me i lawful room good =
       at_first = λ e. refl;
       hears = λ j.
           let says_times : Every (λ c. c.time ≤ u) (says_in sc me i span) =
-          every-to (ComesIn clock span) (λ c. c.time ≤ u) (λ c h. h.1) (says_in sc me i span) (says-come-in sc lawful me i span lengths) in
+          every-to (ComesIn clock span) (λ c. c.time ≤ u) (λ c h. h.1) (says_in sc me i span) (says-come-in sc me i span) in
           let more : Hears j u [] ([] ++ says_in sc me i span) ([] ++ said_if sc me i span j) [] =
-          say-more j u [] (says_in sc me i span) (said_if sc me i span j) [] [] (says-now sc lawful me i span lengths j) says_times (inr refl) (nothing-heard j u) in
+          say-more j u [] (says_in sc me i span) (said_if sc me i span j) [] [] (says-now sc me i span j) says_times (inr refl) (nothing-heard j u) in
           subst (λ l. Hears j u [] (says_in sc me i span) l (ahead_so_far sc (moment sc hands (next_stage sc.sizes m 0)) me i (λ j. false) j)) (sym (heard-none sc m me i j st refl))
           (subst (λ l. Hears j u [] (says_in sc me i span) (said_if sc me i span j) l) (sym (ahead-none sc (moment sc hands (next_stage sc.sizes m 0)) me i j)) more);
     }

@@ -230,10 +230,10 @@ opened-lists sc hands sent me i p q st t got coming heard lawful lengths frame (
     let opened : Hears j u [] coming (ahead_so_far sc m2 me i (λ j. sent (other me) j q) j) [] = opens-stage j t u got coming (heard j) _ after in_time was in
     let lists = stage-lists sc m2 me i j st (λ j. sent (other me) j q) frame in
     let says_times : Every (λ c. c.time ≤ u) (says_in sc me i span) =
-    every-to (ComesIn (clock_of sc me i) span) (λ c. c.time ≤ u) (λ c h. h.1) (says_in sc me i span) (says-come-in sc lawful me i span lengths) in
+    every-to (ComesIn (clock_of sc me i) span) (λ c. c.time ≤ u) (λ c h. h.1) (says_in sc me i span) (says-come-in sc me i span) in
     let more : Hears j u [] (coming ++ says_in sc me i span) (ahead_so_far sc m2 me i (λ j. sent (other me) j q) j ++ said_if sc me i span j) [] =
     say-more j u coming (says_in sc me i span) (said_if sc me i span j) (ahead_so_far sc m2 me i (λ j. sent (other me) j q) j) []
-    (says-now sc lawful me i span lengths j) says_times lists.1 opened in
+    (says-now sc me i span j) says_times lists.1 opened in
     subst (λ l. Hears j u [] (coming ++ says_in sc me i span) (heard_so_far sc m2 me i span (λ j. sent (other me) j q) j) l)
     (sym (ahead-none sc (moment sc hands (next_stage sc.sizes m2 q)) me i j (λ j. sent (other me) j (next_stage sc.sizes m2 q)) (others.none_ahead q stage j)))
     (subst (λ l. Hears j u [] (coming ++ says_in sc me i span) l []) lists.0 more)
@@ -263,10 +263,10 @@ opened-lists sc hands sent me i p q st t got coming heard lawful lengths frame (
     let none : ahead_so_far sc m2 me i (λ j. sent (other me) j q) j ≡ [] = ahead-tail sc m2 me i j (λ j. sent (other me) j q) tail.1 in
     let all : [] ++ said_if sc me i span j ≡ heard_so_far sc m2 me i span (λ j. sent (other me) j q) j = ap (λ l. l ++ said_if sc me i span j) (sym none) ∙ lists.0 in
     let says_times : Every (λ c. c.time ≤ u) (says_in sc me i span) =
-    every-to (ComesIn (clock_of sc me i) span) (λ c. c.time ≤ u) (λ c h. h.1) (says_in sc me i span) (says-come-in sc lawful me i span lengths) in
+    every-to (ComesIn (clock_of sc me i) span) (λ c. c.time ≤ u) (λ c h. h.1) (says_in sc me i span) (says-come-in sc me i span) in
     subst (λ l. Hears j u [] (coming ++ says_in sc me i span) l (ahead_so_far sc (moment sc hands z) me i (λ j. sent (other me) j z) j)) all
     (say-more j u coming (says_in sc me i span) (said_if sc me i span j) [] (ahead_so_far sc (moment sc hands z) me i (λ j. sent (other me) j z) j)
-    (says-now sc lawful me i span lengths j) says_times (inr refl) opened)
+    (says-now sc me i span j) says_times (inr refl) opened)
 
 pub closes-window : (sc : Scenario) (hands : List HandIn) (sent : Side → ℕ → ℕ → Bool) (now : ℕ) (ports : List PortState) (me : Side) (i p : ℕ) (s : Site) (st : NodeState) (a : Timed)
     → IsLawful sc → HasRoom sc.plan → KnownInRounds sc hands me i p st → NextInTime sc hands p → OthersKeepUp sc hands sent me i p

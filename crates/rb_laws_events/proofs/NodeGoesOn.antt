@@ -177,7 +177,7 @@ enters sc hands sent t me i q k st s lawful room lengths keeps below e =
     let after : s.core.had ≤ b = next.1.1.later in
     let up : time_of clock k ≤ time_of clock b = times_rise_to clock k b (omega arith) in
     let soon : t ≤ time_of clock k = e.soon in
-    let in_span : Every (ComesIn clock span) says = says-come-in sc lawful me i span lengths in
+    let in_span : Every (ComesIn clock span) says = says-come-in sc me i span in
     record {
       a = a;
       site = is;

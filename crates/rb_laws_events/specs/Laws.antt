@@ -5,6 +5,7 @@ use Rattle.rb_base.specs.Sizes.{Sizes}
 use Rattle.rb_rules.specs.declared.plan.Plan.{Plan}
 use Rattle.rb_rules.specs.Book.{Record, of_kind}
 use Rattle.rb_rules.specs.Core.{Core, next_tick, ticks}
+use Rattle.rb_rules.specs.Entries.{IsListed}
 use Rattle.rb_rules.specs.Goodness.{Scenario}
 use Rattle.rb_rules.specs.Lawful.{IsLawful}
 use Rattle.rb_rules.specs.Ports.{HandIn}
@@ -106,4 +107,4 @@ abbrev pub OneTurnARecordInLawful : Type 0
 OneTurnARecordInLawful = (sc : Scenario) → IsLawful sc → OneTurnARecord sc
 
 abbrev pub EveryRunEndsInLawful : Type 0
-EveryRunEndsInLawful = (sc : Scenario) → IsLawful sc → EveryRunEnds sc
+EveryRunEndsInLawful = (sc : Scenario) → IsLawful sc → IsListed sc → EveryRunEnds sc
