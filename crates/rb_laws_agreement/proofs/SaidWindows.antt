@@ -1,7 +1,6 @@
 -- What is heard from nodes that are not good, whatever they do.
 use Rattle.std.proofs.Common.{◌≡◌, ℕ, zero, suc, ◌<◌, ◌≤◌, ◌^◌, ◌&&◌, nat_le, nat_lt, Bool, true, false, cond, List, [], ◌∷◌, map, filter, refl, ap, ◌∙◌, sym, arith}
 use Rattle.std.specs.Prelude.{All}
-use Rattle.std.specs.List.{list_all}
 use Rattle.std.proofs.lemmas.Bool.{and_parts, leb-true, ltb-true}
 use Rattle.std.proofs.lemmas.List.Elements.{All-cons, All-nil}
 use Rattle.rb_base.specs.Nodes.{Side, other}

@@ -69,19 +69,19 @@ pub fn one_turn_a_record()
     ensures { OneTurnARecordInLawful }
 {}
 
-/// Every run ends in every lawful scenario: whatever is chosen, the number of events that are taken
-/// is at most `most_takes`, which follows from the nodes, the number of their ticks and what is
-/// said, and no node that runs has had 2^31 ticks. Until then some event is due, or the next record
-/// is given without one.
+/// Every run ends in every lawful scenario whose faulty nodes do what the entries of a document
+/// list: whatever is chosen, the number of events that are taken is at most `most_takes`, which
+/// follows from the nodes, the number of their ticks and what is said, and no node that runs has had
+/// 2^31 ticks. Until then some event is due, or the next record is given without one.
 pub fn every_run_ends()
     ensures { EveryRunEndsInLawful }
 {}
 
-/// In every lawful scenario room for `most_pending` events at each node, reserved at opening, is
-/// enough: for its tick, for four messages from each node of the other kind, and for three times as
-/// many as there are entries of what is said. Whatever was chosen, no more is pending at a node
-/// (`now`), nor after a tick of its own (`own`), nor with the message that another node sends at
-/// its tick (`message`).
+/// In every lawful scenario whose faulty nodes do what the entries of a document list, room for
+/// `most_pending` events at each node, reserved at opening, is enough: for its tick, for four
+/// messages from each node of the other kind, and for three times as many as there are entries of
+/// what is said. Whatever was chosen, no more is pending at a node (`now`), nor after a tick of its
+/// own (`own`), nor with the message that another node sends at its tick (`message`).
 pub fn pending_events_are_few()
     ensures { PendingEventsAreFewInLawful }
 {}
