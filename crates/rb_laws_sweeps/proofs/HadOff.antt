@@ -31,7 +31,7 @@ use Rattle.rb_rules.specs.Hearing.{Sending, Span}
 use Rattle.rb_rules.specs.Book.{map_each}
 use Rattle.rb_rules.specs.WorldStep.{await, enter, proceed, says_in, sent_to, span_from, stop, with_close, with_epoch}
 use Rattle.rb_rules.proofs.WindowNumbers.{get-each}
-use Rattle.rb_laws_sweeps.proofs.EachNode.{each-alike}
+use Rattle.rb_laws_events.proofs.EachAlike.{each-alike}
 use Rattle.rb_laws_sweeps.proofs.HadThere.{had-where-it-stands, had_of, is_known}
 use Rattle.rb_laws_sweeps.proofs.Settles.{each-fuse}
 

@@ -18,7 +18,8 @@ use Rattle.rb_laws_sweeps.specs.Laws.{TakesLeadToTheFirstTick}
 use Rattle.rb_laws_sweeps.specs.Sweeping.{Placed, first_of, swept}
 use Rattle.rb_laws_sweeps.specs.Told.{heard, told_next}
 use Rattle.rb_laws_sweeps.proofs.DueFirst.{ArrivalDue, TickDue, WhatIsDue, what-is-due, which-due}
-use Rattle.rb_laws_sweeps.proofs.EachNode.{KeepsAhead, each-alike, each-itself, first-changed}
+use Rattle.rb_laws_events.proofs.EachAlike.{each-alike}
+use Rattle.rb_laws_sweeps.proofs.EachNode.{KeepsAhead, each-itself, first-changed}
 use Rattle.rb_laws_sweeps.proofs.Firsts.{first-stands}
 use Rattle.rb_laws_sweeps.proofs.Hearing.{hears-first, hears-none}
 use Rattle.rb_laws_sweeps.proofs.OpenWorlds.{Goes, after_one, arrival-still, arrival-told, goes-reached}
