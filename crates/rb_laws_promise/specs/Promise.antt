@@ -19,6 +19,7 @@ pub record KeepsThePromise (sc : Scenario) (hands : List HandIn) : Type 0 where
   pub records : All (IsRight sc hands) (records_of sc hands)  -- a slot's record has no lines, or one line for each good BIU, with one sender and one value
   pub nodes : RunningNodesKeepThePromise sc  -- in every world of its events, the nodes that run hold what the rounds hold
 
--- every run of a lawful scenario keeps it, for any hand-ins
+-- every run of a lawful scenario keeps it, for any hand-ins. What its faulty nodes do is a field of
+-- the scenario, `behavior`: any function, since nothing that is lawful speaks of it
 abbrev pub RunsKeepThePromise : Type 0
 RunsKeepThePromise = (sc : Scenario) (hands : List HandIn) → IsLawful sc → KeepsThePromise sc hands
