@@ -10,8 +10,8 @@ use Rattle.rb_rules.specs.Goodness.{Scenario, clock_of}
 use Rattle.rb_rules.specs.Hearing.{Coming, Span, is_heard, said_by}
 use Rattle.rb_rules.specs.Slots.{count_of}
 
--- what comes from source j to node i of a kind in a window: bytes of a node of the bus, at a tick of
--- the window or less than a tick before it
+-- what comes from source j to node i of a kind in a window: bytes of a node of the bus, with the
+-- stamp of a tick of the window
 pub record IsSaid (sc : Scenario) (me : Side) (i : ℕ) (span : Span) (j : ℕ) (c : Coming) : Type 0 where
   pub from : c.from ≡ j
   pub known : j < count_of (other me) sc.sizes

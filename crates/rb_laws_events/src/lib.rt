@@ -71,8 +71,8 @@ pub fn one_turn_a_record()
 
 /// Every run ends in every lawful scenario whose faulty nodes do what the entries of a document
 /// list: whatever is chosen, the number of events that are taken is at most `most_takes`, which
-/// follows from the nodes, the number of their ticks and what is said, and no node that runs has had
-/// 2^31 ticks. Until then some event is due, or the next record is given without one.
+/// follows from the nodes, the number of their ticks and what is said, and no node that runs has
+/// had 2^31 ticks. Until then some event is due, or the next record is given without one.
 pub fn every_run_ends()
     ensures { EveryRunEndsInLawful }
 {}

@@ -2,4 +2,4 @@ pub mod Promise
 pub mod Whole
 pub mod Passes
 pub mod Shares
-pub mod Adversaries
+pub mod Strategies

@@ -1,4 +1,4 @@
 pub mod Laws
 pub mod Promise
 pub mod Shares
-pub mod Adversaries
+pub mod Strategies

@@ -2,10 +2,10 @@
 //! nothing.
 #![tactic(auto)]
 
-ghost use Rattle.rb_laws_promise.specs.Adversaries.{AnyBehaviorKeepsThePromise, StrategiesGainNothing};
 ghost use Rattle.rb_laws_promise.specs.Laws.{RoundsStandForTheBus, ThePromiseIsKept};
-ghost use Rattle.rb_laws_promise.specs.Promise.{RunsKeepThePromise};
+ghost use Rattle.rb_laws_promise.specs.Promise.{AnyBehaviorKeepsThePromise, RunsKeepThePromise};
 ghost use Rattle.rb_laws_promise.specs.Shares.{GoodBiusGetTheirShare};
+ghost use Rattle.rb_laws_promise.specs.Strategies.{StrategiesGainNothing};
 
 /// Up to the first breach of the fault premise the rounds stand for a run of the abstract bus: at
 /// each start of a frame and in each slot all good nodes hold what it holds.

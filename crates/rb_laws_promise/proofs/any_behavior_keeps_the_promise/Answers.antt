@@ -1,4 +1,4 @@
-use Rattle.rb_laws_promise.proofs.Adversaries.{any-behavior}
+use Rattle.rb_laws_promise.proofs.Strategies.{any-behavior}
 use Rattle.rb_laws_promise.proofs.any_behavior_keeps_the_promise.Goals as goal
 
 pub returns : goal.returns

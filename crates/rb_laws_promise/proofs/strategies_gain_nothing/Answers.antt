@@ -1,4 +1,4 @@
-use Rattle.rb_laws_promise.proofs.Adversaries.{no-gain}
+use Rattle.rb_laws_promise.proofs.Strategies.{no-gain}
 use Rattle.rb_laws_promise.proofs.strategies_gain_nothing.Goals as goal
 
 pub returns : goal.returns

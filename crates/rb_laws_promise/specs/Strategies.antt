@@ -1,21 +1,11 @@
--- Faulty nodes do anything: any function of the window, and any strategy that sees all nodes.
+-- What faulty nodes do may answer to all that was before: strategies.
 use Rattle.std.specs.Prelude.{ℕ, zero, suc, ◌≡◌, List}
 use Rattle.rb_rules.specs.Behavior.{Behavior}
 use Rattle.rb_rules.specs.Goodness.{Scenario}
 use Rattle.rb_rules.specs.Lawful.{IsLawful}
 use Rattle.rb_rules.specs.Ports.{HandIn}
 use Rattle.rb_rules.specs.Rounds.{Moment, first_moment, moment, step}
-use Rattle.rb_laws_promise.specs.Promise.{KeepsThePromise}
-
--- the scenario, if its faulty nodes do this
-abbrev pub behaving : Scenario → Behavior → Scenario
-behaving sc b = record sc { behavior = b }
-
--- every run of a lawful scenario keeps the promise, for any hand-ins, whatever its faulty nodes do
-abbrev pub AnyBehaviorKeepsThePromise : Type 0
-AnyBehaviorKeepsThePromise =
-    (sc : Scenario) (hands : List HandIn) → IsLawful sc → (b : Behavior)
-    → KeepsThePromise (behaving sc b) hands
+use Rattle.rb_laws_promise.specs.Promise.{KeepsThePromise, behaving}
 
 -- A strategy chooses what faulty nodes do in a window by the moment before it: by the states of all
 -- nodes, good ones too, by the ports, and by all that was recorded. What good nodes send in the

@@ -26,7 +26,8 @@ use Rattle.rb_laws_events.proofs.CoreStates.{window-place}
 use Rattle.rb_laws_events.proofs.EachAlike.{each-alike}
 use Rattle.rb_laws_events.proofs.MomentBooks.{number-of}
 use Rattle.rb_laws_events.proofs.RoundNodes.{AllStand, moments-stand, slot-is, slot_numbered}
-use Rattle.rb_laws_promise.specs.Adversaries.{AnyBehaviorKeepsThePromise, Strategy, StrategiesGainNothing, behaving, moment_against}
+use Rattle.rb_laws_promise.specs.Promise.{AnyBehaviorKeepsThePromise, behaving}
+use Rattle.rb_laws_promise.specs.Strategies.{Strategy, StrategiesGainNothing, moment_against}
 use Rattle.rb_laws_promise.proofs.Whole.{kept}
 
 -- Any function.
