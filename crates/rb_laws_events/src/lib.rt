@@ -4,7 +4,7 @@
 
 ghost use Rattle.rb_laws_events.specs.ByItself.{WhatNeedsNoEventIsGiven};
 ghost use Rattle.rb_laws_events.specs.Closing.{GoodNodesCloseInOrder};
-ghost use Rattle.rb_laws_events.specs.Laws.{EventsAreRoundsInLawful, EventsOnlyAdd, EveryRunEndsInLawful, HandInsComeLate, OneTurnARecordInLawful, QuietTicksCount, RecordsAreOfAllSteps, RoundsOnlyAdd, SomethingIsDueInLawful};
+ghost use Rattle.rb_laws_events.specs.Laws.{BoundedRunsEndInLawful, EventsAreRoundsInLawful, EventsOnlyAdd, EveryRunEndsInLawful, HandInsComeLate, OneTurnARecordInLawful, QuietTicksCount, RecordsAreOfAllSteps, RoundsOnlyAdd, SomethingIsDueInLawful};
 ghost use Rattle.rb_laws_events.specs.OwnMoments.{CoresAreThoseOfTheRounds, CoresFollowTheRounds};
 ghost use Rattle.rb_laws_events.specs.PendingEvents.{PendingEventsAreFewInLawful};
 ghost use Rattle.rb_laws_events.specs.Promise.{RunningNodesKeepThePromiseInLawful};
@@ -75,6 +75,12 @@ pub fn one_turn_a_record()
 /// had 2^31 ticks. Until then some event is due, or the next record is given without one.
 pub fn every_run_ends()
     ensures { EveryRunEndsInLawful }
+{}
+
+/// Every run ends in every lawful scenario if there is any bound on what faulty nodes say to a node
+/// in a window, whatever they do: at most `takes_with` events are taken.
+pub fn bounded_runs_end()
+    ensures { BoundedRunsEndInLawful }
 {}
 
 /// In every lawful scenario whose faulty nodes do what the entries of a document list, room for
