@@ -10,6 +10,7 @@ pub mod Exchanges
 pub mod StageVotes
 pub mod Speaking
 pub mod Settings
+pub mod SaidWindows
 pub mod Carrying
 pub mod NextMoments
 pub mod FirstStages

@@ -19,11 +19,11 @@ use Rattle.rb_rules.specs.Lawful.{IsLawful}
 use Rattle.rb_rules.specs.Middle.{IsMiddle, middle_of, up_to}
 use Rattle.rb_rules.specs.Moments.{IsRunning}
 use Rattle.rb_rules.specs.NodeState.{NodeState}
-use Rattle.rb_rules.specs.Plan.{f0_of, longest_of, shortest_of, tail_start_of}
+use Rattle.rb_rules.specs.Plan.{f0_of, tail_start_of}
 use Rattle.rb_rules.specs.Ports.{HandIn}
 use Rattle.rb_rules.specs.Rounds.{IsTickOf, Moment, heard_at, moment, sent_in, window_in, windows_in}
 use Rattle.rb_rules.specs.SyncStage.{new_epoch_of}
-use Rattle.rb_rules.proofs.Drift.{HasLengths, times_rise_to}
+use Rattle.rb_rules.proofs.Drift.{times_rise_to}
 use Rattle.rb_rules.proofs.Middles.{middle_so}
 use Rattle.rb_rules.proofs.RoundStates.{keeping-stays}
 use Rattle.rb_rules.proofs.WindowNumbers.{sync-numbered}
@@ -37,7 +37,6 @@ use Rattle.rb_laws_synchrony.proofs.KeptMiddles.{Keeps, keeps}
 use Rattle.rb_laws_synchrony.proofs.StageCalls.{clock_now}
 use Rattle.rb_laws_synchrony.proofs.SyncLaws.{all_timely}
 use Rattle.rb_laws_synchrony.proofs.TakenCalls.{IsTaken, taken_from, took}
-use Rattle.rb_laws_agreement.proofs.FrameTimes.{good-clock}
 use Rattle.rb_laws_agreement.proofs.ExactAgrees.{has_ticks}
 use Rattle.rb_laws_events.specs.Closing.{HaveBegunAFrame, stages_in}
 use Rattle.rb_laws_events.proofs.BreachTimes.{KnewThen, knew-then}
@@ -47,7 +46,7 @@ use Rattle.rb_laws_events.proofs.MomentSteps.{good-state}
 use Rattle.rb_laws_events.proofs.NodeCloses.{heard-all}
 use Rattle.rb_laws_events.proofs.RoundNodes.{Stands, moments-stand}
 use Rattle.rb_laws_events.proofs.SameHeard.{Every}
-use Rattle.rb_laws_events.proofs.SayLists.{ComesIn, said-all}
+use Rattle.rb_laws_events.proofs.SayLists.{ComesIn, said-in-window}
 use Rattle.rb_laws_events.proofs.TimelyMoments.{good-in}
 
 -- Middles.
@@ -110,7 +109,6 @@ heard-from sc hands lawful p running inside me i j st c h heard =
     let w : Window = window_in sc m me st in
     let stood : Stands sc m me st = (moments-stand sc hands p (has_ticks sc lawful)).stands me i st h.there h.good in
     let moves : Moves (clock_of sc me i) = (clock_now sc lawful m me i st h).moves in
-    let lengths : HasLengths (shortest_of sc.plan) (longest_of sc.plan) (clock_of sc me i) = good-clock sc lawful me i m.frame _ h.good in
     let by : (b : Bool) → is_good_at sc m (other me) j ≡ b → st.epoch + w.first ≤ stamp_of (clock_of sc me i) c.time =
     λ b. elim b as (λ b. is_good_at sc m (other me) j ≡ b → st.epoch + w.first ≤ stamp_of (clock_of sc me i) c.time) [
       | true ↦ λ e.
@@ -123,7 +121,7 @@ heard-from sc hands lawful p running inside me i j st c h heard =
           let span : Span = span_of st w in
           let said : said_by sc me i span j ≡ c ∷ [] =
           sym (ap (λ b. elim b as (λ _. List Coming) [ true ↦ entry_of sc m me i j | false ↦ said_by sc me i span j ]) e) ∙ heard-all sc m me i j st (λ j. true) stood.frame (λ g. inl refl) ∙ heard in
-          let comes : Every (ComesIn (clock_of sc me i) span) (said_by sc me i span j) = said-all sc me i j span lengths sc.says lawful.says in
+          let comes : Every (ComesIn (clock_of sc me i) span) (said_by sc me i span j) = said-in-window sc me i j span in
           let one : Every (ComesIn (clock_of sc me i) span) (c ∷ []) = subst (Every (ComesIn (clock_of sc me i) span)) said comes in
           first-stamp (clock_of sc me i) moves (st.epoch + w.first) c.time (one.0.0)
     ] in

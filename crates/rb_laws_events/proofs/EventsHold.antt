@@ -1,13 +1,13 @@
 -- What holds of runs event by event in every lawful scenario.
-use Rattle.std.proofs.Common.{◌≡◌, ℕ, zero, suc, ◌^◌, ◌<◌, Bool, true, false, List, sym, ◌∙◌, arith, inl, inr, Some, slice_get}
+use Rattle.std.proofs.Common.{◌≡◌, ℕ, zero, suc, ◌*◌, ◌^◌, ◌<◌, ◌≤◌, Bool, true, false, List, length, sym, ◌∙◌, arith, inl, inr, Some, slice_get}
 use Rattle.rb_base.specs.Nodes.{Side}
 use Rattle.rb_base.proofs.Plain.{true-false}
 use Rattle.rb_rules.specs.Book.{Each, of_kind}
 use Rattle.rb_rules.specs.Goodness.{Scenario}
 use Rattle.rb_rules.specs.Lawful.{IsLawful}
 use Rattle.rb_rules.specs.Ports.{HandIn}
-use Rattle.rb_rules.specs.WorldStep.{Choice, Site, World, needs_no_event, world_after}
-use Rattle.rb_laws_events.specs.Laws.{EventsAreRoundsInLawful, EveryRunEndsInLawful, OneTurnARecordInLawful, SomethingIsDueInLawful}
+use Rattle.rb_rules.specs.WorldStep.{Choice, Site, World, needs_no_event, says_in, world_after}
+use Rattle.rb_laws_events.specs.Laws.{BoundedRunsEndInLawful, EventsAreRoundsInLawful, EveryRunEndsInLawful, OneTurnARecordInLawful, SomethingIsDueInLawful, nodes_of}
 use Rattle.rb_laws_events.proofs.BreakKeeps.{early-keeps}
 use Rattle.rb_laws_events.proofs.BreakNodes.{KeepsNodes}
 use Rattle.rb_laws_events.proofs.BreakOff.{left-off, runs-small}
@@ -15,6 +15,7 @@ use Rattle.rb_laws_events.proofs.BreakRuns.{WaitsYet, waits-yet}
 use Rattle.rb_laws_events.proofs.BreakWorld.{NodesBreak}
 use Rattle.rb_laws_events.proofs.Behind.{IsBehind}
 use Rattle.rb_laws_events.proofs.EveryWorld.{AnyWorld, any-after, events-are-rounds}
+use Rattle.rb_laws_events.proofs.FewEntered.{says-few}
 use Rattle.rb_laws_events.proofs.LastKeeps.{NodesLast, last-keeps}
 use Rattle.rb_laws_events.proofs.OneTake.{StandsInRounds, world-waits}
 use Rattle.rb_laws_events.proofs.Progress.{SomePends, something-is-due}
@@ -81,6 +82,15 @@ runs-left sc lawful w (inr (inl off)) me i s there runs =
     runs-small sc (nodes_at sc) w.hands k.b k.q k.sent w.sites (keeps sc lawful k.q k.off.small) k.off k.nodes me i s there runs
 runs-left sc lawful w (inr (inr over)) me i s there runs = over.small me i s there runs
 
+pub bounded-end : BoundedRunsEndInLawful
+bounded-end sc lawful n say =
+    every-run-ends sc n say (λ choices. ticks-left sc lawful (world_after sc choices) (any sc lawful choices)) (λ choices. runs-left sc lawful (world_after sc choices) (any sc lawful choices))
+
 pub ends-hold : EveryRunEndsInLawful
-ends-hold sc lawful =
-    every-run-ends sc (λ choices. ticks-left sc lawful (world_after sc choices) (any sc lawful choices)) (λ choices. runs-left sc lawful (world_after sc choices) (any sc lawful choices))
+ends-hold sc lawful listed =
+    bounded-end sc lawful (nodes_of sc.sizes * length sc.says)
+    (λ me i span. at-least (nodes_of sc.sizes) (length sc.says) (length (says_in sc me i span)) (let some = lawful.sizes.some_biu in omega (arith, some)) (says-few sc listed me i span))
+  where
+    at-least : (nodes says few : ℕ) → 1 ≤ nodes → few ≤ says → few ≤ nodes * says
+    at-least zero says few some le = absurd (omega (arith, some))
+    at-least (suc nodes) says few some le = omega (arith, le)

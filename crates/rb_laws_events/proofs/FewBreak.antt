@@ -10,6 +10,7 @@ use Rattle.rb_rules.specs.declared.message.Message.{Message}
 use Rattle.rb_rules.specs.declared.plan.Plan.{Plan}
 use Rattle.rb_rules.specs.declared.plan.Window.{Window}
 use Rattle.rb_rules.specs.Core.{Act, Core, pass_to, said_at, state_at, window_here}
+use Rattle.rb_rules.specs.Entries.{IsListed}
 use Rattle.rb_rules.specs.Goodness.{Scenario}
 use Rattle.rb_rules.specs.Hearing.{Span, span_of, window_numbered}
 use Rattle.rb_rules.specs.Lawful.{IsLawful}
@@ -72,24 +73,24 @@ once-more zero l le = absurd (omega (arith, le))
 once-more (suc e) l le = omega arith
 
 -- the tick with which a node tells its row goes on within `MayBreak`
-tells-few : (sc : Scenario) (hands : List HandIn) (ports : List PortState) (p : ℕ) (me : Side) (i k : ℕ) (s : Site) (r e : ℕ)
+tells-few : (sc : Scenario) → IsListed sc → (hands : List HandIn) (ports : List PortState) (p : ℕ) (me : Side) (i k : ℕ) (s : Site) (r e : ℕ)
     → HasClosed sc hands me i p (after_act sc ports me i (pass_and_tick sc ports me i k s.core) s) → (pass_and_tick sc ports me i k s.core).message ≡ None → 1 ≤ r → 1 ≤ e
     → StepsOn sc (MayBreak sc hands p me i) (pass_and_tick sc ports me i k s.core).message s (after_act sc ports me i (pass_and_tick sc ports me i k s.core) s) r e
-tells-few sc hands ports p me i k s r e closes quiet some one =
+tells-few sc listed hands ports p me i k s r e closes quiet some one =
     let x : Act = pass_and_tick sc ports me i k s.core in
-    let brings : BringsFew sc me x s (after_act sc ports me i x s) = act-brings sc ports me i x s in
+    let brings : BringsFew sc me x s (after_act sc ports me i x s) = act-brings sc listed ports me i x s in
     let most = brings.most in
     let more = once-more e (length sc.says) one in
     let none : messages_in x.message ≡ 0 = ap messages_in quiet in
     record { sends = r; enters = 0; may = inr (closes, inl some); sent = omega (arith, none); room = omega (arith, most, more) }
 
 -- a tick of a node that has closed its stage goes on within `MayBreak`
-closed-few : (sc : Scenario) (hands : List HandIn) → IsLawful sc → HasRoom sc.plan → (sent : Side → ℕ → ℕ → Bool) (ports : List PortState) (p q : ℕ) → IsRunning (moment sc hands p) → q < 2
+closed-few : (sc : Scenario) → IsListed sc → (hands : List HandIn) → IsLawful sc → HasRoom sc.plan → (sent : Side → ℕ → ℕ → Bool) (ports : List PortState) (p q : ℕ) → IsRunning (moment sc hands p) → q < 2
     → (moment sc hands p).window ≡ 3 * sync_slot_of sc.sizes + q → (me : Side) (i : ℕ) (s : Site) (a : Timed) (r e : ℕ) → TickBreaks sc hands sent ports p me i s a → a.tick < 2 ^ 31
     → HasClosed sc hands me i p s → (1 ≤ r) ⊎ HasSpoken sc.sizes sc.plan me s.core.state s.core.had
     → StepsOn sc (MayBreak sc hands p me i) (pass_and_tick sc ports me i a.tick s.core).message s (after_act sc ports me i (pass_and_tick sc ports me i a.tick s.core) s) r e
 unfolding pass_and_tick
-closed-few sc hands lawful room sent ports p q running small at me i s a r e t few h once = by x.message refl
+closed-few sc listed hands lawful room sent ports p q running small at me i s a r e t few h once = by x.message refl
   where
     n : ℕ
     n = (moment sc hands p).window + 1
@@ -162,7 +163,7 @@ closed-few sc hands lawful room sent ports p q running small at me i s a r e t f
         (omega (arith, from, first, epoch, ticked))
 
     brings : length z.coming ≤ length s.coming
-    brings = (act-brings sc ports me i x s).none quiet
+    brings = (act-brings sc listed ports me i x s).none quiet
 
     slot : (window_here sc.sizes sc.plan me s.core.state c.had).slot ≡ sync_slot_of sc.sizes
     slot = ap (λ (w : Window). w.slot) (here-is sc.sizes sc.plan me s.core.state n c.had room.ticks le in_it) ∙ slot-in-sync sc.sizes sc.plan me s.core.state n (omega (arith, at)) le
@@ -202,17 +203,17 @@ closed-few sc hands lawful room sent ports p q running small at me i s a r e t f
         ]
 
 -- a due tick goes on within `MayBreak`
-pub breaks-few : (sc : Scenario) (hands : List HandIn) → IsLawful sc → HasRoom sc.plan → (sent : Side → ℕ → ℕ → Bool) (now : ℕ) (ports : List PortState) (p q : ℕ) → IsRunning (moment sc hands p) → q < 2
+pub breaks-few : (sc : Scenario) → IsListed sc → (hands : List HandIn) → IsLawful sc → HasRoom sc.plan → (sent : Side → ℕ → ℕ → Bool) (now : ℕ) (ports : List PortState) (p q : ℕ) → IsRunning (moment sc hands p) → q < 2
     → (moment sc hands p).window ≡ 3 * sync_slot_of sc.sizes + q → (me : Side) (i : ℕ) (s : Site) (a : Timed) (r e : ℕ) → TickBreaks sc hands sent ports p me i s a → a.tick < 2 ^ 31
     → SiteBreaks sc hands sent now p me i s → MayBreak sc hands p me i r e s
     → StepsOn sc (MayBreak sc hands p me i) (pass_and_tick sc ports me i a.tick s.core).message s (after_act sc ports me i (pass_and_tick sc ports me i a.tick s.core) s) r e
-breaks-few sc hands lawful room sent now ports p q running small at me i s a r e t few h (inr told) = closed-few sc hands lawful room sent ports p q running small at me i s a r e t few told.0 told.1
-breaks-few sc hands lawful room sent now ports p q running small at me i s a r e t few (inl stopped) (inl more) = none_and_some a s.ahead stopped.ahead t.pend
-breaks-few sc hands lawful room sent now ports p q running small at me i s a r e t few (inr (inl h)) (inl more) =
-    tells-few sc hands ports p me i a.tick s r e (site-ticks sc hands lawful room sent now ports p q running small at me i s a t (inr (inl h)))
+breaks-few sc listed hands lawful room sent now ports p q running small at me i s a r e t few h (inr told) = closed-few sc listed hands lawful room sent ports p q running small at me i s a r e t few told.0 told.1
+breaks-few sc listed hands lawful room sent now ports p q running small at me i s a r e t few (inl stopped) (inl more) = none_and_some a s.ahead stopped.ahead t.pend
+breaks-few sc listed hands lawful room sent now ports p q running small at me i s a r e t few (inr (inl h)) (inl more) =
+    tells-few sc listed hands ports p me i a.tick s r e (site-ticks sc hands lawful room sent now ports p q running small at me i s a t (inr (inl h)))
     (hearing-quiet sc hands lawful room sent now ports p q running (omega arith) at me i s a t h) more.0 more.1
-breaks-few sc hands lawful room sent now ports p q running small at me i s a r e t few (inr (inr (inl h))) (inl more) =
-    tells-few sc hands ports p me i a.tick s r e (site-ticks sc hands lawful room sent now ports p q running small at me i s a t (inr (inr (inl h))))
+breaks-few sc listed hands lawful room sent now ports p q running small at me i s a r e t few (inr (inr (inl h))) (inl more) =
+    tells-few sc listed hands ports p me i a.tick s r e (site-ticks sc hands lawful room sent now ports p q running small at me i s a t (inr (inr (inl h))))
     (deaf-quiet sc hands lawful room sent ports p q running (omega arith) at me i s a t h) more.0 more.1
-breaks-few sc hands lawful room sent now ports p q running small at me i s a r e t few (inr (inr (inr h))) (inl more) =
-    closed-few sc hands lawful room sent ports p q running small at me i s a r e t few h (inl more.0)
+breaks-few sc listed hands lawful room sent now ports p q running small at me i s a r e t few (inr (inr (inr h))) (inl more) =
+    closed-few sc listed hands lawful room sent ports p q running small at me i s a r e t few h (inl more.0)

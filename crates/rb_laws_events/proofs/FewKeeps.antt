@@ -9,6 +9,7 @@ use Rattle.rb_rules.specs.declared.message.Message.{Message}
 use Rattle.rb_rules.specs.Book.{Each, of_kind}
 use Rattle.rb_rules.specs.Clock.{stamp_of, time_of}
 use Rattle.rb_rules.specs.Core.{Act, Core, arrive, pass_to}
+use Rattle.rb_rules.specs.Entries.{IsListed}
 use Rattle.rb_rules.specs.Goodness.{Scenario, clock_of}
 use Rattle.rb_rules.specs.Hearing.{Coming, coming_of}
 use Rattle.rb_rules.specs.Lawful.{IsLawful}
@@ -69,8 +70,8 @@ pub sum-same : (k n : ℕ) → sum_to (λ _. k) n ≡ n * k
 sum-same k zero = omega arith
 sum-same k (suc n) = let rest = sum-same k n in omega (arith, rest)
 
-begins-few : (sc : Scenario) (q : ℕ) (hands : List HandIn) (b now : ℕ) (at : Side → ℕ → ℕ) (sites : Each Site) (t : ℕ) → FirstCloses sc hands now at sites b t → FewOff sc q hands b sites
-begins-few sc q hands b now at sites t h = record {
+begins-few : (sc : Scenario) → IsListed sc → (q : ℕ) (hands : List HandIn) (b now : ℕ) (at : Side → ℕ → ℕ) (sites : Each Site) (t : ℕ) → FirstCloses sc hands now at sites b t → FewOff sc q hands b sites
+begins-few sc listed q hands b now at sites t h = record {
   sends = λ _ _. 2;
   enters = λ _ _. 2;
   rooms = record {
@@ -86,7 +87,7 @@ begins-few sc q hands b now at sites t h = record {
     here : (me : Side) (i : ℕ) (s : Site) → slice_get (of_kind me sites) i ≡ Some s → (r : Bool) → s.runs ≡ r → length s.coming ≤ 2 * count_of (other me) sc.sizes + length sc.says
     here me i s there true e =
         let up : IsUp sc hands (sent_by sc hands at sites) now me i (at me i) s = h.stand.up me i s there e in
-        few-where-it-stands sc hands (sent_by sc hands at sites) now me i (at me i) s up.st up.a up.stands
+        few-where-it-stands sc listed hands (sent_by sc hands at sites) now me i (at me i) s up.st up.a up.stands
     here me i s there false e =
         let down : IsDown sc hands me i (at me i) s = h.stand.down me i s there e in
         let none : length s.coming ≡ 0 = ap length down.coming in
@@ -198,16 +199,16 @@ changes-few sc q hands b sites me i frame k m change s r e h there room sent may
 
 -- Ticks.
 
-pub steps-at : (sc : Scenario) → IsLawful sc → (q : ℕ) (hands : List HandIn) (b : ℕ) → BreaksAt sc hands b q → (sent : Side → ℕ → ℕ → Bool) (ports : List PortState) (sites : Each Site) → nodes_at sc q hands b sent sites
+pub steps-at : (sc : Scenario) → IsListed sc → IsLawful sc → (q : ℕ) (hands : List HandIn) (b : ℕ) → BreaksAt sc hands b q → (sent : Side → ℕ → ℕ → Bool) (ports : List PortState) (sites : Each Site) → nodes_at sc q hands b sent sites
     → (me : Side) (i : ℕ) (s : Site) (a : Timed) (r e : ℕ) → TickBreaks sc hands sent ports b me i s a → a.tick < 2 ^ 31 → slice_get (of_kind me sites) i ≡ Some s → may_at sc q hands b me i r e s
     → StepsOn sc (may_at sc q hands b me i) (pass_and_tick sc ports me i a.tick s.core).message s (after_act sc ports me i (pass_and_tick sc ports me i a.tick s.core) s) r e
-steps-at sc lawful zero hands b off sent ports sites h me i s a r e t small there may =
-    breaks-few sc hands lawful (has-room sc lawful) sent (h me i s there).0 ports b 0 off.running (omega arith) off.window me i s a r e t small (h me i s there).1 may
-steps-at sc lawful (suc zero) hands b off sent ports sites h me i s a r e t small there may =
-    breaks-few sc hands lawful (has-room sc lawful) sent (h me i s there).0 ports b 1 off.running (omega arith) off.window me i s a r e t small (h me i s there).1 may
-steps-at sc lawful (suc (suc zero)) hands b off sent ports sites h me i s a r e t small there may =
-    last-few sc hands lawful (has-room sc lawful) sent ports b off.running off.window me i s a r e t (h me i s there) may
-steps-at sc lawful (suc (suc (suc q))) hands b off sent ports sites h me i s a r e t small there may = absurd (let few = off.small in omega (arith, few))
+steps-at sc listed lawful zero hands b off sent ports sites h me i s a r e t small there may =
+    breaks-few sc listed hands lawful (has-room sc lawful) sent (h me i s there).0 ports b 0 off.running (omega arith) off.window me i s a r e t small (h me i s there).1 may
+steps-at sc listed lawful (suc zero) hands b off sent ports sites h me i s a r e t small there may =
+    breaks-few sc listed hands lawful (has-room sc lawful) sent (h me i s there).0 ports b 1 off.running (omega arith) off.window me i s a r e t small (h me i s there).1 may
+steps-at sc listed lawful (suc (suc zero)) hands b off sent ports sites h me i s a r e t small there may =
+    last-few sc listed hands lawful (has-room sc lawful) sent ports b off.running off.window me i s a r e t (h me i s there) may
+steps-at sc listed lawful (suc (suc (suc q))) hands b off sent ports sites h me i s a r e t small there may = absurd (let few = off.small in omega (arith, few))
 
 -- a tick that is due is one of those that the node may have
 pub tick-small : (sc : Scenario) → IsLawful sc → (q : ℕ) → KeepsNodes sc q (nodes_at sc q) → (hands : List HandIn) (b : ℕ) → BreaksAt sc hands b q → (sent : Side → ℕ → ℕ → Bool) (ports : List PortState) (sites : Each Site)
@@ -229,14 +230,14 @@ arrived-less : (sc : Scenario) (me : Side) (i n : ℕ) (c : Coming) (s : Site) �
 unfolding after_arrival
 arrived-less sc me i n c s h = let less = length-without n c s.coming h in omega (arith, less)
 
-pub few-keeps : (sc : Scenario) → IsLawful sc → (q : ℕ) → q < 3 → KeepsNodes sc q (few_at sc q)
-few-keeps sc lawful q small = record {
-  begins = λ hands b off now at sites t first. (its.begins hands b off now at sites t first, begins-few sc q hands b now at sites t first);
+pub few-keeps : (sc : Scenario) → IsListed sc → IsLawful sc → (q : ℕ) → q < 3 → KeepsNodes sc q (few_at sc q)
+few-keeps sc listed lawful q small = record {
+  begins = λ hands b off now at sites t first. (its.begins hands b off now at sites t first, begins-few sc listed q hands b now at sites t first);
   waits = λ hands b off sent sites h. its.waits hands b off sent sites h.0;
   told = λ hands b off sent ports sites h. its.told hands b off sent ports sites h.0;
   tick = λ hands b off sent ports sites h me i frame s a t there.
       let x : Act = pass_and_tick sc ports me i a.tick s.core in
-      let step = steps-at sc lawful q hands b off sent ports sites h.0 me i s a (h.1.sends me i) (h.1.enters me i) t (tick-small sc lawful q its hands b off sent ports sites h.0 me i s a t there) there (h.1.may me i s there) in (
+      let step = steps-at sc listed lawful q hands b off sent ports sites h.0 me i s a (h.1.sends me i) (h.1.enters me i) t (tick-small sc lawful q its hands b off sent ports sites h.0 me i s a t there) there (h.1.may me i s there) in (
         its.tick hands b off sent ports sites h.0 me i frame s a t there,
         changes-few sc q hands b sites me i frame a.tick x.message (after_act sc ports me i x) s step.sends step.enters h.1 there step.room step.sent step.may,
       );

@@ -10,6 +10,7 @@ use Rattle.rb_rules.specs.declared.message.Message.{Message}
 use Rattle.rb_rules.specs.declared.plan.Plan.{Plan}
 use Rattle.rb_rules.specs.declared.plan.Window.{Window}
 use Rattle.rb_rules.specs.Core.{Act, Core, act_at, act_on, is_spent, pass_to, said_at, state_kept, tick, window_here}
+use Rattle.rb_rules.specs.Entries.{IsListed}
 use Rattle.rb_rules.specs.Goodness.{Scenario}
 use Rattle.rb_rules.specs.Lawful.{IsLawful}
 use Rattle.rb_rules.specs.Moments.{IsRunning}
@@ -59,12 +60,12 @@ two-less zero l le = absurd (omega (arith, le))
 two-less (suc e) l le = let rest = once-more e l (omega (arith, le)) in omega (arith, rest)
 
 -- the tick with which a node tells its row goes on within `MayLast`
-tells-few : (sc : Scenario) (hands : List HandIn) (ports : List PortState) (p : ℕ) (me : Side) (i k : ℕ) (s : Site) (r e : ℕ)
+tells-few : (sc : Scenario) → IsListed sc → (hands : List HandIn) (ports : List PortState) (p : ℕ) (me : Side) (i k : ℕ) (s : Site) (r e : ℕ)
     → HasToldLast sc hands me i p (after_act sc ports me i (pass_and_tick sc ports me i k s.core) s) → (pass_and_tick sc ports me i k s.core).message ≡ None → 2 ≤ r → 2 ≤ e
     → StepsOn sc (MayLast sc hands p me i) (pass_and_tick sc ports me i k s.core).message s (after_act sc ports me i (pass_and_tick sc ports me i k s.core) s) r e
-tells-few sc hands ports p me i k s r e tells quiet some two =
+tells-few sc listed hands ports p me i k s r e tells quiet some two =
     let x : Act = pass_and_tick sc ports me i k s.core in
-    let brings : BringsFew sc me x s (after_act sc ports me i x s) = act-brings sc ports me i x s in
+    let brings : BringsFew sc me x s (after_act sc ports me i x s) = act-brings sc listed ports me i x s in
     let most = brings.most in
     let more = two-less e (length sc.says) two in
     let none : messages_in x.message ≡ 0 = ap messages_in quiet in
@@ -96,11 +97,11 @@ tail-alike sizes plan me i frame e x c word room low h lt = by (is_spent c)
         act_of y = act_on sizes plan me i c y (said_at sizes plan me i y word c.had) (state_kept sizes me i y word (said_at sizes plan me i y word c.had))
 
 -- a tick of a node that has told its row goes on within `MayLast`
-told-few : (sc : Scenario) (hands : List HandIn) → IsLawful sc → HasRoom sc.plan → (sent : Side → ℕ → ℕ → Bool) (ports : List PortState) (p : ℕ) → IsRunning (moment sc hands p)
+told-few : (sc : Scenario) → IsListed sc → (hands : List HandIn) → IsLawful sc → HasRoom sc.plan → (sent : Side → ℕ → ℕ → Bool) (ports : List PortState) (p : ℕ) → IsRunning (moment sc hands p)
     → (moment sc hands p).window ≡ 3 * sync_slot_of sc.sizes + 2 → (me : Side) (i : ℕ) (s : Site) (a : Timed) (r e : ℕ) → TickBreaks sc hands sent ports p me i s a → ToldFew sc hands p me i r e s
     → StepsOn sc (MayLast sc hands p me i) (pass_and_tick sc ports me i a.tick s.core).message s (after_act sc ports me i (pass_and_tick sc ports me i a.tick s.core) s) r e
 unfolding pass_and_tick told-ticks
-told-few sc hands lawful room sent ports p running at me i s a r e t g = by next.after
+told-few sc listed hands lawful room sent ports p running at me i s a r e t g = by next.after
   where
     h : HasToldLast sc hands me i p s
     h = g.told
@@ -145,7 +146,7 @@ told-few sc hands lawful room sent ports p running at me i s a r e t g = by next
     z_had = ap (λ (c : Core). c.had) core ∙ ticked
 
     brings : BringsFew sc me x s z
-    brings = act-brings sc ports me i x s
+    brings = act-brings sc listed ports me i x s
 
     not-both : {P : Type 0} (n f : ℕ) → n ≡ f → n ≡ f + 1 → P
     not-both n f a b = absurd (omega (arith, a, b))
@@ -286,19 +287,19 @@ told-few sc hands lawful room sent ports p running at me i s a r e t g = by next
         beyond (omega (arith, begun, had)) (elim (g.turned y.in_frame) [ inl one ↦ inl one | inr over ↦ inr (omega (arith, over, had)) ]) x.message refl
 
 -- a due tick goes on within `MayLast`
-pub last-few : (sc : Scenario) (hands : List HandIn) → IsLawful sc → HasRoom sc.plan → (sent : Side → ℕ → ℕ → Bool) (ports : List PortState) (p : ℕ) → IsRunning (moment sc hands p)
+pub last-few : (sc : Scenario) → IsListed sc → (hands : List HandIn) → IsLawful sc → HasRoom sc.plan → (sent : Side → ℕ → ℕ → Bool) (ports : List PortState) (p : ℕ) → IsRunning (moment sc hands p)
     → (moment sc hands p).window ≡ 3 * sync_slot_of sc.sizes + 2 → (me : Side) (i : ℕ) (s : Site) (a : Timed) (r e : ℕ) → TickBreaks sc hands sent ports p me i s a
     → SiteLast sc hands sent p me i s → MayLast sc hands p me i r e s
     → StepsOn sc (MayLast sc hands p me i) (pass_and_tick sc ports me i a.tick s.core).message s (after_act sc ports me i (pass_and_tick sc ports me i a.tick s.core) s) r e
-last-few sc hands lawful room sent ports p running at me i s a r e t h (inr told) = told-few sc hands lawful room sent ports p running at me i s a r e t told
-last-few sc hands lawful room sent ports p running at me i s a r e t (inl stopped) (inl more) = none_and_some a s.ahead stopped.ahead t.pend
-last-few sc hands lawful room sent ports p running at me i s a r e t (inr (inl h)) (inl more) =
-    tells-few sc hands ports p me i a.tick s r e (last-ticks sc hands lawful room sent ports p running at me i s a t (inr (inl h))) (ahead-quiet sc hands lawful room sent ports p running at me i s a t h) more.0 more.1
-last-few sc hands lawful room sent ports p running at me i s a r e t (inr (inr (inl h))) (inl more) =
-    tells-few sc hands ports p me i a.tick s r e (last-ticks sc hands lawful room sent ports p running at me i s a t (inr (inr (inl h))))
+last-few sc listed hands lawful room sent ports p running at me i s a r e t h (inr told) = told-few sc listed hands lawful room sent ports p running at me i s a r e t told
+last-few sc listed hands lawful room sent ports p running at me i s a r e t (inl stopped) (inl more) = none_and_some a s.ahead stopped.ahead t.pend
+last-few sc listed hands lawful room sent ports p running at me i s a r e t (inr (inl h)) (inl more) =
+    tells-few sc listed hands ports p me i a.tick s r e (last-ticks sc hands lawful room sent ports p running at me i s a t (inr (inl h))) (ahead-quiet sc hands lawful room sent ports p running at me i s a t h) more.0 more.1
+last-few sc listed hands lawful room sent ports p running at me i s a r e t (inr (inr (inl h))) (inl more) =
+    tells-few sc listed hands ports p me i a.tick s r e (last-ticks sc hands lawful room sent ports p running at me i s a t (inr (inr (inl h))))
     (deaf-quiet sc hands lawful room sent ports p 2 running (lit< tt) at me i s a t h) more.0 more.1
-last-few sc hands lawful room sent ports p running at me i s a r e t (inr (inr (inr h))) (inl more) =
-    told-few sc hands lawful room sent ports p running at me i s a r e t (record {
+last-few sc listed hands lawful room sent ports p running at me i s a r e t (inr (inr (inr h))) (inl more) =
+    told-few sc listed hands lawful room sent ports p running at me i s a r e t (record {
       told = h;
       enters = λ lt. let two = more.1 in omega (arith, two);
       tail = λ f. inl more.0;

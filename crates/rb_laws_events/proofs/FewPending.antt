@@ -5,6 +5,7 @@ use Rattle.rb_base.specs.Nodes.{Side, other}
 use Rattle.rb_rules.specs.Book.{Each, of_kind}
 use Rattle.rb_rules.specs.Core.{Act}
 use Rattle.rb_rules.specs.declared.message.Message.{Message}
+use Rattle.rb_rules.specs.Entries.{IsListed}
 use Rattle.rb_rules.specs.Goodness.{Scenario}
 use Rattle.rb_rules.specs.Hearing.{Sending, coming_of}
 use Rattle.rb_rules.specs.Lawful.{IsLawful}
@@ -34,13 +35,13 @@ times-many s = by s.ahead
 abbrev pub HaveRoom : Scenario → Each Site → Type 0
 HaveRoom sc sites = (me : Side) (i : ℕ) (s : Site) → slice_get (of_kind me sites) i ≡ Some s → length (times_of s) ≤ most_pending sc me
 
-world-few : (sc : Scenario) (w : World) → StandsInRounds sc w → HaveRoom sc w.sites
-world-few sc w h me i s there = by s.runs refl
+world-few : (sc : Scenario) → IsListed sc → (w : World) → StandsInRounds sc w → HaveRoom sc w.sites
+world-few sc listed w h me i s there = by s.runs refl
   where
     by : (b : Bool) → s.runs ≡ b → length (times_of s) ≤ most_pending sc me
     by true e =
         let up : IsUp sc w.hands (sent_by sc w.hands h.at w.sites) h.now me i (h.at me i) s = h.stands.sites.up me i s there e in
-        let few = few-where-it-stands sc w.hands (sent_by sc w.hands h.at w.sites) h.now me i (h.at me i) s up.st up.a up.stands in
+        let few = few-where-it-stands sc listed w.hands (sent_by sc w.hands h.at w.sites) h.now me i (h.at me i) s up.st up.a up.stands in
         let all = times-many s in
         omega (arith, few, all)
     by false e =
@@ -101,28 +102,28 @@ own-few sc me i frame k o change sites s fits there =
 coming-few : (sc : Scenario) (sites : Each Site) → ((me : Side) (i : ℕ) (s : Site) → slice_get (of_kind me sites) i ≡ Some s → length s.coming ≤ most_coming sc me) → HaveRoom sc sites
 coming-few sc sites h me i s there = let few = h me i s there in let all = times-many s in omega (arith, few, all)
 
-all-few : (sc : Scenario) → IsLawful sc → (choices : List Choice) → HaveRoom sc (world_after sc choices).sites
-all-few sc lawful choices = by (any-after sc (few_at sc) lawful (has-room sc lawful) (few-keeps sc lawful) choices)
+all-few : (sc : Scenario) → IsListed sc → IsLawful sc → (choices : List Choice) → HaveRoom sc (world_after sc choices).sites
+all-few sc listed lawful choices = by (any-after sc (few_at sc) lawful (has-room sc lawful) (few-keeps sc listed lawful) choices)
   where
     w : World
     w = world_after sc choices
 
     by : AnyWorld sc (few_at sc) w → HaveRoom sc w.sites
-    by (inl run) = world-few sc w run.stands
+    by (inl run) = world-few sc listed w run.stands
     by (inr (inl off)) = coming-few sc w.sites (rooms-few sc off.stands.q w.hands off.stands.b off.stands.sent w.sites off.stands.nodes.nodes)
     by (inr (inr over)) = coming-few sc w.sites (rooms-few sc over.q w.hands over.b over.sent w.sites over.nodes)
 
 -- a tick that is due happens in the world after one more choice
-tick-few : (sc : Scenario) → IsLawful sc → (choices : List Choice) (me : Side) (i k : ℕ) (s : Site) (x : Act)
+tick-few : (sc : Scenario) → IsListed sc → IsLawful sc → (choices : List Choice) (me : Side) (i k : ℕ) (s : Site) (x : Act)
     → TakesTick sc (world_after sc choices) me i k s x
     → HaveRoom sc (with_message sc me i x.core.state.frame k x.message (at_node me i (after_act sc (world_after sc choices).ports me i x) (world_after sc choices).sites))
 unfolding take happens with_act
-tick-few sc lawful choices me i k s x h =
+tick-few sc listed lawful choices me i k s x h =
     let w : World = world_after sc choices in
     let d : Due = record { side = me; node = i; pending = Tick k } in
     let next : List Choice = choices ++ Take h.place ∷ [] in
     let after : HaveRoom sc (choose sc w (Take h.place)).sites =
-    subst (λ (w : World). HaveRoom sc w.sites) (after-more sc choices (Take h.place)) (all-few sc lawful next) in
+    subst (λ (w : World). HaveRoom sc w.sites) (after-more sc choices (Take h.place)) (all-few sc listed lawful next) in
     let taken : HaveRoom sc (take_if_due sc w (Some d)).sites = subst (λ o. HaveRoom sc (take_if_due sc w o).sites) h.is_due after in
     let happened : HaveRoom sc (happens sc w d).sites = subst (HaveRoom sc) (settle-sites sc ByAnEvent 2 (happens sc w d)) taken in
     let acted : HaveRoom sc (with_act sc w me i k (pass_and_tick sc w.ports me i k s.core)).sites =
@@ -130,12 +131,12 @@ tick-few sc lawful choices me i k s x h =
     subst (λ x. HaveRoom sc (with_act sc w me i k x).sites) (sym h.does) acted
 
 pub pending-few : PendingEventsAreFewInLawful
-pending-few sc lawful choices =
+pending-few sc lawful listed choices =
     let w : World = world_after sc choices in
     record {
-      now = all-few sc lawful choices;
+      now = all-few sc listed lawful choices;
       own = λ me i k s x h.
-          own-few sc me i x.core.state.frame k x.message (after_act sc w.ports me i x) w.sites s (tick-few sc lawful choices me i k s x h) h.there;
+          own-few sc me i x.core.state.frame k x.message (after_act sc w.ports me i x) w.sites s (tick-few sc listed lawful choices me i k s x h) h.there;
       message = λ me i k s x m h e j z there runs.
-          message-few sc me i x.core.state.frame k x.message m (after_act sc w.ports me i x) w.sites (tick-few sc lawful choices me i k s x h) e j z there runs;
+          message-few sc me i x.core.state.frame k x.message m (after_act sc w.ports me i x) w.sites (tick-few sc listed lawful choices me i k s x h) e j z there runs;
     }

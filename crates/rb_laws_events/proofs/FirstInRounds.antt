@@ -106,7 +106,7 @@ times-first sc lawful =
 pub first-in-rounds : (sc : Scenario) → IsLawful sc → HasRoom sc.plan → WorldInRounds sc 0 at_begin (first_world sc)
 unfolding first_world begin_frame
 first-in-rounds sc lawful room =
-    let both = first-stands sc [] lawful room (times-first sc lawful) in
+    let both = first-stands sc [] room (times-first sc lawful) in
     record {
       sites = both.0;
       passed = both.1;

@@ -12,16 +12,12 @@ use Rattle.rb_rules.specs.declared.plan.Window.{Window}
 use Rattle.rb_rules.specs.Core.{state_at, window_here}
 use Rattle.rb_rules.specs.Goodness.{Scenario, clock_of, is_good}
 use Rattle.rb_rules.specs.Hearing.{Coming, Span, said_by, span_of}
-use Rattle.rb_rules.specs.Lawful.{IsLawful}
 use Rattle.rb_rules.specs.NodeState.{NodeState, first_state}
-use Rattle.rb_rules.specs.Plan.{longest_of, shortest_of}
 use Rattle.rb_rules.specs.Ports.{HandIn}
 use Rattle.rb_rules.specs.Rounds.{Moment, begin_frame, moment, window_in}
 use Rattle.rb_rules.specs.Slots.{count_of}
 use Rattle.rb_rules.specs.WorldStep.{Site, await, enter, first_world, fresh_site, proceed, says_in, span_from, stop}
-use Rattle.rb_rules.proofs.Drift.{HasLengths}
 use Rattle.rb_rules.proofs.WindowNumbers.{get-made}
-use Rattle.rb_laws_agreement.proofs.FrameTimes.{good-clock}
 use Rattle.rb_laws_agreement.proofs.Goodnesses.{good_counts}
 use Rattle.rb_laws_events.proofs.Invariant.{InTime, ahead_so_far, heard_so_far, is_good_at, last_tick, next_stage, sending_of}
 use Rattle.rb_laws_events.proofs.NodeActs.{HasRoom}
@@ -69,17 +65,16 @@ nothing-heard : (j u : ℕ) → Hears j u [] [] [] []
 nothing-heard j u = record { came = tt; pends = tt; as_many = refl; later = refl }
 
 -- a good node's site enters the first window
-first-enters : (sc : Scenario) (hands : List HandIn) (me : Side) (i : ℕ) → IsLawful sc → HasRoom sc.plan → is_good_at sc (moment sc hands 0) me i ≡ true
+first-enters : (sc : Scenario) (hands : List HandIn) (me : Side) (i : ℕ) → HasRoom sc.plan → is_good_at sc (moment sc hands 0) me i ≡ true
     → Enters sc hands none_sent 0 me i 0 0 (first_state sc.sizes me) (fresh_site sc.sizes me)
 unfolding begin_frame
-first-enters sc hands me i lawful room good =
+first-enters sc hands me i room good =
     let m : Moment = moment sc hands 0 in
     let st : NodeState = first_state sc.sizes me in
     let clock : Timeline = clock_of sc me i in
     let span : Span = span_of st (window_in sc m me st) in
     let u : ℕ = time_of clock (last_tick sc m me st) in
     let counted : i < count_of me sc.sizes = good_counts sc me i 0 (slot_numbered sc.sizes 0) good in
-    let lengths : HasLengths (shortest_of sc.plan) (longest_of sc.plan) clock = good-clock sc lawful me i 0 (slot_numbered sc.sizes 0) good in
     let zero_first : first_of sc.sizes sc.plan me st 0 ≡ 0 * sc.plan.l = first-same sc.sizes sc.plan me st 0 (omega arith) in
     let t : Tiles sc.sizes sc.plan me st 0 = tiles sc.sizes sc.plan me st 0 room.ticks (omega arith) in
     let first : 0 ≡ st.epoch + first_of sc.sizes sc.plan me st 0 = omega arith in
@@ -102,9 +97,9 @@ first-enters sc hands me i lawful room good =
       at_first = λ e. refl;
       hears = λ j.
           let says_times : Every (λ c. c.time ≤ u) (says_in sc me i span) =
-          every-to (ComesIn clock span) (λ c. c.time ≤ u) (λ c h. h.1) (says_in sc me i span) (says-come-in sc lawful me i span lengths) in
+          every-to (ComesIn clock span) (λ c. c.time ≤ u) (λ c h. h.1) (says_in sc me i span) (says-come-in sc me i span) in
           let more : Hears j u [] ([] ++ says_in sc me i span) ([] ++ said_if sc me i span j) [] =
-          say-more j u [] (says_in sc me i span) (said_if sc me i span j) [] [] (says-now sc lawful me i span lengths j) says_times (inr refl) (nothing-heard j u) in
+          say-more j u [] (says_in sc me i span) (said_if sc me i span j) [] [] (says-now sc me i span j) says_times (inr refl) (nothing-heard j u) in
           subst (λ l. Hears j u [] (says_in sc me i span) l (ahead_so_far sc (moment sc hands (next_stage sc.sizes m 0)) me i (λ j. false) j)) (sym (heard-none sc m me i j st refl))
           (subst (λ l. Hears j u [] (says_in sc me i span) (said_if sc me i span j) l) (sym (ahead-none sc (moment sc hands (next_stage sc.sizes m 0)) me i j)) more);
     }
@@ -132,10 +127,10 @@ pub record FirstNode (sc : Scenario) (hands : List HandIn) (me : Side) (i : ℕ)
   pub node : ((s.runs ≡ true) × IsUp sc hands none_sent 0 me i 0 s) ⊎ ((s.runs ≡ false) × IsDown sc hands me i 0 s)
   pub silent : past (sending_of sc (moment sc hands 0) me i) s.ahead ≡ false
 
-first-node : (sc : Scenario) (hands : List HandIn) (me : Side) (i : ℕ) → IsLawful sc → HasRoom sc.plan → AreInTime sc hands at_begin → i < count_of me sc.sizes
+first-node : (sc : Scenario) (hands : List HandIn) (me : Side) (i : ℕ) → HasRoom sc.plan → AreInTime sc hands at_begin → i < count_of me sc.sizes
     → FirstNode sc hands me i (proceed sc me i (fresh_site sc.sizes me))
 unfolding proceed begin_frame
-first-node sc hands me i lawful room times counted =
+first-node sc hands me i room times counted =
     let m : Moment = moment sc hands 0 in
     let st : NodeState = first_state sc.sizes me in
     let s : Site = fresh_site sc.sizes me in
@@ -145,11 +140,10 @@ first-node sc hands me i lawful room times counted =
     λ b. elim b as (λ b. is_good_at sc m me i ≡ b
     → FirstNode sc hands me i (elim b as (λ _. Site) [ true ↦ await sc me i (says_in sc me i span) s | false ↦ stop s ])) [
       | true ↦ λ e.
-          let en : Enters sc hands none_sent 0 me i 0 0 st s = first-enters sc hands me i lawful room e in
+          let en : Enters sc hands none_sent 0 me i 0 0 st s = first-enters sc hands me i room e in
           let it : InTime sc m (moment sc hands (next_stage sc.sizes m 0)) = times.each me i e in
-          let lengths : HasLengths (shortest_of sc.plan) (longest_of sc.plan) (clock_of sc me i) = good-clock sc lawful me i 0 (slot_numbered sc.sizes 0) e in
           let ent : Entered sc hands none_sent 0 me i 0 st s =
-          enters sc hands none_sent 0 me i 0 0 st s lawful room lengths (it.keeps me i st en.state e) (it.room me i st en.state e) en in
+          enters sc hands none_sent 0 me i 0 0 st s room (it.keeps me i st en.state e) (it.room me i st en.state e) en in
           record {
             node = inl (refl, record { st = st; a = ent.a; stands = ent.stands });
             silent = ap (past (sending_of sc m me i)) ent.stands.receives.pends ∙ past-gone (sending_of sc m me i) ent.a
@@ -177,10 +171,10 @@ first-node sc hands me i lawful room times counted =
     (sym (good-span sc m me me i st refl)) (by (is_good_at sc m me i) refl))
 
 -- in the first world all nodes stand in the first moment, and nobody has passed a window
-pub first-stands : (sc : Scenario) (hands : List HandIn) → IsLawful sc → HasRoom sc.plan → AreInTime sc hands at_begin
+pub first-stands : (sc : Scenario) (hands : List HandIn) → HasRoom sc.plan → AreInTime sc hands at_begin
     → SitesStand sc hands 0 at_begin (first_world sc).sites × HavePassed sc hands 0 at_begin
 unfolding first_world
-first-stands sc hands lawful room times =
+first-stands sc hands room times =
     let make : Side → ℕ → Site = λ me i. proceed sc me i (fresh_site sc.sizes me) in
     let sites : Each Site = each_of sc.sizes make in
     let counts : (me : Side) → length (of_kind me sites) ≡ count_of me sc.sizes = first-counts sc.sizes make in
@@ -190,7 +184,7 @@ first-stands sc hands lawful room times =
     let long : length (of_kind me sites) ≡ count_of me sc.sizes = counts me in
     let counted : i < count_of me sc.sizes = omega arith in
     let same : make me i ≡ s = same_Some (make me i) s (sym (get-made sc.sizes make me i counted) ∙ e) in
-    subst (FirstNode sc hands me i) same (first-node sc hands me i lawful room times counted) in
+    subst (FirstNode sc hands me i) same (first-node sc hands me i room times counted) in
     let silent : (side : Side) (j : ℕ) (o : Option Site) → slice_get (of_kind side sites) j ≡ o
     → past (sending_of sc (moment sc hands 0) side j) (option_and_then (λ (s : Site). s.ahead) o) ≡ false =
     λ side j o. elim o as (λ o. slice_get (of_kind side sites) j ≡ o → past (sending_of sc (moment sc hands 0) side j) (option_and_then (λ (s : Site). s.ahead) o) ≡ false) [

@@ -53,6 +53,7 @@ pub mod RoundNodes
 pub mod WorldBooks
 pub mod EventsLaw
 pub mod SameHeard
+pub mod EachAlike
 pub mod PendingLists
 pub mod SendingLists
 pub mod ClosingTicks

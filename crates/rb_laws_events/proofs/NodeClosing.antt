@@ -14,17 +14,14 @@ use Rattle.rb_rules.specs.Core.{Core, Act, of_source, pass_to, state_at, window_
 use Rattle.rb_rules.specs.ExactStage.{Outcome, close_exact, outcome_of}
 use Rattle.rb_rules.specs.Goodness.{Scenario, is_good, clock_of}
 use Rattle.rb_rules.specs.Hearing.{Coming, Span, close_window, row_of, span_of, window_numbered}
-use Rattle.rb_rules.specs.Lawful.{IsLawful}
 use Rattle.rb_rules.specs.NodeState.{NodeState}
-use Rattle.rb_rules.specs.Plan.{longest_of, shortest_of}
 use Rattle.rb_rules.specs.Ports.{HandIn, PortState}
 use Rattle.rb_rules.specs.Rounds.{Moment, Result, go_through, moment, sent_in, window_in, windows_in}
 use Rattle.rb_rules.specs.SyncStage.{new_epoch_of, close_sync, sync_outcome_of}
 use Rattle.rb_rules.specs.Sense.{Arrival, sense_of}
 use Rattle.rb_rules.specs.NodeSteps.{expect_of}
 use Rattle.rb_rules.specs.WorldStep.{Timed, Site, after_act, await, coming_from, pass_and_tick, says_in, stop}
-use Rattle.rb_rules.proofs.Drift.{HasLengths, times_rise_to}
-use Rattle.rb_rules.proofs.RoundStates.{Knows}
+use Rattle.rb_rules.proofs.Drift.{times_rise_to}
 use Rattle.rb_rules.proofs.WindowNumbers.{sync-numbered}
 use Rattle.rb_laws_events.specs.Closing.{stages_in}
 use Rattle.rb_laws_events.specs.OwnMoments.{StandsWhereNotGood, open_window, ready_state}
@@ -40,7 +37,7 @@ use Rattle.rb_laws_events.proofs.NodeSends.{KeepsTime, sending_at}
 use Rattle.rb_laws_events.proofs.NodeTicks.{Like, gone, like-kept, tail-last}
 use Rattle.rb_laws_events.proofs.PendingLists.{Hears}
 use Rattle.rb_laws_events.proofs.Receiving.{Receives}
-use Rattle.rb_laws_events.proofs.RoundNodes.{slot-is, slot_numbered}
+use Rattle.rb_laws_events.proofs.RoundNodes.{Stands, slot-is, slot_numbered}
 use Rattle.rb_laws_events.proofs.SameHeard.{AllOf, Every}
 use Rattle.rb_laws_events.proofs.SayLists.{ComesIn, every-to, said_if, say-more, says-come-in, says-now}
 use Rattle.rb_laws_events.proofs.StageOrder.{last_of}
@@ -64,12 +61,6 @@ pub record NextInTime (sc : Scenario) (hands : List HandIn) (p : ℕ) : Type 0 w
       → is_good_at sc (moment sc hands (suc p)) me i ≡ true
       → is_good_at sc (moment sc hands (next_stage sc.sizes (moment sc hands (suc p)) (suc p))) (other me) j ≡ true
       → ComesLater sc (moment sc hands (suc p)) (moment sc hands (next_stage sc.sizes (moment sc hands (suc p)) (suc p))) me i j st
-
--- what is known of the node in the rounds
-pub record KnownInRounds (sc : Scenario) (hands : List HandIn) (me : Side) (i p : ℕ) (st : NodeState) : Type 0 where
-  pub frame : st.frame ≡ (moment sc hands p).frame
-  pub knows : Knows sc.sizes me (moment sc hands p).window st
-  pub lengths : HasLengths (shortest_of sc.plan) (longest_of sc.plan) (clock_of sc me i)
 
 -- after the close the node stands in its next moment, `q`
 pub record GoesOn (sc : Scenario) (hands : List HandIn) (sent : Side → ℕ → ℕ → Bool) (t : ℕ) (me : Side) (i q : ℕ) (s : Site) : Type 0 where
@@ -208,7 +199,7 @@ next-of-tail sizes m tail p e f =
 
 -- what is sent to the node for the windows to come
 opened-lists : (sc : Scenario) (hands : List HandIn) (sent : Side → ℕ → ℕ → Bool) (me : Side) (i p q : ℕ) (st : NodeState) (t : ℕ) (got coming : List Coming) (heard : ℕ → List Coming)
-    → IsLawful sc → HasLengths (shortest_of sc.plan) (longest_of sc.plan) (clock_of sc me i) → st.frame ≡ (moment sc hands q).frame
+    → st.frame ≡ (moment sc hands q).frame
     → ((q ≡ next_stage sc.sizes (moment sc hands p) p)
     ⊎ ((q ≡ suc p) × ((moment sc hands q).window ≡ stages_in sc.sizes)))
     → (moment sc hands p).window ≤ stages_in sc.sizes → NextInTime sc hands p → OthersKeepUp sc hands sent me i p
@@ -218,7 +209,7 @@ opened-lists : (sc : Scenario) (hands : List HandIn) (sent : Side → ℕ → �
     → (j : ℕ) → Hears j (time_of (clock_of sc me i) (last_tick sc (moment sc hands q) me st)) [] (coming ++ says_in sc me i (span_of st (window_in sc (moment sc hands q) me st)))
     (heard_so_far sc (moment sc hands q) me i (span_of st (window_in sc (moment sc hands q) me st)) (λ j. sent (other me) j q) j)
     (ahead_so_far sc (moment sc hands (next_stage sc.sizes (moment sc hands q) q)) me i (λ j. sent (other me) j (next_stage sc.sizes (moment sc hands q) q)) j)
-opened-lists sc hands sent me i p q st t got coming heard lawful lengths frame (inl stage) within times others there good after hears j =
+opened-lists sc hands sent me i p q st t got coming heard frame (inl stage) within times others there good after hears j =
     let m2 : Moment = moment sc hands q in
     let span : Span = span_of st (window_in sc m2 me st) in
     let u : ℕ = time_of (clock_of sc me i) (last_tick sc m2 me st) in
@@ -230,14 +221,14 @@ opened-lists sc hands sent me i p q st t got coming heard lawful lengths frame (
     let opened : Hears j u [] coming (ahead_so_far sc m2 me i (λ j. sent (other me) j q) j) [] = opens-stage j t u got coming (heard j) _ after in_time was in
     let lists = stage-lists sc m2 me i j st (λ j. sent (other me) j q) frame in
     let says_times : Every (λ c. c.time ≤ u) (says_in sc me i span) =
-    every-to (ComesIn (clock_of sc me i) span) (λ c. c.time ≤ u) (λ c h. h.1) (says_in sc me i span) (says-come-in sc lawful me i span lengths) in
+    every-to (ComesIn (clock_of sc me i) span) (λ c. c.time ≤ u) (λ c h. h.1) (says_in sc me i span) (says-come-in sc me i span) in
     let more : Hears j u [] (coming ++ says_in sc me i span) (ahead_so_far sc m2 me i (λ j. sent (other me) j q) j ++ said_if sc me i span j) [] =
     say-more j u coming (says_in sc me i span) (said_if sc me i span j) (ahead_so_far sc m2 me i (λ j. sent (other me) j q) j) []
-    (says-now sc lawful me i span lengths j) says_times lists.1 opened in
+    (says-now sc me i span j) says_times lists.1 opened in
     subst (λ l. Hears j u [] (coming ++ says_in sc me i span) (heard_so_far sc m2 me i span (λ j. sent (other me) j q) j) l)
     (sym (ahead-none sc (moment sc hands (next_stage sc.sizes m2 q)) me i j (λ j. sent (other me) j (next_stage sc.sizes m2 q)) (others.none_ahead q stage j)))
     (subst (λ l. Hears j u [] (coming ++ says_in sc me i span) l []) lists.0 more)
-opened-lists sc hands sent me i p q st t got coming heard lawful lengths frame (inr tail) within times others there good after hears j =
+opened-lists sc hands sent me i p q st t got coming heard frame (inr tail) within times others there good after hears j =
     let m : Moment = moment sc hands p in
     let m2 : Moment = moment sc hands q in
     let span : Span = span_of st (window_in sc m2 me st) in
@@ -263,18 +254,18 @@ opened-lists sc hands sent me i p q st t got coming heard lawful lengths frame (
     let none : ahead_so_far sc m2 me i (λ j. sent (other me) j q) j ≡ [] = ahead-tail sc m2 me i j (λ j. sent (other me) j q) tail.1 in
     let all : [] ++ said_if sc me i span j ≡ heard_so_far sc m2 me i span (λ j. sent (other me) j q) j = ap (λ l. l ++ said_if sc me i span j) (sym none) ∙ lists.0 in
     let says_times : Every (λ c. c.time ≤ u) (says_in sc me i span) =
-    every-to (ComesIn (clock_of sc me i) span) (λ c. c.time ≤ u) (λ c h. h.1) (says_in sc me i span) (says-come-in sc lawful me i span lengths) in
+    every-to (ComesIn (clock_of sc me i) span) (λ c. c.time ≤ u) (λ c h. h.1) (says_in sc me i span) (says-come-in sc me i span) in
     subst (λ l. Hears j u [] (coming ++ says_in sc me i span) l (ahead_so_far sc (moment sc hands z) me i (λ j. sent (other me) j z) j)) all
     (say-more j u coming (says_in sc me i span) (said_if sc me i span j) [] (ahead_so_far sc (moment sc hands z) me i (λ j. sent (other me) j z) j)
-    (says-now sc lawful me i span lengths j) says_times (inr refl) opened)
+    (says-now sc me i span j) says_times (inr refl) opened)
 
 pub closes-window : (sc : Scenario) (hands : List HandIn) (sent : Side → ℕ → ℕ → Bool) (now : ℕ) (ports : List PortState) (me : Side) (i p : ℕ) (s : Site) (st : NodeState) (a : Timed)
-    → IsLawful sc → HasRoom sc.plan → KnownInRounds sc hands me i p st → NextInTime sc hands p → OthersKeepUp sc hands sent me i p
+    → HasRoom sc.plan → Stands sc (moment sc hands p) me st → NextInTime sc hands p → OthersKeepUp sc hands sent me i p
     → HasWord sc ports me i st (moment sc hands p).window (word_at sc (moment sc hands p) me i st)
     → Every (λ c. a.time < c.time) s.coming → a.tick ≡ last_tick sc (moment sc hands p) me st → NodeStands sc hands sent now me i p s st a
     → ClosesWindow sc hands sent ports me i p s st a (pass_and_tick sc ports me i a.tick s.core)
 unfolding pass_and_tick
-closes-window sc hands sent now ports me i p s st a lawful room known times others words later last h =
+closes-window sc hands sent now ports me i p s st a room known times others words later last h =
     let m : Moment = moment sc hands p in
     let n : ℕ = m.window in
     let word : ℕ = word_at sc m me i st in
@@ -353,7 +344,7 @@ closes-window sc hands sent now ports me i p s st a lawful room known times othe
     let up : time_of clock a.tick ≤ time_of clock (a.tick + 1) = times_rise_to clock a.tick (a.tick + 1) (omega arith) in
     let goes_on : is_good_at sc m2 me i ≡ true → Entered sc hands sent a.time me i q np.st s2 = λ good.
     let it : InTime sc m2 (moment sc hands (next_stage sc.sizes m2 q)) = in-time-there sc hands p q np.place h.stands.window times in
-    enters sc hands sent a.time me i q (a.tick + 1) np.st s2 lawful room known.lengths (it.keeps me i np.st np.state good) (it.room me i np.st np.state good)
+    enters sc hands sent a.time me i q (a.tick + 1) np.st s2 room (it.keeps me i np.st np.state good) (it.room me i np.st np.state good)
     (record {
       state = np.state;
       good = good;
@@ -372,7 +363,7 @@ closes-window sc hands sent now ports me i p s st a lawful room known times othe
       soon = omega (arith, at_time, up);
       before = λ j e. let same : j ≡ a.tick = omega arith in subst (λ j. time_of clock j ≡ a.time) (sym same) (sym at_time);
       at_first = λ e. absurd (omega arith);
-      hears = opened-lists sc hands sent me i p q np.st t s.got s.coming heard lawful known.lengths np.frame np.place h.stands.window times others np.state good after r.hears;
+      hears = opened-lists sc hands sent me i p q np.st t s.got s.coming heard np.frame np.place h.stands.window times others np.state good after r.hears;
     }) in
     let by : (b : Bool) → is_good_at sc m2 me i ≡ b → ClosesWindow sc hands sent ports me i p s st a x =
     λ b. elim b as (λ b. is_good_at sc m2 me i ≡ b → ClosesWindow sc hands sent ports me i p s st a x) [

@@ -13,9 +13,7 @@ use Rattle.rb_rules.specs.Core.{state_at}
 use Rattle.rb_rules.specs.ExactStage.{Outcome, close_exact}
 use Rattle.rb_rules.specs.Goodness.{Scenario, clock_of}
 use Rattle.rb_rules.specs.Hearing.{Coming, Sending, Span, close_window, coming_of, sending, span_of, window_numbered}
-use Rattle.rb_rules.specs.Lawful.{IsLawful}
 use Rattle.rb_rules.specs.NodeState.{NodeState}
-use Rattle.rb_rules.specs.Plan.{longest_of, shortest_of}
 use Rattle.rb_rules.specs.Ports.{HandIn}
 use Rattle.rb_rules.specs.Rounds.{Moment, moment, sending_in, sent_in, window_in, word_for_window}
 use Rattle.rb_rules.specs.Sense.{Arrival, sense_of}
@@ -23,7 +21,7 @@ use Rattle.rb_rules.specs.declared.sense.Sense.{Sense}
 use Rattle.rb_rules.specs.NodeSteps.{expect_of}
 use Rattle.rb_rules.specs.SyncStage.{new_epoch_of, close_sync, sync_outcome_of}
 use Rattle.rb_rules.specs.WorldStep.{Timed, Site, await, says_in}
-use Rattle.rb_rules.proofs.Drift.{HasLengths, times_rise_to}
+use Rattle.rb_rules.proofs.Drift.{times_rise_to}
 use Rattle.rb_rules.proofs.WindowNumbers.{sync-numbered, get-each}
 use Rattle.rb_laws_events.specs.Closing.{stages_in}
 use Rattle.rb_laws_events.proofs.Invariant.{NodeStands, ahead_so_far, entry_of, heard_so_far, is_good_at, last_tick, next_stage, sending_of, word_at}
@@ -143,10 +141,9 @@ pub record Entered (sc : Scenario) (hands : List HandIn) (sent : Side → ℕ �
   pub stands : NodeStands sc hands sent t me i q (await sc me i (says_in sc me i (span_of st (window_in sc (moment sc hands q) me st))) s) st a
   pub silent : gone (sending_at sc.sizes sc.plan me i st (moment sc hands q).window (word_at sc (moment sc hands q) me i st)) a.tick ≡ false
 
-pub enters : (sc : Scenario) (hands : List HandIn) (sent : Side → ℕ → ℕ → Bool) (t : ℕ) (me : Side) (i q k : ℕ) (st : NodeState) (s : Site) → IsLawful sc → HasRoom sc.plan
-    → HasLengths (shortest_of sc.plan) (longest_of sc.plan) (clock_of sc me i) → KeepsTime sc.sizes sc.plan me st
+pub enters : (sc : Scenario) (hands : List HandIn) (sent : Side → ℕ → ℕ → Bool) (t : ℕ) (me : Side) (i q k : ℕ) (st : NodeState) (s : Site) → HasRoom sc.plan → KeepsTime sc.sizes sc.plan me st
     → last_tick sc (moment sc hands q) me st < 2 ^ 31 → Enters sc hands sent t me i q k st s → Entered sc hands sent t me i q st s
-enters sc hands sent t me i q k st s lawful room lengths keeps below e =
+enters sc hands sent t me i q k st s room keeps below e =
     let m : Moment = moment sc hands q in
     let n : ℕ = m.window in
     let word : ℕ = word_at sc m me i st in
@@ -177,7 +174,7 @@ enters sc hands sent t me i q k st s lawful room lengths keeps below e =
     let after : s.core.had ≤ b = next.1.1.later in
     let up : time_of clock k ≤ time_of clock b = times_rise_to clock k b (omega arith) in
     let soon : t ≤ time_of clock k = e.soon in
-    let in_span : Every (ComesIn clock span) says = says-come-in sc lawful me i span lengths in
+    let in_span : Every (ComesIn clock span) says = says-come-in sc me i span in
     record {
       a = a;
       site = is;

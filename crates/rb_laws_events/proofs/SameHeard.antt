@@ -2,6 +2,8 @@
 -- the sole one. So a node closes on its inbox as the rounds do on what is heard, if as many came
 -- from each source, and each of them is one of those.
 use Rattle.std.proofs.Common.{◌≡◌, ℕ, ◌==◌, Bool, true, false, List, [], ◌∷◌, map, filter, length, refl, ◌∙◌, ap, arith, ◌⊎◌, inl, inr, cond, get_or}
+use Rattle.std.specs.Prelude.{All}
+use Rattle.std.proofs.lemmas.List.Elements.{All-head, All-tail}
 use mathlib.Core.Path.{fun_ext}
 use Rattle.rb_base.specs.Nodes.{Side}
 use Rattle.rb_base.specs.Sizes.{Sizes}
@@ -30,6 +32,10 @@ IsOneOf x (y ∷ ys) = (x ≡ y) ⊎ IsOneOf x ys
 abbrev pub Every : {X : Type 0} → (X → Type 0) → List X → Type 0
 Every P [] = Unit {0}
 Every P (x ∷ xs) = P x × Every P xs
+
+pub all-every : {X : Type 0} (P : X → Type 0) (xs : List X) → All P xs → Every P xs
+all-every P [] a = tt
+all-every P (x ∷ xs) a = (All-head P x xs a, all-every P xs (All-tail P x xs a))
 
 -- `xs` has as many entries as `ys`, and all of them are entries of `ys`
 pub record AllOf (xs ys : List Coming) : Type 0 where

@@ -1,30 +1,21 @@
 -- For the law that events are rounds: what nodes that are not good say in a window that opens: it
 -- comes in the window, and stands together with what good nodes have already sent for it.
-use Rattle.std.proofs.Common.{◌≡◌, ℕ, zero, suc, ◌+◌, ◌<◌, ◌≤◌, ◌==◌, ◌&&◌, ◌⊎◌, nat_le, Bool, true, false, cond, All, List, [], ◌∷◌, ◌++◌, filter, flat_map, map, length, refl, ap, sym, ◌∙◌, subst, arith, inl, inr}
+use Rattle.std.proofs.Common.{◌≡◌, ℕ, zero, suc, ◌+◌, ◌<◌, ◌≤◌, ◌==◌, ◌&&◌, ◌⊎◌, nat_le, Bool, true, false, cond, All, List, [], ◌∷◌, ◌++◌, filter, flat_map, get_or, length, refl, ap, sym, ◌∙◌, subst, arith, inl, inr}
 use Rattle.std.specs.List.{range_with_len}
-use Rattle.std.proofs.lemmas.Bool.{and_parts, cases_lt, eq-eqb, le-leb, le-ltb, leb-true}
+use Rattle.std.proofs.lemmas.Bool.{cases_lt, eq-eqb, le-leb, le-ltb}
 use Rattle.std.proofs.lemmas.Bool.Decides.{nat_tests}
 use Rattle.std.proofs.lemmas.List.{append-nil}
-use Rattle.std.proofs.lemmas.List.Elements.{filter-append, All-head, All-tail}
+use Rattle.std.proofs.lemmas.List.Elements.{filter-append, All-head}
 use Rattle.rb_base.specs.Nodes.{Side, other}
-use Rattle.rb_base.specs.Nodes.Side.{Biu, Rmu}
-use Rattle.rb_base.specs.Sizes.{Sizes}
-use Rattle.rb_base.specs.declared.node.NodeName.{NodeName}
-use Rattle.rb_base.specs.declared.node.NodeName.TheVariants as node
 use Rattle.rb_base.proofs.Plain.{and-false}
-use Rattle.rb_rules.specs.declared.message.Version.{Version}
-use Rattle.rb_rules.specs.declared.say.Say.{Say}
-use Rattle.rb_rules.specs.Clock.{Timeline, tick_length, time_of}
+use Rattle.rb_rules.specs.Clock.{Timeline, time_of}
 use Rattle.rb_rules.specs.Goodness.{Scenario, is_good, clock_of}
-use Rattle.rb_rules.specs.Hearing.{Coming, Span, coming_said, is_said, said_by}
-use Rattle.rb_rules.specs.Lawful.{IsLawful, IsNodeOf, IsSayOf}
-use Rattle.rb_rules.specs.Links.{covers, name_of, same_node, stands_for}
-use Rattle.rb_rules.specs.Plan.{shortest_of, longest_of}
+use Rattle.rb_rules.specs.Hearing.{Coming, Span, said_by}
 use Rattle.rb_rules.specs.Slots.{count_of}
 use Rattle.rb_rules.specs.WorldStep.{says_in}
-use Rattle.rb_rules.proofs.Drift.{HasLengths, times_rise_to}
 use Rattle.rb_laws_events.proofs.PendingLists.{Hears, is_later, is_now}
-use Rattle.rb_laws_events.proofs.SameHeard.{Every, IsOneOf}
+use Rattle.rb_laws_agreement.proofs.SaidWindows.{IsSaid, all-said}
+use Rattle.rb_laws_events.proofs.SameHeard.{Every, IsOneOf, all-every}
 
 -- Times.
 
@@ -32,76 +23,24 @@ use Rattle.rb_laws_events.proofs.SameHeard.{Every, IsOneOf}
 abbrev pub ComesIn : Timeline → Span → Coming → Type 0
 ComesIn clock span c = ((m : ℕ) → span.first ≡ suc m → time_of clock m < c.time) × (c.time ≤ time_of clock span.last)
 
-said-comes : (sc : Scenario) (me : Side) (i j : ℕ) (span : Span) (version : Version) (s : Say) → HasLengths (shortest_of sc.plan) (longest_of sc.plan) (clock_of sc me i)
-    → s.early < shortest_of sc.plan → span.first + s.offset ≤ span.last → ComesIn (clock_of sc me i) span (coming_said version (clock_of sc me i) j span s)
-said-comes sc me i j span version s lengths early within =
-    let clock : Timeline = clock_of sc me i in (
-      λ m e.
-          let low : shortest_of sc.plan ≤ tick_length clock m = (lengths m).0 in
-          let next : time_of clock (suc m) ≡ time_of clock m + tick_length clock m = refl in
-          let up : time_of clock (suc m) ≤ time_of clock (span.first + s.offset) = times_rise_to clock (suc m) (span.first + s.offset) (omega arith) in
-          omega (arith, low, next, up, early),
-      let up : time_of clock (span.first + s.offset) ≤ time_of clock span.last = times_rise_to clock (span.first + s.offset) span.last within in
-          omega arith,
-    )
-
-pub said-all : (sc : Scenario) (me : Side) (i j : ℕ) (span : Span) → HasLengths (shortest_of sc.plan) (longest_of sc.plan) (clock_of sc me i)
-    → (says : List Say) → All (IsSayOf sc) says
-    → Every (ComesIn (clock_of sc me i) span) (map (coming_said sc.plan.version (clock_of sc me i) j span) (filter (is_said me i j span) says))
-said-all sc me i j span lengths [] all = tt
-said-all sc me i j span lengths (s ∷ ss) all = by (is_said me i j span s) refl (said-all sc me i j span lengths ss (All-tail (IsSayOf sc) s ss all))
-  where
-    by : (b : Bool) → is_said me i j span s ≡ b
-        → Every (ComesIn (clock_of sc me i) span) (map (coming_said sc.plan.version (clock_of sc me i) j span) (filter (is_said me i j span) ss))
-        → Every (ComesIn (clock_of sc me i) span) (map (coming_said sc.plan.version (clock_of sc me i) j span) (cond b (s ∷ filter (is_said me i j span) ss) (filter (is_said me i j span) ss)))
-    by true e rest =
-        let its : IsSayOf sc s = All-head (IsSayOf sc) s ss all in
-        let parts = and_parts (same_node s.from (name_of (other me) j) && stands_for s.to (name_of me i) && covers s.frames s.slots s.stages span.place)
-        (nat_le (span.first + s.offset) span.last) e in
-        (said-comes sc me i j span sc.plan.version s lengths its.early (leb-true (span.first + s.offset) span.last parts.1), rest)
-    by false e rest = rest
-
-pub said-in-window : (sc : Scenario) → IsLawful sc → (me : Side) (i j : ℕ) (span : Span) → HasLengths (shortest_of sc.plan) (longest_of sc.plan) (clock_of sc me i)
-    → Every (ComesIn (clock_of sc me i) span) (said_by sc me i span j)
-said-in-window sc lawful me i j span lengths = said-all sc me i j span lengths sc.says lawful.says
+-- all that a node says that is not good comes in the window
+pub said-in-window : (sc : Scenario) (me : Side) (i j : ℕ) (span : Span) → Every (ComesIn (clock_of sc me i) span) (said_by sc me i span j)
+said-in-window sc me i j span =
+    all-every (ComesIn (clock_of sc me i) span) (said_by sc me i span j)
+    (λ k d lt. let is : IsSaid sc me i span j (get_or (said_by sc me i span j) k d) = all-said sc me i span j k d lt in (is.later, is.within))
 
 -- Sources.
 
--- a number that names a node of the bus is below the count of its kind
-same-index : (sizes : Sizes) (side : Side) (from : NodeName) (j : ℕ) → IsNodeOf sizes from → same_node from (name_of side j) ≡ true → j < count_of side sizes
-same-index sizes Biu (node.Biu i) j h e = let same : i ≡ j = grind (arith, nat_tests) in omega arith
-same-index sizes Biu (node.Rmu i) j h e = cc
-same-index sizes Rmu (node.Biu i) j h e = cc
-same-index sizes Rmu (node.Rmu i) j h e = let same : i ≡ j = grind (arith, nat_tests) in omega arith
-
-none-said-of : (sc : Scenario) (me : Side) (i j : ℕ) (span : Span) → count_of (other me) sc.sizes ≤ j → (says : List Say) → All (IsSayOf sc) says
-    → filter (is_said me i j span) says ≡ []
-none-said-of sc me i j span over [] all = refl
-none-said-of sc me i j span over (s ∷ ss) all = by (is_said me i j span s) refl (none-said-of sc me i j span over ss (All-tail (IsSayOf sc) s ss all))
+-- only nodes of the bus say anything
+none-said : (sc : Scenario) (me : Side) (i j : ℕ) (span : Span) → count_of (other me) sc.sizes ≤ j → said_by sc me i span j ≡ []
+none-said sc me i j span over = by (said_by sc me i span j) (all-said sc me i span j)
   where
-    by : (b : Bool) → is_said me i j span s ≡ b → filter (is_said me i j span) ss ≡ []
-        → cond b (s ∷ filter (is_said me i j span) ss) (filter (is_said me i j span) ss) ≡ []
-    by true e rest =
-        let its : IsSayOf sc s = All-head (IsSayOf sc) s ss all in
-        let a = and_parts (same_node s.from (name_of (other me) j) && stands_for s.to (name_of me i) && covers s.frames s.slots s.stages span.place)
-        (nat_le (span.first + s.offset) span.last) e in
-        let b = and_parts (same_node s.from (name_of (other me) j) && stands_for s.to (name_of me i)) (covers s.frames s.slots s.stages span.place) a.0 in
-        let c = and_parts (same_node s.from (name_of (other me) j)) (stands_for s.to (name_of me i)) b.0 in
-        let below : j < count_of (other me) sc.sizes = same-index sc.sizes (other me) s.from j its.from c.0 in
-        absurd (omega arith)
-    by false e rest = rest
-
-pub none-said : (sc : Scenario) → IsLawful sc → (me : Side) (i j : ℕ) (span : Span) → count_of (other me) sc.sizes ≤ j → said_by sc me i span j ≡ []
-none-said sc lawful me i j span over =
-    ap (map (coming_said sc.plan.version (clock_of sc me i) j span)) (none-said-of sc me i j span over sc.says lawful.says)
-
--- what is made of source `j` is from source `j`
-map-from : {X : Type 0} (j : ℕ) (f : X → Coming) → ((x : X) → (f x).from ≡ j) → (xs : List X) → Every (λ c. c.from ≡ j) (map f xs)
-map-from j f its [] = tt
-map-from j f its (x ∷ xs) = (its x, map-from j f its xs)
+    by : (xs : List Coming) → All (IsSaid sc me i span j) xs → xs ≡ []
+    by [] all = refl
+    by (x ∷ xs) all = let known = (All-head (IsSaid sc me i span j) x xs all).known in absurd (omega (arith, known, over))
 
 said-from : (sc : Scenario) (me : Side) (i : ℕ) (span : Span) (j : ℕ) → Every (λ c. c.from ≡ j) (said_by sc me i span j)
-said-from sc me i span j = map-from j (coming_said sc.plan.version (clock_of sc me i) j span) (λ s. refl) (filter (is_said me i j span) sc.says)
+said-from sc me i span j = all-every (λ c. c.from ≡ j) (said_by sc me i span j) (λ k d lt. (all-said sc me i span j k d lt).from)
 
 -- Lists by source.
 
@@ -182,13 +121,12 @@ said-if-from sc me i span k = by (is_good sc (other me) k span.place.frame span.
     by true = tt
     by false = said-from sc me i span k
 
-pub said-if-in : (sc : Scenario) → IsLawful sc → (me : Side) (i : ℕ) (span : Span) → HasLengths (shortest_of sc.plan) (longest_of sc.plan) (clock_of sc me i)
-    → (k : ℕ) → Every (ComesIn (clock_of sc me i) span) (said_if sc me i span k)
-said-if-in sc lawful me i span lengths k = by (is_good sc (other me) k span.place.frame span.place.slot)
+pub said-if-in : (sc : Scenario) (me : Side) (i : ℕ) (span : Span) (k : ℕ) → Every (ComesIn (clock_of sc me i) span) (said_if sc me i span k)
+said-if-in sc me i span k = by (is_good sc (other me) k span.place.frame span.place.slot)
   where
     by : (b : Bool) → Every (ComesIn (clock_of sc me i) span) (elim b as (λ _. List Coming) [ true ↦ [] | false ↦ said_by sc me i span k ])
     by true = tt
-    by false = said-in-window sc lawful me i k span lengths
+    by false = said-in-window sc me i k span
 
 every-flat : (P : Coming → Type 0) (f : ℕ → List Coming) (a n : ℕ) → ((k : ℕ) → Every P (f k)) → Every P (flat_map f (range_with_len a n))
 every-flat P f a zero all = tt
@@ -199,19 +137,17 @@ every-flat P f a (suc n) all = join (f a) (flat_map f (range_with_len (a + 1) n)
     join (x ∷ xs) ys a b = (a.0, join xs ys a.1 b)
 
 -- all that is said in the span comes in it
-pub says-come-in : (sc : Scenario) → IsLawful sc → (me : Side) (i : ℕ) (span : Span) → HasLengths (shortest_of sc.plan) (longest_of sc.plan) (clock_of sc me i)
-    → Every (ComesIn (clock_of sc me i) span) (says_in sc me i span)
+pub says-come-in : (sc : Scenario) (me : Side) (i : ℕ) (span : Span) → Every (ComesIn (clock_of sc me i) span) (says_in sc me i span)
 unfolding says_in
-says-come-in sc lawful me i span lengths = every-flat (ComesIn (clock_of sc me i) span) (said_if sc me i span) 0 (count_of (other me) sc.sizes) (said-if-in sc lawful me i span lengths)
+says-come-in sc me i span = every-flat (ComesIn (clock_of sc me i) span) (said_if sc me i span) 0 (count_of (other me) sc.sizes) (said-if-in sc me i span)
 
 -- what is said in the span by source `j` alone comes from source `j`
-pub says-now : (sc : Scenario) → IsLawful sc → (me : Side) (i : ℕ) (span : Span) → HasLengths (shortest_of sc.plan) (longest_of sc.plan) (clock_of sc me i)
-    → (j : ℕ) → filter (is_now j (time_of (clock_of sc me i) span.last)) (says_in sc me i span) ≡ said_if sc me i span j
+pub says-now : (sc : Scenario) (me : Side) (i : ℕ) (span : Span) (j : ℕ) → filter (is_now j (time_of (clock_of sc me i) span.last)) (says_in sc me i span) ≡ said_if sc me i span j
 unfolding says_in
-says-now sc lawful me i span lengths j =
+says-now sc me i span j =
     let u : ℕ = time_of (clock_of sc me i) span.last in
     let times : Every (λ c. c.time ≤ u) (said_if sc me i span j) =
-    every-to (ComesIn (clock_of sc me i) span) (λ c. c.time ≤ u) (λ c h. h.1) (said_if sc me i span j) (said-if-in sc lawful me i span lengths j) in
+    every-to (ComesIn (clock_of sc me i) span) (λ c. c.time ≤ u) (λ c h. h.1) (said_if sc me i span j) (said-if-in sc me i span j) in
     elim (cases_lt j (count_of (other me) sc.sizes)) [
       | inl lt ↦ flat-hit j u (said_if sc me i span) 0 (count_of (other me) sc.sizes) (said-if-from sc me i span) times (omega arith) (omega arith)
       | inr ge ↦
@@ -221,7 +157,7 @@ says-now sc lawful me i span lengths j =
   where
     none : (b : Bool) → count_of (other me) sc.sizes ≤ j → (elim b as (λ _. List Coming) [ true ↦ [] | false ↦ said_by sc me i span j ]) ≡ []
     none true ge = refl
-    none false ge = none-said sc lawful me i j span ge
+    none false ge = none-said sc me i j span ge
 
 pub each-itself : (xs ys : List Coming) → ((x : Coming) → IsOneOf x xs → IsOneOf x ys) → Every (λ c. IsOneOf c ys) xs
 each-itself [] ys f = tt

@@ -1,7 +1,6 @@
 -- For the law that every run ends: each event that is taken leaves fewer ticks before 2^31, or
 -- fewer messages on their way, so their number is bounded.
-use Rattle.std.proofs.Common.{◌≡◌, ℕ, zero, suc, ◌+◌, ◌-◌, ◌*◌, ◌^◌, ◌<◌, ◌≤◌, ◌==◌, ◌&&◌, Bool, true, false, List, [], ◌∷◌, ◌++◌, cond, filter, flat_map, length, refl, ap, sym, ◌∙◌, subst, arith, Option, Some, None, option_map, remove, slice_get}
-use Rattle.std.specs.List.{range_with_len}
+use Rattle.std.proofs.Common.{◌≡◌, ℕ, zero, suc, ◌+◌, ◌-◌, ◌*◌, ◌^◌, ◌<◌, ◌≤◌, ◌==◌, ◌&&◌, Bool, true, false, List, [], ◌∷◌, ◌++◌, length, refl, ap, sym, ◌∙◌, subst, arith, Option, Some, None, option_map, remove, slice_get}
 use Rattle.std.proofs.lemmas.Bool.Decides.{nat_tests}
 use Rattle.std.proofs.lemmas.Nat.{mul-le}
 use Rattle.rb_base.specs.Nodes.{Side, other}
@@ -13,14 +12,13 @@ use Rattle.rb_rules.specs.declared.plan.Plan.{Plan}
 use Rattle.rb_rules.specs.declared.record.Epoch.{Epoch}
 use Rattle.rb_rules.specs.Book.{Each, map_from, of_kind}
 use Rattle.rb_rules.specs.Core.{Act, Core, act_at, act_on, busy_among, is_busy, is_last, is_spent, next_tick, pass_to, said_at, state_at, state_kept, tick, window_here, epoch_at, of_source}
-use Rattle.rb_rules.specs.Goodness.{Scenario, is_good, clock_of}
-use Rattle.rb_rules.specs.Hearing.{Coming, Sending, Span, close_window, coming_of, coming_said, is_said, said_by}
+use Rattle.rb_rules.specs.Goodness.{Scenario, is_good}
+use Rattle.rb_rules.specs.Hearing.{Coming, Sending, Span, close_window, coming_of}
 use Rattle.rb_rules.specs.NodeState.{NodeState}
 use Rattle.rb_rules.specs.Ports.{PortState}
-use Rattle.rb_rules.specs.Slots.{count_of, same_side}
+use Rattle.rb_rules.specs.Slots.{same_side}
 use Rattle.rb_rules.specs.WorldStep.{Site, Timed, after_act, after_arrival, at_node, await, enter, pass_and_tick, proceed, says_in, sent_to, span_from, stop, with_close, with_epoch, with_message}
-use Rattle.rb_laws_events.specs.Laws.{most_at_once, nodes_of}
-use Rattle.rb_laws_events.proofs.FewThere.{length-mapped}
+use Rattle.rb_laws_events.specs.Laws.{SayAtMost, most_with, nodes_of}
 use Rattle.rb_laws_events.proofs.PendingLists.{StandsAt}
 
 -- What is left of a node: its ticks, each with all that it may make pending, and what is on its way
@@ -130,45 +128,6 @@ length-both : {X : Type 0} (xs ys : List X) → length (xs ++ ys) ≡ length xs 
 length-both [] ys = omega arith
 length-both (x ∷ xs) ys = let rest = length-both xs ys in omega (arith, rest)
 
-length-passed : {X : Type 0} (q : X → Bool) (xs : List X) → length (filter q xs) ≤ length xs
-length-passed q [] = omega arith
-length-passed q (x ∷ xs) = by (q x) (length-passed q xs)
-  where
-    by : (b : Bool) → length (filter q xs) ≤ length xs → length (cond b (x ∷ filter q xs) (filter q xs)) ≤ length (x ∷ xs)
-    by true rest = omega (arith, rest)
-    by false rest = omega (arith, rest)
-
-length-flat : {Y : Type 0} (f : ℕ → List Y) (most a n : ℕ) → ((k : ℕ) → length (f k) ≤ most) → length (flat_map f (range_with_len a n)) ≤ n * most
-length-flat f most a zero each = omega arith
-length-flat f most a (suc n) each =
-    let both = length-both (f a) (flat_map f (range_with_len (a + 1) n)) in
-    let head : length (f a) ≤ most = each a in
-    let rest = length-flat f most (a + 1) n each in
-    let more : suc n * most ≡ most + n * most = omega arith in
-    omega (arith, both, head, rest, more)
-
-count-most : (me : Side) (sizes : Sizes) → count_of me sizes ≤ nodes_of sizes
-count-most Biu sizes = omega arith
-count-most Rmu sizes = omega arith
-
--- at most each entry is said to a node once by each node of the bus
-says-few : (sc : Scenario) (me : Side) (i : ℕ) (span : Span) → length (says_in sc me i span) ≤ nodes_of sc.sizes * length sc.says
-unfolding says_in
-says-few sc me i span =
-    let says : ℕ → List Coming = λ j. elim (is_good sc (other me) j span.place.frame span.place.slot) as (λ _. List Coming) [ true ↦ [] | false ↦ said_by sc me i span j ] in
-    let each : (j : ℕ) → length (says j) ≤ length sc.says = λ j. by j (is_good sc (other me) j span.place.frame span.place.slot) in
-    let all = length-flat says (length sc.says) 0 (count_of (other me) sc.sizes) each in
-    let up : count_of (other me) sc.sizes * length sc.says ≤ nodes_of sc.sizes * length sc.says =
-    mul-le (count_of (other me) sc.sizes) (length sc.says) (nodes_of sc.sizes) (length sc.says) (count-most (other me) sc.sizes) (omega arith) in
-    omega (arith, all, up)
-  where
-    by : (j : ℕ) (b : Bool) → length (elim b as (λ _. List Coming) [ true ↦ [] | false ↦ said_by sc me i span j ]) ≤ length sc.says
-    by j true = omega arith
-    by j false =
-        let mapped = length-mapped (coming_said sc.plan.version (clock_of sc me i) j span) (filter (is_said me i j span) sc.says) in
-        let passed = length-passed (is_said me i j span) sc.says in
-        omega (arith, mapped, passed)
-
 -- A tick.
 
 pub busy-later : (sizes : Sizes) (plan : Plan) (me : Side) (i : ℕ) (st : NodeState) (n k x : ℕ) → busy_among sizes plan me i st n k ≡ Some x → k ≤ x
@@ -216,12 +175,12 @@ next-left had f its (Some k) later =
     omega (arith, le, same)
 
 -- a node that goes on has fewer ticks left, and at most what is said to it more on its way
-pub record LeavesFew (sc : Scenario) (had : ℕ) (s z : Site) : Type 0 where
+pub record LeavesFew (n had : ℕ) (s z : Site) : Type 0 where
   pub ticks : ticks_left z.ahead ≤ 2 ^ 31 - had
-  pub coming : length z.coming ≤ length s.coming + nodes_of sc.sizes * length sc.says
+  pub coming : length z.coming ≤ length s.coming + n
 
-await-few : (sc : Scenario) (me : Side) (i : ℕ) (more : List Coming) (s : Site) → length more ≤ nodes_of sc.sizes * length sc.says → LeavesFew sc s.core.had s (await sc me i more s)
-await-few sc me i more s few =
+await-few : (sc : Scenario) (n : ℕ) (me : Side) (i : ℕ) (more : List Coming) (s : Site) → length more ≤ n → LeavesFew n s.core.had s (await sc me i more s)
+await-few sc n me i more s few =
     let both = length-both s.coming more in
     record {
       ticks = next-left s.core.had _ (λ k. refl) (next_tick sc.sizes sc.plan me i s.core)
@@ -229,12 +188,12 @@ await-few sc me i more s few =
       coming = omega (arith, both, few);
     }
 
-pub enter-few : (sc : Scenario) (me : Side) (i : ℕ) (o : Option Span) (s : Site) → LeavesFew sc s.core.had s (enter sc me i o s)
-enter-few sc me i None s = await-few sc me i [] s (omega arith)
-enter-few sc me i (Some span) s = by (is_good sc me i span.place.frame span.place.slot)
+pub enter-few : (sc : Scenario) (n : ℕ) → SayAtMost sc n → (me : Side) (i : ℕ) (o : Option Span) (s : Site) → LeavesFew n s.core.had s (enter sc me i o s)
+enter-few sc n say me i None s = await-few sc n me i [] s (omega arith)
+enter-few sc n say me i (Some span) s = by (is_good sc me i span.place.frame span.place.slot)
   where
-    by : (b : Bool) → LeavesFew sc s.core.had s (elim b as (λ _. Site) [ true ↦ await sc me i (says_in sc me i span) s | false ↦ stop s ])
-    by true = await-few sc me i (says_in sc me i span) s (says-few sc me i span)
+    by : (b : Bool) → LeavesFew n s.core.had s (elim b as (λ _. Site) [ true ↦ await sc me i (says_in sc me i span) s | false ↦ stop s ])
+    by true = await-few sc n me i (says_in sc me i span) s (say me i span)
     by false = record { ticks = omega arith; coming = omega arith }
 
 pub close-same : (me : Side) (i : ℕ) (st : NodeState) (c : Option Closed) (s : Site) → ((with_close me i st c s).core ≡ s.core) × ((with_close me i st c s).coming ≡ s.coming)
@@ -245,9 +204,9 @@ pub epoch-same : (sc : Scenario) (ports : List PortState) (me : Side) (i : ℕ) 
 epoch-same sc ports me i None s = (refl, refl)
 epoch-same sc ports me i (Some e) s = (refl, refl)
 
-act-few : (sc : Scenario) (ports : List PortState) (me : Side) (i : ℕ) (x : Act) (s : Site) → LeavesFew sc x.core.had s (after_act sc ports me i x s)
+act-few : (sc : Scenario) (n : ℕ) → SayAtMost sc n → (ports : List PortState) (me : Side) (i : ℕ) (x : Act) (s : Site) → LeavesFew n x.core.had s (after_act sc ports me i x s)
 unfolding after_act proceed
-act-few sc ports me i x s =
+act-few sc n say ports me i x s =
     let one : Site = record s { core = x.core } in
     let two : Site = with_close me i x.core.state x.closed one in
     let three : Site = with_epoch sc ports me i x.epoch two in
@@ -255,28 +214,28 @@ act-few sc ports me i x s =
     let b = epoch-same sc ports me i x.epoch two in
     let core : three.core ≡ x.core = b.0 ∙ a.0 in
     let coming : three.coming ≡ s.coming = b.1 ∙ a.1 in
-    let few : LeavesFew sc three.core.had three (enter sc me i (span_from sc.sizes sc.plan me three.core.state three.core.had) three) =
-    enter-few sc me i (span_from sc.sizes sc.plan me three.core.state three.core.had) three in
+    let few : LeavesFew n three.core.had three (enter sc me i (span_from sc.sizes sc.plan me three.core.state three.core.had) three) =
+    enter-few sc n say me i (span_from sc.sizes sc.plan me three.core.state three.core.had) three in
     record {
       ticks = let had : three.core.had ≡ x.core.had = ap (λ (c : Core). c.had) core in let le = few.ticks in omega (arith, had, le);
       coming = let long : length three.coming ≡ length s.coming = ap length coming in let le = few.coming in omega (arith, long, le);
     }
 
 -- the node of a tick is left with less
-pub tick-left : (sc : Scenario) (ports : List PortState) (me : Side) (i : ℕ) (a : Timed) (s : Site) → s.ahead ≡ Some a → s.core.had ≤ a.tick → a.tick < 2 ^ 31
-    → left_of (most_at_once sc) (after_act sc ports me i (pass_and_tick sc ports me i a.tick s.core) s) + (nodes_of sc.sizes + 1) ≤ left_of (most_at_once sc) s
+pub tick-left : (sc : Scenario) (n : ℕ) → SayAtMost sc n → (ports : List PortState) (me : Side) (i : ℕ) (a : Timed) (s : Site) → s.ahead ≡ Some a → s.core.had ≤ a.tick → a.tick < 2 ^ 31
+    → left_of (most_with sc n) (after_act sc ports me i (pass_and_tick sc ports me i a.tick s.core) s) + (nodes_of sc.sizes + 1) ≤ left_of (most_with sc n) s
 unfolding left_of pass_and_tick
-tick-left sc ports me i a s pend had small =
+tick-left sc n say ports me i a s pend had small =
     let x : Act = pass_and_tick sc ports me i a.tick s.core in
     let z : Site = after_act sc ports me i x s in
-    let few : LeavesFew sc x.core.had s z = act-few sc ports me i x s in
+    let few : LeavesFew n x.core.had s z = act-few sc n say ports me i x s in
     let passed : (pass_to a.tick s.core).had ≡ a.tick = omega (arith, had) in
     let ticked : x.core.had ≡ (pass_to a.tick s.core).had + 1 = tick-had sc.sizes sc.plan me i (pass_to a.tick s.core) _ (omega (arith, passed, small)) in
     let before : ticks_left s.ahead ≡ 2 ^ 31 - a.tick = ap ticks_left pend in
     let less : ticks_left z.ahead + 1 ≤ ticks_left s.ahead = let le = few.ticks in omega (arith, le, passed, ticked, before, small) in
-    let up : (ticks_left z.ahead + 1) * (most_at_once sc + 1) ≤ ticks_left s.ahead * (most_at_once sc + 1) =
-    mul-le (ticks_left z.ahead + 1) (most_at_once sc + 1) (ticks_left s.ahead) (most_at_once sc + 1) less (omega arith) in
-    let more : (ticks_left z.ahead + 1) * (most_at_once sc + 1) ≡ ticks_left z.ahead * (most_at_once sc + 1) + (most_at_once sc + 1) = one-more (ticks_left z.ahead) (most_at_once sc + 1) in
+    let up : (ticks_left z.ahead + 1) * (most_with sc n + 1) ≤ ticks_left s.ahead * (most_with sc n + 1) =
+    mul-le (ticks_left z.ahead + 1) (most_with sc n + 1) (ticks_left s.ahead) (most_with sc n + 1) less (omega arith) in
+    let more : (ticks_left z.ahead + 1) * (most_with sc n + 1) ≡ ticks_left z.ahead * (most_with sc n + 1) + (most_with sc n + 1) = one-more (ticks_left z.ahead) (most_with sc n + 1) in
     let coming = few.coming in
     omega (arith, up, more, coming)
   where
@@ -290,7 +249,7 @@ length-without n c [] h = absurd h
 length-without zero c (x ∷ xs) h = omega arith
 length-without (suc n) c (x ∷ xs) h = let rest = length-without n c xs h in omega (arith, rest)
 
-pub arrival-left : (sc : Scenario) (me : Side) (i n : ℕ) (c : Coming) (s : Site) → StandsAt n c s.coming
-    → left_of (most_at_once sc) (after_arrival sc me i n c s) + 1 ≤ left_of (most_at_once sc) s
+pub arrival-left : (most : ℕ) (sc : Scenario) (me : Side) (i n : ℕ) (c : Coming) (s : Site) → StandsAt n c s.coming
+    → left_of most (after_arrival sc me i n c s) + 1 ≤ left_of most s
 unfolding left_of after_arrival
-arrival-left sc me i n c s h = let less = length-without n c s.coming h in omega (arith, less)
+arrival-left most sc me i n c s h = let less = length-without n c s.coming h in omega (arith, less)

@@ -11,14 +11,11 @@ use Rattle.rb_rules.specs.Goodness.{Scenario, clock_of}
 use Rattle.rb_rules.specs.Hearing.{Sending, window_numbered}
 use Rattle.rb_rules.specs.Lawful.{IsLawful}
 use Rattle.rb_rules.specs.NodeState.{NodeState}
-use Rattle.rb_rules.specs.Plan.{longest_of, shortest_of}
 use Rattle.rb_rules.specs.Ports.{HandIn, PortState}
 use Rattle.rb_rules.specs.Rounds.{Moment, moment, windows_in}
 use Rattle.rb_rules.specs.Slots.{count_of}
 use Rattle.rb_rules.specs.WorldStep.{Timed, Site, after_act, at_node, pass_and_tick, with_message}
-use Rattle.rb_rules.proofs.Drift.{HasLengths}
 use Rattle.rb_rules.proofs.RoundStates.{close-stays, keeping-stays}
-use Rattle.rb_laws_agreement.proofs.FrameTimes.{good-clock}
 use Rattle.rb_laws_agreement.proofs.Goodnesses.{good_counts}
 use Rattle.rb_laws_events.specs.Closing.{stages_in}
 use Rattle.rb_laws_events.proofs.Invariant.{InTime, NodeStands, is_good_at, last_tick, next_stage, sending_of, word_at}
@@ -157,7 +154,6 @@ tick-event sc hands now at sites ports me i s a lawful room times passed h due =
     let here : InTime sc m (moment sc hands (next_stage sc.sizes m p)) = times.each me i node.good in
     let stand : AllStand sc m = moments-stand sc hands p room.ticks in
     let known : Stands sc m me st = stand.stands me i st node.state node.good in
-    let lengths : HasLengths (shortest_of sc.plan) (longest_of sc.plan) (clock_of sc me i) = good-clock sc lawful me i m.frame (slot_numbered sc.sizes m.window) node.good in
     let below : last_tick sc m me st < 2 ^ 31 = here.room me i st node.state node.good in
     let words = due.word st node.state in
     let x : Act = pass_and_tick sc ports me i a.tick s.core in
@@ -207,7 +203,7 @@ tick-event sc hands now at sites ports me i s a lawful room times passed h due =
           let time : a.time ≡ time_of (clock_of sc me i) (last_tick sc m me st) = node.receives.at_time ∙ ap (time_of (clock_of sc me i)) last in
           let others : OthersKeepUp sc hands old me i p = keep-up sc hands a.time at sites me i st lawful room.ticks node.state node.good time window pt times counted ht in
           let closes : ClosesWindow sc hands old ports me i p s st a x =
-          closes-window sc hands old a.time ports me i p s st a lawful room (record { frame = known.frame; knows = known.knows; lengths = lengths }) (due.next st node.state last) others words due.alone last node in
+          closes-window sc hands old a.time ports me i p s st a room known (due.next st node.state last) others words due.alone last node in
           let r : ℕ = closes.q in
           let later : p < r = elim closes.place [ inl stage ↦ omega (arith, stage, next.later) | inr tail ↦ omega (arith, tail.0) ] in
           let between : (q : ℕ) → p < q → q < r → (stages_in sc.sizes ≤ (moment sc hands q).window) × ((moment sc hands q).window ≤ windows_in sc.sizes) =

@@ -1,6 +1,6 @@
 -- For the law that events are rounds: in every world there are as many nodes as the bus has, and
 -- what comes to a node comes from nodes that there are.
-use Rattle.std.proofs.Common.{◌≡◌, ℕ, zero, suc, ◌+◌, ◌<◌, ◌==◌, ◌&&◌, Bool, true, false, List, [], ◌∷◌, ◌++◌, length, remove, refl, sym, ◌∙◌, subst, arith, Option, Some, None, slice_get, map, filter, fold}
+use Rattle.std.proofs.Common.{◌≡◌, ℕ, zero, suc, ◌+◌, ◌<◌, ◌==◌, ◌&&◌, Bool, true, false, List, [], ◌∷◌, ◌++◌, length, remove, refl, sym, ◌∙◌, subst, arith, Option, Some, None, get_or, slice_get, fold}
 use Rattle.std.specs.Prelude.{flat_map}
 use Rattle.std.specs.List.{range_with_len}
 use Rattle.std.proofs.lemmas.List.FromFn.{length-map-range_with_len}
@@ -14,8 +14,8 @@ use Rattle.rb_rules.specs.declared.message.Message.{Message}
 use Rattle.rb_rules.specs.declared.record.Epoch.{Epoch}
 use Rattle.rb_rules.specs.Book.{Each, of_kind, each_of, map_each, Record}
 use Rattle.rb_rules.specs.Core.{Act}
-use Rattle.rb_rules.specs.Goodness.{Scenario, is_good, clock_of}
-use Rattle.rb_rules.specs.Hearing.{Coming, Sending, Span, coming_said, said_by, is_said, coming_of}
+use Rattle.rb_rules.specs.Goodness.{Scenario, is_good}
+use Rattle.rb_rules.specs.Hearing.{Coming, Sending, Span, said_by, coming_of}
 use Rattle.rb_rules.specs.NodeState.{NodeState}
 use Rattle.rb_rules.specs.Ports.{PortState}
 use Rattle.rb_rules.specs.Slots.{count_of, same_side}
@@ -24,8 +24,9 @@ use Rattle.rb_rules.specs.WorldStep.Choice.{Take, GoOn, Hand}
 use Rattle.rb_rules.specs.WorldStep.Pending.{Tick, Arrival}
 use Rattle.rb_rules.specs.WorldStep.Way.{ByAnEvent, ByItself}
 use Rattle.rb_rules.proofs.WindowNumbers.{get-each, length-each, get-made}
+use Rattle.rb_laws_agreement.proofs.SaidWindows.{IsSaid, all-said}
 use Rattle.rb_laws_events.proofs.DueEvents.{IsDue, due-is}
-use Rattle.rb_laws_events.proofs.SameHeard.{Every}
+use Rattle.rb_laws_events.proofs.SameHeard.{Every, all-every}
 use Rattle.rb_laws_events.proofs.WorldBooks.{hand-leaves}
 
 -- what comes to a node of kind `me` is from nodes of the bus
@@ -45,12 +46,6 @@ known-remove sizes me n [] a = none n
 known-remove sizes me zero (x ∷ xs) a = a.1
 known-remove sizes me (suc n) (x ∷ xs) a = (a.0, known-remove sizes me n xs a.1)
 
--- what is made of entries of one node of the bus is from nodes of the bus
-map-known : {X : Type 0} (sizes : Sizes) (me : Side) (j : ℕ) (f : X → Coming) → ((x : X) → (f x).from ≡ j) → j < count_of (other me) sizes → (xs : List X)
-    → Known sizes me (map f xs)
-map-known sizes me j f its h [] = tt
-map-known sizes me j f its h (x ∷ xs) = (subst (λ k. k < count_of (other me) sizes) (sym (its x)) h, map-known sizes me j f its h xs)
-
 flat-known : (sizes : Sizes) (me : Side) (f : ℕ → List Coming) (a n : ℕ) → ((k : ℕ) → k < n → Known sizes me (f (a + k))) → Known sizes me (flat_map f (range_with_len a n))
 flat-known sizes me f a zero all = tt
 flat-known sizes me f a (suc n) all =
@@ -58,15 +53,17 @@ flat-known sizes me f a (suc n) all =
     known-append sizes me (f a) (flat_map f (range_with_len (a + 1) n)) (subst (λ k. Known sizes me (f k)) z (all 0 (omega arith)))
     (flat-known sizes me f (a + 1) n (λ k h. let s : a + suc k ≡ a + 1 + k = omega arith in subst (λ m. Known sizes me (f m)) s (all (suc k) (omega arith))))
 
-said-known : (sc : Scenario) (me : Side) (i : ℕ) (span : Span) (j : ℕ) → j < count_of (other me) sc.sizes → Known sc.sizes me (said_by sc me i span j)
-said-known sc me i span j h = map-known sc.sizes me j (coming_said sc.plan.version (clock_of sc me i) j span) (λ s. refl) h (filter (is_said me i j span) sc.says)
+said-known : (sc : Scenario) (me : Side) (i : ℕ) (span : Span) (j : ℕ) → Known sc.sizes me (said_by sc me i span j)
+said-known sc me i span j =
+    all-every (λ c. c.from < count_of (other me) sc.sizes) (said_by sc me i span j)
+    (λ k d lt. let is : IsSaid sc me i span j (get_or (said_by sc me i span j) k d) = all-said sc me i span j k d lt in omega (arith, is.from, is.known))
 
 pub says-known : (sc : Scenario) (me : Side) (i : ℕ) (span : Span) → Known sc.sizes me (says_in sc me i span)
 unfolding says_in
 says-known sc me i span =
     flat-known sc.sizes me (λ j. elim (is_good sc (other me) j span.place.frame span.place.slot) [ true ↦ [] | false ↦ said_by sc me i span j ]) 0
     (count_of (other me) sc.sizes)
-    (λ k h. by (0 + k) (is_good sc (other me) (0 + k) span.place.frame span.place.slot) (said-known sc me i span (0 + k) (omega arith)))
+    (λ k h. by (0 + k) (is_good sc (other me) (0 + k) span.place.frame span.place.slot) (said-known sc me i span (0 + k)))
   where
     by : (j : ℕ) (b : Bool) → Known sc.sizes me (said_by sc me i span j)
         → Known sc.sizes me (elim b as (λ _. List Coming) [ true ↦ [] | false ↦ said_by sc me i span j ])

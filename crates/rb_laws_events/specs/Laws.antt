@@ -5,11 +5,13 @@ use Rattle.rb_base.specs.Sizes.{Sizes}
 use Rattle.rb_rules.specs.declared.plan.Plan.{Plan}
 use Rattle.rb_rules.specs.Book.{Record, of_kind}
 use Rattle.rb_rules.specs.Core.{Core, next_tick, ticks}
+use Rattle.rb_rules.specs.Behavior.{Span}
+use Rattle.rb_rules.specs.Entries.{IsListed}
 use Rattle.rb_rules.specs.Goodness.{Scenario}
 use Rattle.rb_rules.specs.Lawful.{IsLawful}
 use Rattle.rb_rules.specs.Ports.{HandIn}
 use Rattle.rb_rules.specs.Rounds.{moment, steps_of, records_of}
-use Rattle.rb_rules.specs.WorldStep.{Site, World, Choice, Due, EventsAreRounds, IsPrefix, choose, due_of, first_world, go_on, needs_no_event, take, world_after}
+use Rattle.rb_rules.specs.WorldStep.{Site, World, Choice, Due, EventsAreRounds, IsPrefix, choose, due_of, first_world, go_on, needs_no_event, says_in, take, world_after}
 use Rattle.rb_rules.specs.WorldStep.Choice.{Take, GoOn, Hand}
 
 -- the records of a scenario are those of the moment after all steps: that the run stops at its end
@@ -79,20 +81,34 @@ takes_from sc w (c ∷ cs) = taken_by sc w c + takes_from sc (choose sc w c) cs
 abbrev pub nodes_of : Sizes → ℕ
 nodes_of sizes = sizes.bius + sizes.rmus
 
--- what a tick may make pending at most: a message at each node, and all that is said to its node in
--- a window
-abbrev pub most_at_once : Scenario → ℕ
-most_at_once sc = nodes_of sc.sizes + nodes_of sc.sizes * length sc.says
+-- in a window no node is told more than n messages by all faulty nodes together
+abbrev pub SayAtMost : Scenario → ℕ → Type 0
+SayAtMost sc n = (me : Side) (i : ℕ) (span : Span) → length (says_in sc me i span) ≤ n
 
--- no run takes more events: each node has fewer than 2^31 ticks
-abbrev pub most_takes : Scenario → ℕ
-most_takes sc = nodes_of sc.sizes * (2 ^ 31 * (most_at_once sc + 1) + most_at_once sc)
+-- what a tick may make pending at most, if faulty nodes say at most n messages to a node in a
+-- window: a message at each node, and these
+abbrev pub most_with : Scenario → ℕ → ℕ
+most_with sc n = nodes_of sc.sizes + n
 
--- Whatever is chosen, at most `most_takes sc` events are taken, and no node that runs has had 2^31
--- ticks. As something is due until the run has ended, every run ends
-pub record EveryRunEnds (sc : Scenario) : Type 0 where
-  pub few : (choices : List Choice) → takes_from sc (first_world sc) choices ≤ most_takes sc
+-- no run takes more events then: each node has fewer than 2^31 ticks
+abbrev pub takes_with : Scenario → ℕ → ℕ
+takes_with sc n = nodes_of sc.sizes * (2 ^ 31 * (most_with sc n + 1) + most_with sc n)
+
+-- Whatever is chosen, at most `most` events are taken, and no node that runs has had 2^31 ticks. As
+-- something is due until the run has ended, every run ends
+pub record EveryRunEndsBy (sc : Scenario) (most : ℕ) : Type 0 where
+  pub few : (choices : List Choice) → takes_from sc (first_world sc) choices ≤ most
   pub room : (choices : List Choice) (me : Side) (i : ℕ) (s : Site) → slice_get (of_kind me (world_after sc choices).sites) i ≡ Some s → s.runs ≡ true → s.core.had < 2 ^ 31
+
+-- the bounds, if faulty nodes do what the entries of a document list
+abbrev pub most_at_once : Scenario → ℕ
+most_at_once sc = most_with sc (nodes_of sc.sizes * length sc.says)
+
+abbrev pub most_takes : Scenario → ℕ
+most_takes sc = takes_with sc (nodes_of sc.sizes * length sc.says)
+
+abbrev pub EveryRunEnds : Scenario → Type 0
+EveryRunEnds sc = EveryRunEndsBy sc (most_takes sc)
 
 -- What holds in each lawful scenario.
 
@@ -106,4 +122,9 @@ abbrev pub OneTurnARecordInLawful : Type 0
 OneTurnARecordInLawful = (sc : Scenario) → IsLawful sc → OneTurnARecord sc
 
 abbrev pub EveryRunEndsInLawful : Type 0
-EveryRunEndsInLawful = (sc : Scenario) → IsLawful sc → EveryRunEnds sc
+EveryRunEndsInLawful = (sc : Scenario) → IsLawful sc → IsListed sc → EveryRunEnds sc
+
+-- every run ends if there is any bound on what faulty nodes say to a node in a window
+abbrev pub BoundedRunsEndInLawful : Type 0
+BoundedRunsEndInLawful =
+    (sc : Scenario) → IsLawful sc → (n : ℕ) → SayAtMost sc n → EveryRunEndsBy sc (takes_with sc n)

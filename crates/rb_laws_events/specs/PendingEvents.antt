@@ -4,6 +4,7 @@ use Rattle.rb_base.specs.Nodes.{Side, other}
 use Rattle.rb_rules.specs.declared.message.Message.{Message}
 use Rattle.rb_rules.specs.Book.{of_kind}
 use Rattle.rb_rules.specs.Core.{Act}
+use Rattle.rb_rules.specs.Entries.{IsListed}
 use Rattle.rb_rules.specs.Goodness.{Scenario}
 use Rattle.rb_rules.specs.Lawful.{IsLawful}
 use Rattle.rb_rules.specs.Slots.{count_of}
@@ -43,4 +44,4 @@ abbrev pub PendingEventsAreFew : Scenario → Type 0
 PendingEventsAreFew sc = (choices : List Choice) → EventsFit sc (world_after sc choices)
 
 abbrev pub PendingEventsAreFewInLawful : Type 0
-PendingEventsAreFewInLawful = (sc : Scenario) → IsLawful sc → PendingEventsAreFew sc
+PendingEventsAreFewInLawful = (sc : Scenario) → IsLawful sc → IsListed sc → PendingEventsAreFew sc

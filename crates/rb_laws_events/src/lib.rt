@@ -4,7 +4,7 @@
 
 ghost use Rattle.rb_laws_events.specs.ByItself.{WhatNeedsNoEventIsGiven};
 ghost use Rattle.rb_laws_events.specs.Closing.{GoodNodesCloseInOrder};
-ghost use Rattle.rb_laws_events.specs.Laws.{EventsAreRoundsInLawful, EventsOnlyAdd, EveryRunEndsInLawful, HandInsComeLate, OneTurnARecordInLawful, QuietTicksCount, RecordsAreOfAllSteps, RoundsOnlyAdd, SomethingIsDueInLawful};
+ghost use Rattle.rb_laws_events.specs.Laws.{BoundedRunsEndInLawful, EventsAreRoundsInLawful, EventsOnlyAdd, EveryRunEndsInLawful, HandInsComeLate, OneTurnARecordInLawful, QuietTicksCount, RecordsAreOfAllSteps, RoundsOnlyAdd, SomethingIsDueInLawful};
 ghost use Rattle.rb_laws_events.specs.OwnMoments.{CoresAreThoseOfTheRounds, CoresFollowTheRounds};
 ghost use Rattle.rb_laws_events.specs.PendingEvents.{PendingEventsAreFewInLawful};
 ghost use Rattle.rb_laws_events.specs.Promise.{RunningNodesKeepThePromiseInLawful};
@@ -69,19 +69,25 @@ pub fn one_turn_a_record()
     ensures { OneTurnARecordInLawful }
 {}
 
-/// Every run ends in every lawful scenario: whatever is chosen, the number of events that are taken
-/// is at most `most_takes`, which follows from the nodes, the number of their ticks and what is
-/// said, and no node that runs has had 2^31 ticks. Until then some event is due, or the next record
-/// is given without one.
+/// Every run ends in every lawful scenario whose faulty nodes do what the entries of a document
+/// list: whatever is chosen, the number of events that are taken is at most `most_takes`, which
+/// follows from the nodes, the number of their ticks and what is said, and no node that runs has
+/// had 2^31 ticks. Until then some event is due, or the next record is given without one.
 pub fn every_run_ends()
     ensures { EveryRunEndsInLawful }
 {}
 
-/// In every lawful scenario room for `most_pending` events at each node, reserved at opening, is
-/// enough: for its tick, for four messages from each node of the other kind, and for three times as
-/// many as there are entries of what is said. Whatever was chosen, no more is pending at a node
-/// (`now`), nor after a tick of its own (`own`), nor with the message that another node sends at
-/// its tick (`message`).
+/// Every run ends in every lawful scenario if there is any bound on what faulty nodes say to a node
+/// in a window, whatever they do: at most `takes_with` events are taken.
+pub fn bounded_runs_end()
+    ensures { BoundedRunsEndInLawful }
+{}
+
+/// In every lawful scenario whose faulty nodes do what the entries of a document list, room for
+/// `most_pending` events at each node, reserved at opening, is enough: for its tick, for four
+/// messages from each node of the other kind, and for three times as many as there are entries of
+/// what is said. Whatever was chosen, no more is pending at a node (`now`), nor after a tick of its
+/// own (`own`), nor with the message that another node sends at its tick (`message`).
 pub fn pending_events_are_few()
     ensures { PendingEventsAreFewInLawful }
 {}

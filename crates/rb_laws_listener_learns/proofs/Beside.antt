@@ -20,7 +20,7 @@ use Rattle.rb_rules.specs.ExactStage.{close_exact, outcome_of}
 use Rattle.rb_rules.specs.Goodness.{is_before}
 use Rattle.rb_rules.specs.Hearing.{Coming, Sending, sending, heard_from, row_of}
 use Rattle.rb_rules.specs.Judging.{classes_of, verdict_of}
-use Rattle.rb_rules.specs.Lawful.{IsLawful, IsOnsetOf, IsRuleOf, IsSayOf}
+use Rattle.rb_rules.specs.Lawful.{IsLawful, IsOnsetOf, IsRuleOf}
 use Rattle.rb_rules.specs.Links.{delay_of}
 use Rattle.rb_rules.specs.Moments.{IsComplete}
 use Rattle.rb_rules.specs.NodeState.{NodeState}
@@ -243,8 +243,6 @@ is-lawful = record {
   rules = All-nil (IsRuleOf two_frames);
   biu_onsets = record { enough = lit≤ tt; each = one (IsOnsetOf two_frames) None tt };
   rmu_onsets = record { enough = lit≤ tt; each = one (IsOnsetOf two_frames) None tt };
-  says = All-nil (IsSayOf two_frames);
-  few_says = lit≤ tt;
   few_rules = lit≤ tt;
   few_segments = lit≤ tt;
 }

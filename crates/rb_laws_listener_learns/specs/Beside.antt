@@ -49,6 +49,7 @@ two_frames = record {
   delays = record { base = 10000; rules = [] };
   biu_onsets = None ∷ [];
   rmu_onsets = None ∷ [];
+  behavior = λ me i span j. [];
   says = [];
 }
 

@@ -5,6 +5,7 @@ use Rattle.rb_base.specs.declared.event.Event.{Event}
 use Rattle.rb_base.specs.declared.node.NodeName.{NodeName}
 use Rattle.rb_base.proofs.Plain.{true-false}
 use Rattle.rb_rules.specs.Book.{Record, in_order}
+use Rattle.rb_rules.specs.Entries.{IsListed}
 use Rattle.rb_rules.specs.Goodness.{Scenario}
 use Rattle.rb_rules.specs.Lawful.{IsLawful}
 use Rattle.rb_rules.specs.Rounds.{records_of}
@@ -129,9 +130,9 @@ steps-count sc lawful (suc n) going =
     before false e = e
     before true e = true-false (sym (ap (λ (w : World). w.book.ended) (step-ended sc (first_run sc n) e) ∙ e) ∙ going)
 
-pub few-steps : (sc : Scenario) → IsLawful sc → (n : ℕ) → (first_run sc n).book.ended ≡ false → n ≤ most_takes sc + length (records_of sc [])
-few-steps sc lawful n going =
-    let runs : EveryRunEnds sc = ends-hold sc lawful in
+pub few-steps : (sc : Scenario) → IsListed sc → IsLawful sc → (n : ℕ) → (first_run sc n).book.ended ≡ false → n ≤ most_takes sc + length (records_of sc [])
+few-steps sc listed lawful n going =
+    let runs : EveryRunEnds sc = ends-hold sc lawful listed in
     let choices : List Choice = choices_in sc n in
     let steps : n ≤ steps_by sc n = steps-count sc lawful n going in
     let few : takes_from sc (first_world sc) choices ≤ most_takes sc = runs.few choices in
@@ -142,18 +143,18 @@ few-steps sc lawful n going =
     let same : length (first_run sc n).book.given ≡ length (world_after sc choices).book.given = ap (λ (w : World). length w.book.given) (run-is sc n) in
     omega (arith, steps, few, given, same)
 
-pub run-ends : (sc : Scenario) → IsLawful sc → (first_run sc (most_takes sc + length (records_of sc []) + 1)).book.ended ≡ true
-run-ends sc lawful = by (first_run sc n).book.ended refl
+pub run-ends : (sc : Scenario) → IsListed sc → IsLawful sc → (first_run sc (most_takes sc + length (records_of sc []) + 1)).book.ended ≡ true
+run-ends sc listed lawful = by (first_run sc n).book.ended refl
   where
     n : ℕ
     n = most_takes sc + length (records_of sc []) + 1
 
     by : (b : Bool) → (first_run sc n).book.ended ≡ b → b ≡ true
     by true e = refl
-    by false e = let few : n ≤ most_takes sc + length (records_of sc []) = few-steps sc lawful n e in absurd (omega (arith, few))
+    by false e = let few : n ≤ most_takes sc + length (records_of sc []) = few-steps sc listed lawful n e in absurd (omega (arith, few))
 
 pub one-list-is-given : OneListIsGiven
-one-list-is-given sc lawful name =
+one-list-is-given sc lawful listed name =
     let n : ℕ = most_takes sc + length (records_of sc []) + 1 in
-    let are : AreGiven sc name (given_in sc name n) = record { steps = n; over = run-ends sc lawful; all = refl } in
+    let are : AreGiven sc name (given_in sc name n) = record { steps = n; over = run-ends sc listed lawful; all = refl } in
     (given_in sc name n, (are, λ others its. one-only sc name (given_in sc name n) others are its))

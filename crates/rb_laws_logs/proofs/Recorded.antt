@@ -20,6 +20,7 @@ use Rattle.rb_rules.specs.Book.{of_kind}
 use Rattle.rb_rules.specs.Core.{Act, Core, CoreEvent, act_at, act_on, arrive, epoch_at, first_core, is_last, is_spent, of_source, pass_to, said_at, state_at, state_kept, tick, window_here}
 use Rattle.rb_rules.specs.Core as core
 use Rattle.rb_rules.specs.ExactStage.{Outcome}
+use Rattle.rb_rules.specs.Entries.{IsListed}
 use Rattle.rb_rules.specs.Goodness.{Scenario}
 use Rattle.rb_rules.specs.Hearing.{Coming, close_window}
 use Rattle.rb_rules.specs.Lawful.{IsLawful, IsNodeOf, kind_of}
@@ -242,9 +243,9 @@ underway-ticks sc name n s u =
     let same : count_ticks (given_so_far sc name n) ≡ ticks_in (given_in sc name n) = count-given (given_in sc name n) in
     omega (arith, had, counts, same)
 
-can-be-told : (sc : Scenario) (name : NodeName) → IsLawful sc → EndsWithoutBreach sc → IsGoodThroughout sc name → (n : ℕ) → CanBeTold sc name (given_in sc name n)
-can-be-told sc name lawful none good zero = record { happen = All-nil (λ (e : Event). MayHappen (count_of (other (kind_of name)) sc.sizes) e.kind); ticks = omega arith }
-can-be-told sc name lawful none good (suc n) = by (can-be-told sc name lawful none good n) (next-given sc name n node)
+can-be-told : (sc : Scenario) → IsListed sc → (name : NodeName) → IsLawful sc → EndsWithoutBreach sc → IsGoodThroughout sc name → (n : ℕ) → CanBeTold sc name (given_in sc name n)
+can-be-told sc listed name lawful none good zero = record { happen = All-nil (λ (e : Event). MayHappen (count_of (other (kind_of name)) sc.sizes) e.kind); ticks = omega arith }
+can-be-told sc listed name lawful none good (suc n) = by (can-be-told sc listed name lawful none good n) (next-given sc name n node)
   where
     node : NodeAt sc name n
     node = nodes-at sc name lawful none good n
@@ -267,7 +268,7 @@ can-be-told sc name lawful none good (suc n) = by (can-be-told sc name lawful no
         let e : Event = event_of sc w.ports me i node.s.core p in
         let known : Every (λ (c : Coming). c.from < count_of (other me) sc.sizes) node.s.coming =
         (worlds-known sc (choices_in sc n)).known me i node.s (ap (λ (w : World). slice_get (of_kind me w.sites) i) (sym (run-is sc n)) ∙ node.there) in
-        let happens : MayHappen (count_of (other me) sc.sizes) e.kind = can-happen sc w.ports me i t node.s p lawful ready known (run-sized sc n lawful me i node.s node.there) in
+        let happens : MayHappen (count_of (other me) sc.sizes) e.kind = can-happen sc w.ports me i t node.s p lawful ready known (run-sized sc n listed me i node.s node.there) in
         let had : ticks_in (given_in sc name n) ≡ node.s.core.had = underway-ticks sc name n node.s u in
         let few : node.s.core.had + ticks_given e ≤ 2 ^ 31 = fits sc name n t node.s p lawful none node.there ready u first in
         let sum : ticks_in (given_in sc name n ++ e ∷ []) ≡ ticks_in (given_in sc name n) + (ticks_given e + 0) = ticks-append (given_in sc name n) (e ∷ []) in
@@ -283,8 +284,8 @@ node-of sizes (node.Biu i) h = h
 node-of sizes (node.Rmu i) h = h
 
 pub a-log-tells-the-report : ALogTellsTheReport
-a-log-tells-the-report sc lawful none name good events are t sizes plan =
-    let told : CanBeTold sc name events = subst (CanBeTold sc name) (sym are.all) (can-be-told sc name lawful none good are.steps) in
+a-log-tells-the-report sc lawful listed none name good events are t sizes plan =
+    let told : CanBeTold sc name events = subst (CanBeTold sc name) (sym are.all) (can-be-told sc listed name lawful none good are.steps) in
     let within : index_of name < count_of (kind_of name) sc.sizes = good_counts sc (kind_of name) (index_of name) sc.frames 0 good in
     let tellable : IsTellable (record { sizes = sc.sizes; plan = sc.plan }) name events = record {
       shape = lawful.sizes;

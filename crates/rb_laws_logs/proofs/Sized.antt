@@ -1,9 +1,9 @@
 -- For the law of record and replay: in each world of the run what comes to a node has 1 to 32
 -- bytes.
-use Rattle.std.proofs.Common.{◌≡◌, ℕ, zero, suc, ◌+◌, ◌<◌, ◌≤◌, ◌==◌, ◌&&◌, Bool, true, false, All, List, [], ◌∷◌, ◌++◌, length, refl, sym, ◌∙◌, subst, arith, cond, Option, Some, None, slice_get, map, filter}
+use Rattle.std.proofs.Common.{◌≡◌, ℕ, zero, suc, ◌+◌, ◌<◌, ◌≤◌, ◌==◌, ◌&&◌, Bool, true, false, All, List, [], ◌∷◌, ◌++◌, length, refl, sym, ◌∙◌, subst, arith, Option, Some, None, get_or, slice_get, map, filter}
 use Rattle.std.specs.Prelude.{flat_map}
 use Rattle.std.specs.List.{range_with_len}
-use Rattle.std.proofs.lemmas.List.Elements.{All-head, All-tail}
+use Rattle.std.proofs.lemmas.List.Elements.{All-filter, All-map}
 use Rattle.std.proofs.lemmas.Option.{same_Some, slice_get_within}
 use Rattle.rb_base.specs.Nodes.{Side, other}
 use Rattle.rb_base.specs.declared.values.Place.{Place}
@@ -14,11 +14,13 @@ use Rattle.rb_rules.specs.declared.message.Version.TheVariants as version
 use Rattle.rb_rules.specs.declared.say.Content.{Content}
 use Rattle.rb_rules.specs.declared.say.Content.TheVariants.{Word, Fault, Sync, Raw}
 use Rattle.rb_rules.specs.declared.say.Say.{Say}
+use Rattle.rb_rules.specs.Behavior.{Said}
 use Rattle.rb_rules.specs.Book.{Each, each_of, map_each, of_kind}
 use Rattle.rb_rules.specs.Core.{Act}
+use Rattle.rb_rules.specs.Entries.{IsListed, bytes_of, is_said, said_of}
 use Rattle.rb_rules.specs.Goodness.{Scenario, clock_of, is_good}
-use Rattle.rb_rules.specs.Hearing.{Coming, Sending, Span, bytes_of, coming_of, coming_said, is_said, said_by}
-use Rattle.rb_rules.specs.Lawful.{IsContent, IsLawful, IsSayOf}
+use Rattle.rb_rules.specs.Hearing.{Coming, Sending, Span, coming_of, is_heard, said_by}
+use Rattle.rb_rules.specs.Lawful.{IsContent}
 use Rattle.rb_rules.specs.Ports.{PortState}
 use Rattle.rb_rules.specs.Slots.{count_of, same_side}
 use Rattle.rb_rules.specs.Spelling.{spelling_of}
@@ -26,7 +28,7 @@ use Rattle.rb_rules.specs.WorldStep.{Due, Pending, Site, World, after_act, after
 use Rattle.rb_rules.specs.WorldStep.Pending.{Tick, Arrival}
 use Rattle.rb_rules.proofs.WindowNumbers.{get-each, get-made}
 use Rattle.rb_laws_events.proofs.Receiving.{every-without}
-use Rattle.rb_laws_events.proofs.SameHeard.{Every}
+use Rattle.rb_laws_events.proofs.SameHeard.{Every, all-every}
 use Rattle.rb_laws_events.proofs.WorldNodes.{close-coming, epoch-coming, first-counts}
 use Rattle.rb_laws_logs.specs.Given.{first_run}
 use Rattle.rb_laws_logs.proofs.NodeRun.{StepSites, step-sites}
@@ -54,49 +56,51 @@ append : (xs ys : List Coming) → AreSized xs → AreSized ys → AreSized (xs 
 append [] ys a b = b
 append (x ∷ xs) ys a b = (a.0, append xs ys a.1 b)
 
-said : (sc : Scenario) (me : Side) (i : ℕ) (span : Span) (j : ℕ) (says : List Say) → All (IsSayOf sc) says
-    → AreSized (map (coming_said sc.plan.version (clock_of sc me i) j span) (filter (is_said me i j span) says))
-said sc me i span j [] all = tt
-said sc me i span j (s ∷ says) all = by (said sc me i span j says (All-tail (IsSayOf sc) s says all)) (is_said me i j span s)
-  where
-    by : AreSized (map (coming_said sc.plan.version (clock_of sc me i) j span) (filter (is_said me i j span) says)) → (b : Bool)
-        → AreSized (map (coming_said sc.plan.version (clock_of sc me i) j span) (cond b (s ∷ filter (is_said me i j span) says) (filter (is_said me i j span) says)))
-    by rest true = (content sc.plan.version span.place s.content (All-head (IsSayOf sc) s says all).content, rest)
-    by rest false = rest
+said : (sc : Scenario) → IsListed sc → (me : Side) (i : ℕ) (span : Span) (j : ℕ) → AreSized (said_by sc me i span j)
+said sc listed me i span j =
+    let made : Say → Said = said_of sc.plan.version (clock_of sc me i) span in
+    let coming : Said → Coming = λ s. record { time = s.time; from = j; bytes = s.bytes } in
+    let entries : All (λ (s : Said). IsSized s.bytes) (map made (filter (is_said me i j span) sc.says)) =
+    All-map (λ (s : Said). IsSized s.bytes) made (filter (is_said me i j span) sc.says)
+    (All-filter (is_said me i j span) (λ s. IsSized (made s).bytes) sc.says
+    (λ k d lt. content sc.plan.version span.place (get_or sc.says k d).content (listed.says k d lt).content)) in
+    all-every (λ c. IsSized c.bytes) (said_by sc me i span j)
+    (All-map (λ c. IsSized c.bytes) coming (filter (is_heard sc me i span j) (sc.behavior me i span j))
+    (All-filter (is_heard sc me i span j) (λ s. IsSized s.bytes) (sc.behavior me i span j) (subst (All (λ (s : Said). IsSized s.bytes)) (sym (listed.behavior me i span j)) entries)))
 
 of-all : (f : ℕ → List Coming) (a n : ℕ) → ((k : ℕ) → AreSized (f k)) → AreSized (flat_map f (range_with_len a n))
 of-all f a zero all = tt
 of-all f a (suc n) all = append (f a) (flat_map f (range_with_len (a + 1) n)) (all a) (of-all f (a + 1) n all)
 
-says-sized : (sc : Scenario) (me : Side) (i : ℕ) (span : Span) → IsLawful sc → AreSized (says_in sc me i span)
+says-sized : (sc : Scenario) (me : Side) (i : ℕ) (span : Span) → IsListed sc → AreSized (says_in sc me i span)
 unfolding says_in
-says-sized sc me i span lawful =
+says-sized sc me i span listed =
     of-all (λ j. elim (is_good sc (other me) j span.place.frame span.place.slot) [ true ↦ [] | false ↦ said_by sc me i span j ]) 0 (count_of (other me) sc.sizes)
     (λ j. by j (is_good sc (other me) j span.place.frame span.place.slot))
   where
     by : (j : ℕ) (b : Bool) → AreSized (elim b as (λ _. List Coming) [ true ↦ [] | false ↦ said_by sc me i span j ])
     by j true = tt
-    by j false = said sc me i span j sc.says lawful.says
+    by j false = said sc listed me i span j
 
 -- One node.
 
-entered : (sc : Scenario) (me : Side) (i : ℕ) (o : Option Span) (s : Site) → IsLawful sc → AreSized s.coming → AreSized (enter sc me i o s).coming
-entered sc me i None s lawful is = append s.coming [] is tt
-entered sc me i (Some span) s lawful is = by (is_good sc me i span.place.frame span.place.slot)
+entered : (sc : Scenario) (me : Side) (i : ℕ) (o : Option Span) (s : Site) → IsListed sc → AreSized s.coming → AreSized (enter sc me i o s).coming
+entered sc me i None s listed is = append s.coming [] is tt
+entered sc me i (Some span) s listed is = by (is_good sc me i span.place.frame span.place.slot)
   where
     by : (b : Bool) → AreSized (elim b as (λ _. Site) [ true ↦ await sc me i (says_in sc me i span) s | false ↦ stop s ]).coming
-    by true = append s.coming (says_in sc me i span) is (says-sized sc me i span lawful)
+    by true = append s.coming (says_in sc me i span) is (says-sized sc me i span listed)
     by false = tt
 
-proceeds : (sc : Scenario) (me : Side) (i : ℕ) (s : Site) → IsLawful sc → AreSized s.coming → AreSized (proceed sc me i s).coming
+proceeds : (sc : Scenario) (me : Side) (i : ℕ) (s : Site) → IsListed sc → AreSized s.coming → AreSized (proceed sc me i s).coming
 unfolding proceed
 proceeds sc me i s = entered sc me i (span_from sc.sizes sc.plan me s.core.state s.core.had) s
 
-acts : (sc : Scenario) (ports : List PortState) (me : Side) (i : ℕ) (x : Act) (s : Site) → IsLawful sc → AreSized s.coming → AreSized (after_act sc ports me i x s).coming
+acts : (sc : Scenario) (ports : List PortState) (me : Side) (i : ℕ) (x : Act) (s : Site) → IsListed sc → AreSized s.coming → AreSized (after_act sc ports me i x s).coming
 unfolding after_act
-acts sc ports me i x s lawful is =
+acts sc ports me i x s listed is =
     let closed : Site = with_close me i x.core.state x.closed (record s { core = x.core }) in
-    proceeds sc me i (with_epoch sc ports me i x.epoch closed) lawful
+    proceeds sc me i (with_epoch sc ports me i x.epoch closed) listed
     (subst AreSized (sym (epoch-coming sc ports me i x.epoch closed ∙ close-coming me i x.core.state x.closed (record s { core = x.core }))) is)
 
 arrives : (sc : Scenario) (me : Side) (i place : ℕ) (c : Coming) (s : Site) → AreSized s.coming → AreSized (after_arrival sc me i place c s).coming
@@ -133,37 +137,37 @@ message-sized sc me j frame tick None sites is = is
 message-sized sc me j frame tick (Some m) sites is =
     each-sized (sent_to sc me j frame (record { tick = tick; message = m })) sites (λ side i s k. sends sc me side j frame (record { tick = tick; message = m }) i s k) is
 
-pending-sized : (sc : Scenario) (w : World) (me : Side) (i : ℕ) (s : Site) (p : Pending) → IsLawful sc → AllSized w.sites → AllSized (with_pending sc w me i s p).sites
+pending-sized : (sc : Scenario) (w : World) (me : Side) (i : ℕ) (s : Site) (p : Pending) → IsListed sc → AllSized w.sites → AllSized (with_pending sc w me i s p).sites
 unfolding with_act
-pending-sized sc w me i s (Tick k) lawful is =
+pending-sized sc w me i s (Tick k) listed is =
     let x : Act = pass_and_tick sc w.ports me i k s.core in
     message-sized sc me i x.core.state.frame k x.message (at_node me i (after_act sc w.ports me i x) w.sites)
-    (at-sized me i (after_act sc w.ports me i x) w.sites (λ z k. acts sc w.ports me i x z lawful k) is)
-pending-sized sc w me i s (Arrival place c) lawful is = at-sized me i (after_arrival sc me i place c) w.sites (λ z k. arrives sc me i place c z k) is
+    (at-sized me i (after_act sc w.ports me i x) w.sites (λ z k. acts sc w.ports me i x z listed k) is)
+pending-sized sc w me i s (Arrival place c) listed is = at-sized me i (after_arrival sc me i place c) w.sites (λ z k. arrives sc me i place c z k) is
 
-happens-sized : (sc : Scenario) (w : World) (d : Due) → IsLawful sc → AllSized w.sites → AllSized (happens sc w d).sites
+happens-sized : (sc : Scenario) (w : World) (d : Due) → IsListed sc → AllSized w.sites → AllSized (happens sc w d).sites
 unfolding happens
-happens-sized sc w d lawful is = by (slice_get (of_kind d.side w.sites) d.node)
+happens-sized sc w d listed is = by (slice_get (of_kind d.side w.sites) d.node)
   where
     by : (o : Option Site) → AllSized (elim o as (λ _. World) [ None ↦ w | Some s ↦ with_pending sc w d.side d.node s d.pending ]).sites
     by None = is
-    by (Some s) = pending-sized sc w d.side d.node s d.pending lawful is
+    by (Some s) = pending-sized sc w d.side d.node s d.pending listed is
 
 -- The run.
 
-first-sized : (sc : Scenario) → IsLawful sc → AllSized (first_world sc).sites
+first-sized : (sc : Scenario) → IsListed sc → AllSized (first_world sc).sites
 unfolding first_world
-first-sized sc lawful me i s e =
+first-sized sc listed me i s e =
     let make : Side → ℕ → Site = λ me i. proceed sc me i (fresh_site sc.sizes me) in
     let within : i < length (of_kind me (each_of sc.sizes make)) = slice_get_within (of_kind me (each_of sc.sizes make)) i s e in
     let long : length (of_kind me (each_of sc.sizes make)) ≡ count_of me sc.sizes = first-counts sc.sizes make me in
     let made : slice_get (of_kind me (each_of sc.sizes make)) i ≡ Some (make me i) = get-made sc.sizes make me i (omega (arith, within, long)) in
-    subst (λ (s : Site). AreSized s.coming) (same_Some (make me i) s (sym made ∙ e)) (proceeds sc me i (fresh_site sc.sizes me) lawful tt)
+    subst (λ (s : Site). AreSized s.coming) (same_Some (make me i) s (sym made ∙ e)) (proceeds sc me i (fresh_site sc.sizes me) listed tt)
 
-pub run-sized : (sc : Scenario) (n : ℕ) → IsLawful sc → AllSized (first_run sc n).sites
-run-sized sc zero lawful = first-sized sc lawful
-run-sized sc (suc n) lawful = by (run-sized sc n lawful) (step-sites sc n)
+pub run-sized : (sc : Scenario) (n : ℕ) → IsListed sc → AllSized (first_run sc n).sites
+run-sized sc zero listed = first-sized sc listed
+run-sized sc (suc n) listed = by (run-sized sc n listed) (step-sites sc n)
   where
     by : AllSized (first_run sc n).sites → StepSites sc n → AllSized (first_run sc (suc n)).sites
     by before (Still nothing same) = subst AllSized (sym same) before
-    by before (Taken d first is) = subst AllSized (sym is) (happens-sized sc (first_run sc n) d lawful before)
+    by before (Taken d first is) = subst AllSized (sym is) (happens-sized sc (first_run sc n) d listed before)

@@ -8,6 +8,7 @@ use Rattle.rb_rules.specs.declared.record.NodeLine.{NodeLine}
 use Rattle.rb_rules.specs.declared.record.SlotLine.{SlotLine}
 use Rattle.rb_rules.specs.Book.{Record}
 use Rattle.rb_rules.specs.Book.Record.{Frame, Slot, Ended, Breach}
+use Rattle.rb_rules.specs.Entries.{IsListed}
 use Rattle.rb_rules.specs.Goodness.{Scenario, is_good}
 use Rattle.rb_rules.specs.Lawful.{IsLawful, kind_of}
 use Rattle.rb_rules.specs.Links.{same_node}
@@ -66,7 +67,7 @@ IsGoodThroughout sc name = is_good sc (kind_of name) (index_of name) sc.frames 0
 -- each node is given one list of events
 abbrev pub OneListIsGiven : Type 0
 OneListIsGiven =
-    (sc : Scenario) → IsLawful sc → (name : NodeName)
+    (sc : Scenario) → IsLawful sc → IsListed sc → (name : NodeName)
     → (events : List Event) × (AreGiven sc name events × ((others : List Event) → AreGiven sc name others → others ≡ events))
 
 -- a node that is good throughout a run without a breach, and is given once more what it was given,
@@ -81,7 +82,7 @@ ReplayIsTheReport =
 -- report
 abbrev pub ALogTellsTheReport : Type 0
 ALogTellsTheReport =
-    (sc : Scenario) → IsLawful sc → EndsWithoutBreach sc → (name : NodeName) → IsGoodThroughout sc name
+    (sc : Scenario) → IsLawful sc → IsListed sc → EndsWithoutBreach sc → (name : NodeName) → IsGoodThroughout sc name
     → (events : List Event) → AreGiven sc name events → (t : Timetable) → t.sizes ≡ sc.sizes → t.plan ≡ sc.plan
     → (log : Log) × ((log_in (header_of t name ++ written 0 events) ≡ Ok log)
     × (replay_text log.timetable.sizes log.timetable.plan log.node log.events ≡ report_of_node name (records_of sc [])))

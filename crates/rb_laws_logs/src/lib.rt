@@ -4,8 +4,9 @@
 
 ghost use Rattle.rb_laws_logs.specs.Laws.{ALogTellsTheReport, OneListIsGiven, ReplayIsTheReport};
 
-/// In every lawful scenario each node is given one list of events: the run in which always the
-/// first due event is taken ends, and nothing is given after its end.
+/// In every lawful scenario whose faulty nodes do what the entries of a document list, each node is
+/// given one list of events: the run in which always the first due event is taken ends, and nothing
+/// is given after its end.
 pub fn one_list_is_given()
     ensures { OneListIsGiven }
 {}
@@ -18,9 +19,9 @@ pub fn replay_is_the_report()
     ensures { ReplayIsTheReport }
 {}
 
-/// The log of the node is right too: the header and what the writer gives of these events are a log
-/// that a reader accepts, and a replay of what it says tells once more what the report tells of the
-/// node.
+/// The log of the node is right too, if faulty nodes do what the entries of a document list: the
+/// header and what the writer gives of these events are a log that a reader accepts, and a replay
+/// of what it says tells once more what the report tells of the node.
 pub fn a_log_tells_the_report()
     ensures { ALogTellsTheReport }
 {}

@@ -2,3 +2,4 @@ pub mod Promise
 pub mod Whole
 pub mod Passes
 pub mod Shares
+pub mod Strategies

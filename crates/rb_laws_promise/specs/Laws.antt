@@ -10,6 +10,7 @@ use Rattle.rb_rules.specs.StandsFor.{StandsFor}
 abbrev pub RoundsStandForTheBus : Type 0
 RoundsStandForTheBus = (sc : Scenario) (hands : List HandIn) → IsLawful sc → StandsFor sc hands
 
--- every lawful scenario keeps the promise, with any hand-ins
+-- every lawful scenario keeps the promise, with any hand-ins. What its faulty nodes do is a field
+-- of the scenario, `behavior`: any function, since nothing that is lawful speaks of it
 abbrev pub ThePromiseIsKept : Type 0
 ThePromiseIsKept = (sc : Scenario) (hands : List HandIn) → IsLawful sc → Headline sc hands

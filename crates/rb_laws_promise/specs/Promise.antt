@@ -1,5 +1,6 @@
 -- All that a run of the bus promises.
 use Rattle.std.specs.Prelude.{All, List}
+use Rattle.rb_rules.specs.Behavior.{Behavior}
 use Rattle.rb_rules.specs.Goodness.{Scenario}
 use Rattle.rb_rules.specs.Headline.{Headline}
 use Rattle.rb_rules.specs.Lawful.{IsLawful}
@@ -19,6 +20,17 @@ pub record KeepsThePromise (sc : Scenario) (hands : List HandIn) : Type 0 where
   pub records : All (IsRight sc hands) (records_of sc hands)  -- a slot's record has no lines, or one line for each good BIU, with one sender and one value
   pub nodes : RunningNodesKeepThePromise sc  -- in every world of its events, the nodes that run hold what the rounds hold
 
--- every run of a lawful scenario keeps it, for any hand-ins
+-- every run of a lawful scenario keeps it, for any hand-ins. What its faulty nodes do is a field of
+-- the scenario, `behavior`: any function, since nothing that is lawful speaks of it
 abbrev pub RunsKeepThePromise : Type 0
 RunsKeepThePromise = (sc : Scenario) (hands : List HandIn) → IsLawful sc → KeepsThePromise sc hands
+
+-- the scenario, if its faulty nodes do this
+abbrev pub behaving : Scenario → Behavior → Scenario
+behaving sc b = record sc { behavior = b }
+
+-- every run of a lawful scenario keeps the promise, for any hand-ins, whatever its faulty nodes do
+abbrev pub AnyBehaviorKeepsThePromise : Type 0
+AnyBehaviorKeepsThePromise =
+    (sc : Scenario) (hands : List HandIn) → IsLawful sc → (b : Behavior)
+    → KeepsThePromise (behaving sc b) hands

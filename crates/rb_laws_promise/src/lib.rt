@@ -3,8 +3,9 @@
 #![tactic(auto)]
 
 ghost use Rattle.rb_laws_promise.specs.Laws.{RoundsStandForTheBus, ThePromiseIsKept};
-ghost use Rattle.rb_laws_promise.specs.Promise.{RunsKeepThePromise};
+ghost use Rattle.rb_laws_promise.specs.Promise.{AnyBehaviorKeepsThePromise, RunsKeepThePromise};
 ghost use Rattle.rb_laws_promise.specs.Shares.{GoodBiusGetTheirShare};
+ghost use Rattle.rb_laws_promise.specs.Strategies.{StrategiesGainNothing};
 
 /// Up to the first breach of the fault premise the rounds stand for a run of the abstract bus: at
 /// each start of a frame and in each slot all good nodes hold what it holds.
@@ -31,4 +32,18 @@ pub fn good_bius_get_their_share()
 /// lines of each slot's record, and that of the nodes that run event by event.
 pub fn runs_keep_the_promise()
     ensures { RunsKeepThePromise }
+{}
+
+/// Every run of a lawful scenario keeps the whole promise, for any hand-ins, whatever its faulty
+/// nodes do. Their behavior is any function: for each window of each receiver and each source it
+/// gives any list of times and bytes.
+pub fn any_behavior_keeps_the_promise()
+    ensures { AnyBehaviorKeepsThePromise }
+{}
+
+/// A strategy gains nothing: if faulty nodes choose what they do in each window by the states of
+/// all nodes before it, one behavior has in every moment the run that the strategy has, and this
+/// run keeps the whole promise.
+pub fn strategies_gain_nothing()
+    ensures { StrategiesGainNothing }
 {}

@@ -153,7 +153,7 @@ proceed-later sc lawful me i k s counted had late = by (span_from sc.sizes sc.pl
   where
     entered : (span : Span) → span.first ≡ k + 1 → (b : Bool)
         → Later (time_of (clock_of sc me i) k) (elim b as (λ _. Site) [ true ↦ await sc me i (says_in sc me i span) s | false ↦ stop s ])
-    entered span first true = await-later sc lawful me i k (says_in sc me i span) s counted had late (says-later sc lawful me i k span counted first)
+    entered span first true = await-later sc lawful me i k (says_in sc me i span) s counted had late (says-later sc me i k span first)
     entered span first false = record { coming = tt; tick = λ b e. absurd (none-some b e) }
       where
         none-some : (b : Timed) → None ≡ Some b → ⊥

@@ -4,6 +4,7 @@ use Rattle.std.proofs.lemmas.Bool.{lt-ltb}
 use Rattle.rb_base.specs.Nodes.{Side, other}
 use Rattle.rb_base.specs.Sizes.{Sizes}
 use Rattle.rb_rules.specs.Book.{of_kind}
+use Rattle.rb_rules.specs.Entries.{IsListed}
 use Rattle.rb_rules.specs.Goodness.{Scenario}
 use Rattle.rb_rules.specs.Hearing.{Coming}
 use Rattle.rb_rules.specs.Lawful.{IsLawful}
@@ -47,9 +48,9 @@ all-known sizes me (c ∷ cs) h =
     ap (λ b. cond b (c ∷ filter (is_known sizes me) cs) (filter (is_known sizes me) cs)) (lt-ltb c.from (count_of (other me) sizes) h.0) ∙ ap (λ l. c ∷ l) (all-known sizes me cs h.1)
 
 -- in a world that was reached what came and what comes are few together at a node that runs
-reached-few : (sc : Scenario) → IsLawful sc → (choices : List Choice) (me : Side) (i : ℕ) (s : Site) → slice_get (of_kind me (world_after sc choices).sites) i ≡ Some s → s.runs ≡ true
+reached-few : (sc : Scenario) → IsListed sc → IsLawful sc → (choices : List Choice) (me : Side) (i : ℕ) (s : Site) → slice_get (of_kind me (world_after sc choices).sites) i ≡ Some s → s.runs ≡ true
     → length s.coming + length s.got ≤ most_coming sc me
-reached-few sc lawful choices me i s there runs = by (any-after sc (had_at sc) lawful (has-room sc lawful) (had-keeps sc lawful) choices)
+reached-few sc listed lawful choices me i s there runs = by (any-after sc (had_at sc) lawful (has-room sc lawful) (had-keeps sc listed lawful) choices)
   where
     w : World
     w = world_after sc choices
@@ -64,13 +65,13 @@ reached-few sc lawful choices me i s there runs = by (any-after sc (had_at sc) l
     by (inl run) =
         let h : StandsInRounds sc w = run.stands in
         let up : IsUp sc w.hands (sent_by sc w.hands h.at w.sites) h.now me i (h.at me i) s = h.stands.sites.up me i s there runs in
-        let few = had-where-it-stands sc w.hands (sent_by sc w.hands h.at w.sites) h.now me i (h.at me i) s up.st up.a up.stands in
+        let few = had-where-it-stands sc listed w.hands (sent_by sc w.hands h.at w.sites) h.now me i (h.at me i) s up.st up.a up.stands in
         omega (arith, few, known)
     by (inr (inl off)) = let few = rooms-had sc off.stands.q w.hands off.stands.b off.stands.sent w.sites off.stands.nodes.nodes me i s there in omega (arith, few, had)
     by (inr (inr over)) = let few = rooms-had sc over.q w.hands over.b over.sent w.sites over.nodes me i s there in omega (arith, few, had)
 
 pub behind-few : PendingBehindIsFew
-behind-few sc lawful choices until w is stopped me i s there = by s.runs refl
+behind-few sc lawful listed choices until w is stopped me i s there = by s.runs refl
   where
     z : Site
     z = swept sc me i (until me i) s
@@ -81,7 +82,7 @@ behind-few sc lawful choices until w is stopped me i s there = by s.runs refl
     by : (r : Bool) → s.runs ≡ r → length (times_of s) ≤ most_pending sc me
     by true e =
         let runs : z.runs ≡ true = ap (λ (s : Site). s.runs) (sweeps-keep sc me i (until me i) s).is ∙ e in
-        let few = reached-few sc lawful choices me i z z-there runs in
+        let few = reached-few sc listed lawful choices me i z z-there runs in
         let same = sweep-many sc me i (until me i) s in
         let all = times-many s in
         omega (arith, few, same, all)

@@ -7,7 +7,8 @@ use Rattle.rb_laws_events.proofs.SameHeard.{Every}
 use Rattle.rb_laws_sweeps.specs.AheadOf.{ahead_of}
 use Rattle.rb_laws_sweeps.specs.Laws.{GoOnPassesASweep, NobodyIsAhead}
 use Rattle.rb_laws_sweeps.specs.Sweeping.{swept}
-use Rattle.rb_laws_sweeps.proofs.EachNode.{each-alike, each-itself}
+use Rattle.rb_laws_events.proofs.EachAlike.{each-alike}
+use Rattle.rb_laws_sweeps.proofs.EachNode.{each-itself}
 use Rattle.rb_laws_sweeps.proofs.GoesOn.{sweep_to, swept-told}
 use Rattle.rb_laws_sweeps.proofs.Settles.{settle-changed}
 use Rattle.rb_laws_sweeps.proofs.Sweeps.{sweep-stays}

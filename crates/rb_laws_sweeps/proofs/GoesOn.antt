@@ -26,7 +26,8 @@ use Rattle.rb_laws_sweeps.specs.Laws.{NeedsEvent, WorldsGoOnAhead}
 use Rattle.rb_laws_sweeps.specs.Sweeping.{swept}
 use Rattle.rb_laws_sweeps.specs.Told.{heard, told_alone, told_next, telling}
 use Rattle.rb_laws_sweeps.proofs.AfterTick.{Later, TicksNow, act-later, takes-are, ticks-now}
-use Rattle.rb_laws_sweeps.proofs.EachNode.{KeepsAhead, behind-so-on, each-alike, first-changed, nodes-order, until-behind, until-least, until-most, until-not, until-own}
+use Rattle.rb_laws_events.proofs.EachAlike.{each-alike}
+use Rattle.rb_laws_sweeps.proofs.EachNode.{KeepsAhead, behind-so-on, first-changed, nodes-order, until-behind, until-least, until-most, until-not, until-own}
 use Rattle.rb_laws_sweeps.proofs.Hearing.{hearing-composes, hears-none, sent-unheard}
 use Rattle.rb_laws_sweeps.proofs.Leads.{leads-to-tick}
 use Rattle.rb_laws_sweeps.proofs.OpenWorlds.{Goes, goes-reached}

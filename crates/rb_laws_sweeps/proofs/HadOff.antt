@@ -8,6 +8,7 @@ use Rattle.rb_base.proofs.Plain.{option_map-back}
 use Rattle.rb_rules.specs.declared.message.Message.{Message}
 use Rattle.rb_rules.specs.Book.{Each, of_kind}
 use Rattle.rb_rules.specs.Core.{Act}
+use Rattle.rb_rules.specs.Entries.{IsListed}
 use Rattle.rb_rules.specs.Goodness.{Scenario, is_good}
 use Rattle.rb_rules.specs.Hearing.{Coming, coming_of}
 use Rattle.rb_rules.specs.Lawful.{IsLawful}
@@ -30,7 +31,7 @@ use Rattle.rb_rules.specs.Hearing.{Sending, Span}
 use Rattle.rb_rules.specs.Book.{map_each}
 use Rattle.rb_rules.specs.WorldStep.{await, enter, proceed, says_in, sent_to, span_from, stop, with_close, with_epoch}
 use Rattle.rb_rules.proofs.WindowNumbers.{get-each}
-use Rattle.rb_laws_sweeps.proofs.EachNode.{each-alike}
+use Rattle.rb_laws_events.proofs.EachAlike.{each-alike}
 use Rattle.rb_laws_sweeps.proofs.HadThere.{had-where-it-stands, had_of, is_known}
 use Rattle.rb_laws_sweeps.proofs.Settles.{each-fuse}
 
@@ -57,8 +58,8 @@ rooms-had sc q hands b sent sites h me i s there =
 
 -- The first close.
 
-begins-had : (sc : Scenario) (q : ℕ) (hands : List HandIn) (b now : ℕ) (at : Side → ℕ → ℕ) (sites : Each Site) (t : ℕ) → FirstCloses sc hands now at sites b t → HadOff sc q hands b sites
-begins-had sc q hands b now at sites t h = record {
+begins-had : (sc : Scenario) → IsListed sc → (q : ℕ) (hands : List HandIn) (b now : ℕ) (at : Side → ℕ → ℕ) (sites : Each Site) (t : ℕ) → FirstCloses sc hands now at sites b t → HadOff sc q hands b sites
+begins-had sc listed q hands b now at sites t h = record {
   sends = λ _ _. 2;
   enters = λ _ _. 2;
   rooms = record {
@@ -78,7 +79,7 @@ begins-had sc q hands b now at sites t h = record {
         → length (had_of sc.sizes me s) + length s.coming ≤ 2 * count_of (other me) sc.sizes + length sc.says
     here me i s there true e =
         let up : IsUp sc hands (sent_by sc hands at sites) now me i (at me i) s = h.stand.up me i s there e in
-        let few = had-where-it-stands sc hands (sent_by sc hands at sites) now me i (at me i) s up.st up.a up.stands in
+        let few = had-where-it-stands sc listed hands (sent_by sc hands at sites) now me i (at me i) s up.st up.a up.stands in
         let had : length (had_of sc.sizes me s) ≡ length (filter (is_known sc.sizes me) s.got) =
         ap (λ r. length (elim r as (λ _. List Coming) [ true ↦ filter (is_known sc.sizes me) s.got | false ↦ [] ])) e in
         omega (arith, few, had)
@@ -224,15 +225,15 @@ arrived-had sc me i n c s h =
         omega (arith, last, both, one)
     by false = omega arith
 
-pub had-keeps : (sc : Scenario) → IsLawful sc → (q : ℕ) → q < 3 → KeepsNodes sc q (had_at sc q)
-had-keeps sc lawful q small = record {
-  begins = λ hands b off now at sites t first. (its.begins hands b off now at sites t first, begins-had sc q hands b now at sites t first);
+pub had-keeps : (sc : Scenario) → IsListed sc → IsLawful sc → (q : ℕ) → q < 3 → KeepsNodes sc q (had_at sc q)
+had-keeps sc listed lawful q small = record {
+  begins = λ hands b off now at sites t first. (its.begins hands b off now at sites t first, begins-had sc listed q hands b now at sites t first);
   waits = λ hands b off sent sites h. its.waits hands b off sent sites h.0;
   told = λ hands b off sent ports sites h. its.told hands b off sent ports sites h.0;
   tick = λ hands b off sent ports sites h me i frame s a t there.
       let x : Act = pass_and_tick sc ports me i a.tick s.core in
       let z : Site = after_act sc ports me i x s in
-      let step = steps-at sc lawful q hands b off sent ports sites h.0 me i s a (h.1.sends me i) (h.1.enters me i) t (tick-small sc lawful q its hands b off sent ports sites h.0 me i s a t there) there (h.1.may me i s there) in
+      let step = steps-at sc listed lawful q hands b off sent ports sites h.0 me i s a (h.1.sends me i) (h.1.enters me i) t (tick-small sc lawful q its hands b off sent ports sites h.0 me i s a t there) there (h.1.may me i s there) in
       let room = step.room in
       let less = act-had-less sc ports me i x s in
       let new = length-append (had_of sc.sizes me z) z.coming in

@@ -6,8 +6,9 @@ use Rattle.std.proofs.lemmas.Bool.Decides.{nat_tests}
 use Rattle.rb_base.specs.Nodes.{Side, other}
 use Rattle.rb_base.specs.Sizes.{Sizes}
 use Rattle.rb_rules.specs.Clock.{time_of}
+use Rattle.rb_rules.specs.Entries.{IsListed, is_said}
 use Rattle.rb_rules.specs.Goodness.{Scenario, clock_of}
-use Rattle.rb_rules.specs.Hearing.{Coming, Span, is_said, span_of}
+use Rattle.rb_rules.specs.Hearing.{Coming, Span, span_of}
 use Rattle.rb_rules.specs.NodeState.{NodeState}
 use Rattle.rb_rules.specs.Ports.{HandIn}
 use Rattle.rb_rules.specs.Rounds.{Moment, moment, window_in}
@@ -55,9 +56,9 @@ sum-both : (f g : ℕ → ℕ) (n : ℕ) → sum_to (λ j. f j + g j) n ≡ sum_
 sum-both f g zero = omega arith
 sum-both f g (suc n) = let rest = sum-both f g n in omega (arith, rest)
 
-pub had-where-it-stands : (sc : Scenario) (hands : List HandIn) (sent : Side → ℕ → ℕ → Bool) (now : ℕ) (me : Side) (i p : ℕ) (s : Site) (st : NodeState) (a : Timed)
+pub had-where-it-stands : (sc : Scenario) → IsListed sc → (hands : List HandIn) (sent : Side → ℕ → ℕ → Bool) (now : ℕ) (me : Side) (i p : ℕ) (s : Site) (st : NodeState) (a : Timed)
     → NodeStands sc hands sent now me i p s st a → length (filter (is_known sc.sizes me) s.got) + length s.coming ≤ 2 * count_of (other me) sc.sizes + length sc.says
-had-where-it-stands sc hands sent now me i p s st a h =
+had-where-it-stands sc listed hands sent now me i p s st a h =
     let m : Moment = moment sc hands p in
     let next : Moment = moment sc hands (next_stage sc.sizes m p) in
     let span : Span = span_of st (window_in sc m me st) in
@@ -69,7 +70,7 @@ had-where-it-stands sc hands sent now me i p s st a h =
     let hears : Hears j t s.got s.coming (heard j) (ahead j) = h.receives.hears j in
     let as_many = hears.as_many in
     let later = ap length hears.later in
-    let few = heard-few sc m me i span (λ j. sent (other me) j p) j in
+    let few = heard-few sc listed m me i span (λ j. sent (other me) j p) j in
     let one = ahead-few sc next me i (λ j. sent (other me) j (next_stage sc.sizes m p)) j in
     omega (arith, as_many, later, few, one) in
     let all = all-of-sources t n s.coming h.receives.known in

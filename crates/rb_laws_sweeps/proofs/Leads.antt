@@ -18,7 +18,8 @@ use Rattle.rb_laws_sweeps.specs.Laws.{TakesLeadToTheFirstTick}
 use Rattle.rb_laws_sweeps.specs.Sweeping.{Placed, first_of, swept}
 use Rattle.rb_laws_sweeps.specs.Told.{heard, told_next}
 use Rattle.rb_laws_sweeps.proofs.DueFirst.{ArrivalDue, TickDue, WhatIsDue, what-is-due, which-due}
-use Rattle.rb_laws_sweeps.proofs.EachNode.{KeepsAhead, each-alike, each-itself, first-changed}
+use Rattle.rb_laws_events.proofs.EachAlike.{each-alike}
+use Rattle.rb_laws_sweeps.proofs.EachNode.{KeepsAhead, each-itself, first-changed}
 use Rattle.rb_laws_sweeps.proofs.Firsts.{first-stands}
 use Rattle.rb_laws_sweeps.proofs.Hearing.{hears-first, hears-none}
 use Rattle.rb_laws_sweeps.proofs.OpenWorlds.{Goes, after_one, arrival-still, arrival-told, goes-reached}
@@ -191,7 +192,7 @@ after-arrival sc w h me i a first it r =
       goes = arrives-goes sc w r.side r.j r.p.place r.p.coming is h;
       first = first-changed (arrives_at sc r.side r.j r.p.place r.p.coming) w x me i a refl (arrival-ahead sc r.side r.j r.p.place r.p.coming) first;
       less = one-less (most_at_once sc) (after_arrival sc r.side r.j r.p.place r.p.coming) r.side r.j 1 w.sites r.s r.there
-          (arrival-left sc r.side r.j r.p.place r.p.coming r.s (first-stands r.s.coming r.p r.first));
+          (arrival-left (most_at_once sc) sc r.side r.j r.p.place r.p.coming r.s (first-stands r.s.coming r.p r.first));
     }
 
 leads-by : (sc : Scenario) (me : Side) (i : ℕ) (a : Timed) (m : ℕ) (w : World) → Goes sc w → IsFirstTick w me i a → all_left (most_at_once sc) w.sites ≤ m → LeadsToTick sc w me i a

@@ -9,6 +9,7 @@ use Rattle.rb_rules.specs.Book.Milestone.{Begin, End, Stage}
 use Rattle.rb_rules.specs.ExactStage.{present}
 use Rattle.rb_rules.specs.Goodness.{Scenario, is_good}
 use Rattle.rb_rules.specs.WorldStep.{Site, Way, World, all_have_told, begun_for, book_with, comes_so, is_complete, record_since, row_for, settle, settle_next, told_by_good}
+use Rattle.rb_laws_events.proofs.EachAlike.{each-is}
 use Rattle.rb_laws_events.proofs.WorldBooks.{settle_rest}
 
 -- Each node.
@@ -17,9 +18,6 @@ from-fuse : {X Y Z : Type 0} (f : ℕ → Y → Z) (g : ℕ → X → Y) (h : �
     → map_from i f (map_from i g xs) ≡ map_from i h xs
 from-fuse f g h i [] same = refl
 from-fuse f g h i (x ∷ xs) same = ap (λ y. y ∷ map_from (i + 1) f (map_from (i + 1) g xs)) (same i x) ∙ ap (λ l. h i x ∷ l) (from-fuse f g h (i + 1) xs same)
-
-pub each-is : {X : Type 0} (xs ys : Each X) → xs.bius ≡ ys.bius → xs.rmus ≡ ys.rmus → xs ≡ ys
-each-is xs ys e f = ap (λ l. record xs { bius = l }) e ∙ ap (λ l. record ys { rmus = l }) f
 
 -- two things made of each node one after the other are one
 pub each-fuse : {X Y Z : Type 0} (f : Side → ℕ → Y → Z) (g : Side → ℕ → X → Y) (h : Side → ℕ → X → Z) (xs : Each X)

@@ -1,7 +1,7 @@
 -- Sweeps of one node.
 use Rattle.std.proofs.Common.{◌≡◌, ℕ, zero, suc, ◌<◌, ◌≤◌, true, false, All, List, [], ◌∷◌, length, remove, refl, ap, sym, ◌∙◌, subst, arith, Option, Some, None, inl, inr}
 use Rattle.std.proofs.lemmas.Bool.{lt-ltb, le-ltb}
-use Rattle.std.proofs.lemmas.List.Elements.{All-head, All-tail, All-nil, All-cons}
+use Rattle.std.proofs.lemmas.List.Elements.{All-nil, All-cons}
 use Rattle.rb_base.specs.Nodes.{Side}
 use Rattle.rb_rules.specs.Clock.{stamp_of}
 use Rattle.rb_rules.specs.Core.{Core, pass_to}
@@ -11,6 +11,7 @@ use Rattle.rb_rules.specs.WorldStep.{Site, Timed, after_arrival}
 use Rattle.rb_rules.proofs.QuietTicks.{arrive-same}
 use Rattle.rb_laws_events.proofs.PendingLists.{StandsAt}
 use Rattle.rb_laws_events.proofs.Receiving.{every-stands}
+pub use Rattle.rb_laws_events.proofs.SameHeard.{all-every}
 use Rattle.rb_laws_events.proofs.SameHeard.{Every}
 use Rattle.rb_laws_events.proofs.DueEvents.{every-append, every-weaker}
 use Rattle.rb_laws_sweeps.specs.Laws.{NothingIsSwept, PushesPassASweep, SweepsCompose, SweepsFrom, SweepsKeepTheRest, SweepsTakeTheFirst, with_more}
@@ -20,10 +21,6 @@ use Rattle.rb_laws_sweeps.proofs.Firsts.{first-append, first-stands, length-with
 pub every-all : {X : Type 0} (P : X → Type 0) (xs : List X) → Every P xs → All P xs
 every-all P [] a = All-nil P
 every-all P (x ∷ xs) a = All-cons P x xs a.0 (every-all P xs a.1)
-
-pub all-every : {X : Type 0} (P : X → Type 0) (xs : List X) → All P xs → Every P xs
-all-every P [] a = tt
-all-every P (x ∷ xs) a = (All-head P x xs a, all-every P xs (All-tail P x xs a))
 
 -- One arrival.
 

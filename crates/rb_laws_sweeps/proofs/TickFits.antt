@@ -20,7 +20,7 @@ use Rattle.rb_laws_sweeps.proofs.Stopped.{stopped-stay-empty}
 
 pub ticks-behind-fit : TicksBehindFit
 unfolding with_act
-ticks-behind-fit sc lawful choices until w is stopped event me i a first le s there = record {
+ticks-behind-fit sc lawful listed choices until w is stopped event me i a first le s there = record {
   own = own-few sc me i x.core.state.frame a.tick x.message (after_act sc w.ports me i x) alone.sites z fits node-alone;
   message = λ m e j receiver here runs.
       message-few sc me i x.core.state.frame a.tick x.message m (after_act sc w.ports me i x) alone.sites fits e j receiver
@@ -61,4 +61,4 @@ ticks-behind-fit sc lawful choices until w is stopped event me i a first le s th
     then_is = sym (takes-are sc choices (suc goes.leads.takes)).1 ∙ ap (after_takes sc (suc goes.leads.takes)) is ∙ goes.after
 
     fits : HaveRoom sc (with_act sc alone me i a.tick x).sites
-    fits = subst (HaveRoom sc) sites (behind-few sc lawful cs (until_tick me i a.time) (tick_alone sc me i a w) then_is ((stopped-stay-empty sc).kept w me i a first stopped))
+    fits = subst (HaveRoom sc) sites (behind-few sc lawful listed cs (until_tick me i a.time) (tick_alone sc me i a w) then_is ((stopped-stay-empty sc).kept w me i a first stopped))

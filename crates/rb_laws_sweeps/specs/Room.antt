@@ -5,6 +5,7 @@ use Rattle.rb_rules.specs.declared.message.Message.{Message}
 use Rattle.rb_rules.specs.Book.{of_kind}
 use Rattle.rb_rules.specs.Clock.{time_of}
 use Rattle.rb_rules.specs.Core.{Act}
+use Rattle.rb_rules.specs.Entries.{IsListed}
 use Rattle.rb_rules.specs.Goodness.{Scenario, clock_of}
 use Rattle.rb_rules.specs.Lawful.{IsLawful}
 use Rattle.rb_rules.specs.Slots.{count_of}
@@ -31,7 +32,8 @@ StoppedStayEmptyInEach = (sc : Scenario) → StoppedStayEmpty sc
 -- which the reached world is ahead, if at nodes that have stopped in it nothing is pending
 abbrev pub PendingBehindIsFew : Type 0
 PendingBehindIsFew =
-    (sc : Scenario) → IsLawful sc → (choices : List Choice) (until : Side → ℕ → ℕ) (w : World) → world_after sc choices ≡ ahead_of sc until w → StoppedHaveNothing w
+    (sc : Scenario) → IsLawful sc → IsListed sc → (choices : List Choice) (until : Side → ℕ → ℕ) (w : World)
+    → world_after sc choices ≡ ahead_of sc until w → StoppedHaveNothing w
     → (me : Side) (i : ℕ) (s : Site) → slice_get (of_kind me w.sites) i ≡ Some s → length (times_of s) ≤ most_pending sc me
 
 -- node i of kind me, which is this site, takes the first tick there once it is swept, and does this
@@ -43,7 +45,8 @@ pub record TickBehindFits (sc : Scenario) (w : World) (me : Side) (i : ℕ) (a :
 
 abbrev pub TicksBehindFit : Type 0
 TicksBehindFit =
-    (sc : Scenario) → IsLawful sc → (choices : List Choice) (until : Side → ℕ → ℕ) (w : World) → world_after sc choices ≡ ahead_of sc until w → StoppedHaveNothing w
+    (sc : Scenario) → IsLawful sc → IsListed sc → (choices : List Choice) (until : Side → ℕ → ℕ) (w : World)
+    → world_after sc choices ≡ ahead_of sc until w → StoppedHaveNothing w
     → NeedsEvent sc w → (me : Side) (i : ℕ) (a : Timed) → IsFirstTick w me i a → ((side : Side) (j : ℕ) → until side j ≤ until_tick me i a.time side j)
     → (s : Site) → slice_get (of_kind me w.sites) i ≡ Some s
     → TickBehindFits sc w me i a s (pass_and_tick sc w.ports me i a.tick (swept sc me i (a.time + 1) s).core)

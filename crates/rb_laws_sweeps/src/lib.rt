@@ -116,15 +116,16 @@ pub fn stopped_stay_empty()
     ensures { StoppedStayEmptyInEach }
 {}
 
-/// In every lawful scenario, whatever was chosen before: room for `most_pending` events at each
-/// node is enough also if a world leaves arrivals behind, as long as nothing is pending at nodes
-/// that have stopped.
+/// In every lawful scenario whose faulty nodes do what the entries of a document list, whatever was
+/// chosen before: room for `most_pending` events at each node is enough also if a world leaves
+/// arrivals behind, as long as nothing is pending at nodes that have stopped.
 pub fn pending_behind_is_few()
     ensures { PendingBehindIsFew }
 {}
 
-/// Room for `most_pending` events is enough for what a tick alone makes pending in a world behind:
-/// at its own node (`own`), and with the message that it sends (`message`).
+/// In every such scenario room for `most_pending` events is enough for what a tick alone makes
+/// pending in a world behind: at its own node (`own`), and with the message that it sends
+/// (`message`).
 pub fn ticks_behind_fit()
     ensures { TicksBehindFit }
 {}

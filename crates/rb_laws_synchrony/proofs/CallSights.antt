@@ -1,10 +1,9 @@
 -- A stage of the sync slot as it is judged: of whom a good node takes something is seen, and of a
 -- source that is not asymmetric good nodes take what comes to them at near times.
 use Rattle.std.proofs.Common.{◌≡◌, ℕ, zero, suc, ◌+◌, ◌-◌, ◌*◌, ◌≤◌, ◌<◌, not, nat_le, true, false, List, [], ◌∷◌, map, Option, Some, None, is_some, get_or, refl, sym, ◌∙◌, ap, subst, arith, inl, inr, zero-add}
-use Rattle.std.specs.Prelude.{⊤, All, filter}
+use Rattle.std.specs.Prelude.{⊤, All}
 use Rattle.std.specs.List.{list_any}
 use Rattle.std.proofs.lemmas.Bool.{and_parts, leb-true, or_left}
-use Rattle.std.proofs.lemmas.List.Elements.{All-filter, All-map}
 use Rattle.std.proofs.lemmas.List.FromFn.{get_or-map-range_with_len}
 use Rattle.rb_base.specs.Nodes.{Side, other, has}
 use Rattle.rb_base.specs.Sizes.{sync_slot_of}
@@ -15,9 +14,8 @@ use Rattle.rb_rules.specs.Book.{judged_of}
 use Rattle.rb_rules.specs.Clock.{IsStamp, Timeline, stamp_of, time_of}
 use Rattle.rb_rules.specs.ExactStage.{each_node}
 use Rattle.rb_rules.specs.Goodness.{Scenario, clock_of, is_good}
-use Rattle.rb_rules.specs.Hearing.{Span, coming_said, is_said, judged_see, said_by, sole_time}
+use Rattle.rb_rules.specs.Hearing.{Span, judged_see, said_by, sole_time}
 use Rattle.rb_rules.specs.Judging.{JudgedStage, are_alike, is_asymmetric, is_something, was_taken, was_unlike}
-use Rattle.rb_rules.specs.Lawful.{IsLawful, IsSayOf}
 use Rattle.rb_rules.specs.NodeState.{NodeState}
 use Rattle.rb_rules.specs.NodeSteps.{close}
 use Rattle.rb_rules.specs.Plan.{shortest_of}
@@ -27,6 +25,7 @@ use Rattle.rb_rules.specs.SyncStage.{close_sync, see_time, sync_outcome_of}
 use Rattle.rb_rules.proofs.Middles.{AreNear}
 use Rattle.rb_rules.proofs.Stamps.{stamp_of-is}
 use Rattle.rb_laws_agreement.proofs.ExactWindows.{keeping-is}
+use Rattle.rb_laws_agreement.proofs.SaidWindows.{all-said}
 use Rattle.rb_laws_agreement.proofs.Exchanges.{far-held}
 use Rattle.rb_laws_agreement.proofs.Goodnesses.{good_below_16}
 use Rattle.rb_laws_agreement.proofs.Invariant.{IsGoodNode, Shared}
@@ -156,28 +155,21 @@ took_alike sc hands n m s q c me a b j sta stb here_a here_b below alike =
           absurd (cc)
     ]
 
--- What a faulty source says comes after tick 0.
+-- What a faulty source says in a window that begins after tick 0 comes after tick 0.
 
-late-tick : (u d : ℕ) (clock : Timeline) → Steady u d clock → (tick early : ℕ) → 1 ≤ tick → early < u → 1 ≤ stamp_of clock (time_of clock tick - early)
-late-tick u d clock steady tick early some less =
-    go (stamp_of clock (time_of clock tick - early)) (stamp_of-is clock steady.moves (time_of clock tick - early))
+late-tick : (u d : ℕ) (clock : Timeline) → Steady u d clock → (time first : ℕ) → 1 ≤ first → ((m : ℕ) → first ≡ suc m → time_of clock m < time)
+    → 1 ≤ stamp_of clock time
+late-tick u d clock steady time zero some later = absurd (omega arith)
+late-tick u d clock steady time (suc k) some later = go (stamp_of clock time) (stamp_of-is clock steady.moves time)
   where
-    later : (t0 t u early tick : ℕ) → t0 + tick * u ≤ t → 1 ≤ tick → early < u → t - early ≤ t0 → ⊥
-    later t0 t u early zero h some less le = absurd (omega arith)
-    later t0 t u early (suc k) h some less le =
-        let e : suc k * u ≡ u + k * u = omega arith in
-        omega (arith, h, less, le, e)
+    go : (stamp : ℕ) → IsStamp clock time stamp → 1 ≤ stamp
+    go zero is =
+        let from : time_of clock 0 + k * u ≤ time_of clock k = subst (λ n. time_of clock 0 + k * u ≤ time_of clock n) (zero-add k) (steady.not_early 0 k) in
+        absurd (omega (arith, from, later k refl, is.reached))
+    go (suc n) is = omega arith
 
-    go : (stamp : ℕ) → IsStamp clock (time_of clock tick - early) stamp → 1 ≤ stamp
-    go zero is = let from : time_of clock 0 + tick * u ≤ time_of clock tick = subst (λ k. time_of clock 0 + tick * u ≤ time_of clock k) (zero-add tick) (steady.not_early 0 tick) in
-        absurd (later (time_of clock 0) (time_of clock tick) u early tick from some less is.reached)
-    go (suc k) is = omega arith
-
-pub said_late : (sc : Scenario) → IsLawful sc → (me : Side) (i j : ℕ) (span : Span) → Steady (shortest_of sc.plan) (drift_of sc.plan) (clock_of sc me i) → 1 ≤ span.first
+pub said_late : (sc : Scenario) (me : Side) (i j : ℕ) (span : Span) → Steady (shortest_of sc.plan) (drift_of sc.plan) (clock_of sc me i) → 1 ≤ span.first
     → All (λ x. 1 ≤ stamp_of (clock_of sc me i) x.time) (said_by sc me i span j)
-said_late sc law me i j span clock some =
-    All-map (λ x. 1 ≤ stamp_of (clock_of sc me i) x.time) (coming_said sc.plan.version (clock_of sc me i) j span) (filter (is_said me i j span) sc.says)
-    (All-filter (is_said me i j span) (λ x. 1 ≤ stamp_of (clock_of sc me i) (coming_said sc.plan.version (clock_of sc me i) j span x).time) sc.says
-    (λ k d lt.
-    let is : IsSayOf sc (get_or sc.says k d) = law.says k d lt in
-    late-tick (shortest_of sc.plan) (drift_of sc.plan) (clock_of sc me i) clock (span.first + (get_or sc.says k d).offset) (get_or sc.says k d).early (omega arith) is.early))
+said_late sc me i j span clock some k d lt =
+    late-tick (shortest_of sc.plan) (drift_of sc.plan) (clock_of sc me i) clock (get_or (said_by sc me i span j) k d).time span.first some
+    (all-said sc me i span j k d lt).later

@@ -5,6 +5,7 @@ use Rattle.rb_base.specs.Nodes.Side.{Biu, Rmu}
 use Rattle.rb_base.specs.Sizes.{Sizes}
 use Rattle.rb_rules.specs.declared.plan.Plan.{Plan}
 use Rattle.rb_rules.specs.declared.say.Say.{Say}
+use Rattle.rb_rules.specs.Behavior.{Behavior}
 use Rattle.rb_rules.specs.Clock.{Timeline}
 use Rattle.rb_rules.specs.Links.{DelayRules}
 use Rattle.rb_rules.specs.Slots.{count_of}
@@ -22,7 +23,8 @@ pub record Scenario : Type 0 where
   pub delays : DelayRules
   pub biu_onsets : List (Option (ℕ × ℕ))
   pub rmu_onsets : List (Option (ℕ × ℕ))
-  pub says : List Say  -- what nodes that are not good say
+  pub behavior : Behavior  -- what nodes that are not good do
+  pub says : List Say  -- the entries of a document. The program reads them; no rule of the bus does
 
 abbrev pub onsets_of : Side → Scenario → List (Option (ℕ × ℕ))
 onsets_of Biu sc = sc.biu_onsets
@@ -46,6 +48,9 @@ abbrev pub clock_place : Sizes → Side → ℕ → ℕ
 clock_place sizes Biu i = i
 clock_place sizes Rmu i = sizes.bius + i
 
--- the clock of node i of a kind
+-- the clock of node i of a kind, among the clocks of a bus
+abbrev pub clock_among : Sizes → List Timeline → Side → ℕ → Timeline
+clock_among sizes clocks side i = get_or clocks (clock_place sizes side i) (record { start = 0; segments = [] })
+
 abbrev pub clock_of : Scenario → Side → ℕ → Timeline
-clock_of sc side i = get_or sc.clocks (clock_place sc.sizes side i) (record { start = 0; segments = [] })
+clock_of sc side i = clock_among sc.sizes sc.clocks side i

@@ -1,33 +1,29 @@
 -- What a node sends in a window, and what it hears in it.
-use Rattle.std.specs.Prelude.{ℕ, ◌+◌, ◌-◌, ◌%◌, ◌&&◌, nat_le, min, Bool, true, false, Option, Some, None, option_and_then, option_map, option_to_list, unwrap_or, List, [], ◌∷◌, filter, map, get_or, slice_get}
+use Rattle.std.specs.Prelude.{ℕ, ◌+◌, ◌-◌, ◌&&◌, nat_lt, Bool, true, false, Option, Some, None, option_and_then, option_map, option_to_list, unwrap_or, List, [], ◌∷◌, filter, map, get_or, slice_get}
 use Rattle.rb_base.specs.Nodes.{Side, other}
 use Rattle.rb_base.specs.Sizes.{Sizes}
-use Rattle.rb_base.specs.declared.values.Place.{Place}
 use Rattle.rb_base.specs.declared.values.See.{See}
 use Rattle.rb_base.specs.declared.values.See.TheVariants.{Nothing, Value, Time}
 use Rattle.rb_rules.specs.declared.closing.Closed.{Closed}
 use Rattle.rb_rules.specs.declared.message.Message.{Message}
-use Rattle.rb_rules.specs.declared.message.Tag.{Tag}
-use Rattle.rb_rules.specs.declared.message.Tag.TheVariants as tag
-use Rattle.rb_rules.specs.declared.message.Version.{Version}
 use Rattle.rb_rules.specs.declared.plan.Plan.{Plan}
 use Rattle.rb_rules.specs.declared.plan.Window.{Window}
 use Rattle.rb_rules.specs.declared.record.Epoch.{Epoch}
 use Rattle.rb_rules.specs.declared.record.PortLine.{PortLine}
 use Rattle.rb_rules.specs.declared.role.Role.{Role}
 use Rattle.rb_rules.specs.declared.role.Role.TheVariants.{Schedule, Data, DiagBiu, DiagRmu, Sync}
-use Rattle.rb_rules.specs.declared.say.Content.{Content}
-use Rattle.rb_rules.specs.declared.say.Content.TheVariants.{Word, Fault, Sync as Call, Raw}
-use Rattle.rb_rules.specs.declared.say.Say.{Say}
+pub use Rattle.rb_rules.specs.Behavior.{Span}
+use Rattle.rb_rules.specs.Behavior.{Said, are_bytes, is_within}
 use Rattle.rb_rules.specs.Book.{Begun, Row}
 use Rattle.rb_rules.specs.Clock.{Timeline, time_of, stamp_of}
 use Rattle.rb_rules.specs.ExactStage.{Outcome, each_node, at_source}
 use Rattle.rb_rules.specs.Goodness.{Scenario, is_good, clock_of}
-use Rattle.rb_rules.specs.Links.{name_of, same_node, stands_for, covers, delay_of}
+use Rattle.rb_rules.specs.Links.{name_of, delay_of}
 use Rattle.rb_rules.specs.NodeState.{NodeState, trusted_of}
 use Rattle.rb_rules.specs.NodeSteps.{expect_of, message_said, close, convicted_of}
 use Rattle.rb_rules.specs.Ports.{PortState, fresh_port, offered_at, losses_of}
 use Rattle.rb_rules.specs.Sense.{Arrival, sense_of}
+use Rattle.rb_rules.specs.Slots.{count_of}
 use Rattle.rb_rules.specs.Spelling.{spelling_of}
 use Rattle.rb_rules.specs.SyncStage.{send_tick_of, new_epoch_of}
 use Rattle.rb_rules.specs.Windows.{windows_of_frame, tail_of}
@@ -41,12 +37,6 @@ tail_at sizes plan me st = tail_of sizes plan (unwrap_or (new_epoch_of plan me s
 -- the window of this number in a node's frame. The tail comes last
 abbrev pub window_numbered : Sizes → Plan → Side → NodeState → ℕ → Window
 window_numbered sizes plan me st n = unwrap_or (slice_get (windows_of_frame sizes plan) n) (tail_at sizes plan me st)
-
--- a window of a node: its place, and its first and last tick
-pub record Span : Type 0 where
-  pub place : Place
-  pub first : ℕ
-  pub last : ℕ
 
 abbrev pub span_of : NodeState → Window → Span
 span_of st w = record {
@@ -98,39 +88,16 @@ coming_of sc me i j frame s = record {
   bytes = spelling_of sc.plan.version s.message;
 }
 
--- a message with the header of a place. A message said in the tail has the sync slot's stage 3 in
--- its header
-abbrev pub message_at : Place → Tag → ℕ → Message
-message_at place tag value =
-    record { tag = tag; frame = place.frame % 65536; slot = place.slot; stage = min place.stage 3; value = value }
+-- what source j says is heard by node i of kind me in a window: the source is a node of the bus, and
+-- the bytes come in the window
+abbrev pub is_heard : Scenario → Side → ℕ → Span → ℕ → Said → Bool
+is_heard sc me i span j s = nat_lt j (count_of (other me) sc.sizes) && is_within (clock_of sc me i) span s.time && are_bytes s.bytes
 
--- the bytes that faulty nodes say in a window
-abbrev pub bytes_of : Version → Place → Content → List ℕ
-bytes_of version place (Word word) = spelling_of version (message_at place tag.Word word)
-bytes_of version place Fault = spelling_of version (message_at place tag.Fault 0)
-bytes_of version place Call = spelling_of version (message_at place tag.Sync 0)
-bytes_of version place (Raw bytes) = bytes.items
-
--- the entry is what source j says to node i of kind me in a window. An offset outside the window is
--- not heard
-abbrev pub is_said : Side → ℕ → ℕ → Span → Say → Bool
-is_said me i j span s =
-    same_node s.from (name_of (other me) j) && stands_for s.to (name_of me i) && covers s.frames s.slots s.stages span.place
-    && nat_le (span.first + s.offset) span.last
-
--- the message of the entry, on its way to the node
-abbrev pub coming_said : Version → Timeline → ℕ → Span → Say → Coming
-coming_said version clock j span s = record {
-  time = time_of clock (span.first + s.offset) - s.early;
-  from = j;
-  bytes = bytes_of version span.place s.content;
-}
-
--- what source j, which is not good, says to node i of kind me in a window, in the order of the
--- scenario
+-- what source j, which is not good, says to node i of kind me in a window. Nothing else of its
+-- behavior is heard
 abbrev pub said_by : Scenario → Side → ℕ → Span → ℕ → List Coming
 said_by sc me i span j =
-    map (coming_said sc.plan.version (clock_of sc me i) j span) (filter (is_said me i j span) sc.says)
+    map (λ s. record { time = s.time; from = j; bytes = s.bytes }) (filter (is_heard sc me i span j) (sc.behavior me i span j))
 
 -- what node i of kind me hears from source j in a window, `sent` being what the nodes of the other
 -- kind send in it

@@ -1,5 +1,4 @@
--- What is lawful: all that is known of an accepted scenario. It is the premise of every law of the
--- bus.
+-- What is lawful: the premise of every law of the bus. It says nothing about what faulty nodes do.
 use Rattle.std.specs.Prelude.{⊤, ℕ, ◌≡◌, ◌⊎◌, ◌+◌, ◌-◌, ◌^◌, ◌<◌, ◌≤◌, ◌==◌, nat_lt, if◌then◌else◌, Bool, true, false, All, List, [], ◌∷◌, length, Option, Some, None}
 use Rattle.rb_base.specs.Nodes.{Side, other}
 use Rattle.rb_base.specs.Nodes.Side.{Biu, Rmu}
@@ -142,6 +141,8 @@ pub record IsSayOf (sc : Scenario) (s : Say) : Type 0 where
 
 -- A scenario.
 
+-- the sizes, the plan, the clocks, the delays and the onsets of the scenario are lawful, whatever
+-- its faulty nodes do
 pub record IsLawful (sc : Scenario) : Type 0 where
   pub sizes : IsShape sc.sizes
   pub plan : IsPlan sc.plan
@@ -158,7 +159,5 @@ pub record IsLawful (sc : Scenario) : Type 0 where
   pub rules : All (IsRuleOf sc) sc.delays.rules
   pub biu_onsets : HasEach sc.sizes.bius (IsOnsetOf sc) sc.biu_onsets
   pub rmu_onsets : HasEach sc.sizes.rmus (IsOnsetOf sc) sc.rmu_onsets
-  pub says : All (IsSayOf sc) sc.says
-  pub few_says : length sc.says ≤ 1024
   pub few_rules : length sc.delays.rules ≤ 4096
   pub few_segments : segments_of_all sc.clocks ≤ 4096

@@ -1,4 +1,5 @@
 pub mod Clock
+pub mod Behavior
 pub mod Links
 pub mod Plan
 pub mod Windows
@@ -28,3 +29,4 @@ pub mod Headline
 pub mod AbstractBus
 pub mod StandsFor
 pub mod Lawful
+pub mod Entries

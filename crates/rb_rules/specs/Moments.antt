@@ -1,7 +1,7 @@
 -- The moments of a run by their place, what is complete by then, and which nodes are good there.
-use Rattle.std.specs.Prelude.{⊤, ℕ, zero, suc, ◌≡◌, ◌+◌, ◌-◌, ◌*◌, ◌⊎◌, true, false, Option, Some, List, slice_get}
+use Rattle.std.specs.Prelude.{⊤, ℕ, zero, suc, ◌≡◌, ◌+◌, ◌-◌, ◌*◌, ◌⊎◌, true, false, Some, List, slice_get}
 use Rattle.rb_base.specs.Nodes.{Side}
-use Rattle.rb_base.specs.Sizes.{Sizes, sync_slot_of}
+use Rattle.rb_base.specs.Sizes.{sync_slot_of}
 use Rattle.rb_rules.specs.Book.{of_kind}
 use Rattle.rb_rules.specs.Clock.{time_of}
 use Rattle.rb_rules.specs.Goodness.{Scenario, is_good, clock_of}

@@ -1,10 +1,10 @@
--- A test that computes: a scenario that passes is lawful.
+-- Tests that compute: a scenario that passes is lawful, and its entries are those of a document.
 use Rattle.std.proofs.Common.{◌≡◌, ℕ, ◌+◌, ◌-◌, ◌^◌, ◌<◌, ◌≤◌, ◌&&◌, ◌||◌, ◌==◌, not, nat_le, nat_lt, Bool, true, false, List, [], ◌∷◌, All, get_or, length, Option, Some, None, refl, inl, inr, arith}
 use Rattle.std.proofs.lemmas.Bool.{and_parts, both_ways, eqb-true, false≢true, leb-true, ltb-true, not-true, or_cases}
 use Rattle.std.proofs.lemmas.List.Sums.{AllPass-from_list_all}
 use Rattle.std.specs.Prelude.{is_none}
 use Rattle.std.specs.List.{list_all}
-use Rattle.rb_base.specs.Nodes.{other}
+use Rattle.rb_base.specs.Nodes.{Side, other}
 use Rattle.rb_base.specs.Sizes.{IsShape, Sizes, sync_slot_of}
 use Rattle.rb_base.specs.declared.node.NodeName.{NodeName}
 use Rattle.rb_base.specs.declared.node.NodeName.TheVariants as node
@@ -19,7 +19,9 @@ use Rattle.rb_rules.specs.declared.say.Content.{Content}
 use Rattle.rb_rules.specs.declared.say.Content.TheVariants.{Word, Fault, Sync, Raw}
 use Rattle.rb_rules.specs.declared.say.Say.{Say}
 use Rattle.rb_rules.specs.Clock.{IsClock, Timeline, are_rising, are_within}
-use Rattle.rb_rules.specs.Goodness.{Scenario}
+use Rattle.rb_rules.specs.Behavior.{Span}
+use Rattle.rb_rules.specs.Entries.{IsListed, listed}
+use Rattle.rb_rules.specs.Goodness.{Scenario, clock_of}
 use Rattle.rb_rules.specs.Lawful.{HasEach, IsContent, IsDelay, IsLawful, IsNodeOf, IsOnsetOf, IsPatternOf, IsRangeIn, IsRuleOf, IsSayOf, IsSyncAlone, IsVersion, is_node_good, kind_named, kind_of, segments_of_all, ticks_in_sync}
 use Rattle.rb_rules.specs.Links.{is_in_range}
 use Rattle.rb_rules.specs.Plan.{IsPlan, first_failing, longest_of, shortest_of}
@@ -309,15 +311,14 @@ scenario_tests sc =
     ∷ list_all (λ r. passes (rule_tests sc r)) sc.delays.rules
     ∷ has_each sc.sizes.bius (is_onset sc) sc.biu_onsets
     ∷ has_each sc.sizes.rmus (is_onset sc) sc.rmu_onsets
-    ∷ list_all (λ s. passes (say_tests sc s)) sc.says
-    ∷ are_ordered ((length sc.says, 1024) ∷ (length sc.delays.rules, 4096) ∷ (segments_of_all sc.clocks, 4096) ∷ [])
+    ∷ are_ordered ((length sc.delays.rules, 4096) ∷ (segments_of_all sc.clocks, 4096) ∷ [])
     ∷ []
 
 pub lawful_by_tests : (sc : Scenario) → passes (scenario_tests sc) ≡ true → IsLawful sc
 lawful_by_tests sc h =
     let is = passed (scenario_tests sc) h in
     let frames = ordered ((1, sc.frames) ∷ (sc.frames, 4096) ∷ []) (is 4 (omega arith)) in
-    let few = ordered ((length sc.says, 1024) ∷ (length sc.delays.rules, 4096) ∷ (segments_of_all sc.clocks, 4096) ∷ []) (is 16 (omega arith)) in
+    let few = ordered ((length sc.delays.rules, 4096) ∷ (segments_of_all sc.clocks, 4096) ∷ []) (is 15 (omega arith)) in
     record {
       sizes = shape_by sc.sizes (is 0 (omega arith));
       plan = plan_by sc.plan (is 1 (omega arith));
@@ -334,8 +335,21 @@ lawful_by_tests sc h =
       rules = each_by (IsRuleOf sc) (λ r. passes (rule_tests sc r)) (rule_by sc) sc.delays.rules (is 12 (omega arith));
       biu_onsets = has_each_by (IsOnsetOf sc) (is_onset sc) (onset_by sc) sc.sizes.bius sc.biu_onsets (is 13 (omega arith));
       rmu_onsets = has_each_by (IsOnsetOf sc) (is_onset sc) (onset_by sc) sc.sizes.rmus sc.rmu_onsets (is 14 (omega arith));
-      says = each_by (IsSayOf sc) (λ s. passes (say_tests sc s)) (say_by sc) sc.says (is 15 (omega arith));
-      few_says = few 0 (omega arith);
-      few_rules = few 1 (omega arith);
-      few_segments = few 2 (omega arith);
+      few_rules = few 0 (omega arith);
+      few_segments = few 1 (omega arith);
+    }
+
+-- ---- entries
+
+abbrev entries_tests : Scenario → List Bool
+entries_tests sc = list_all (λ s. passes (say_tests sc s)) sc.says ∷ nat_le (length sc.says) 1024 ∷ []
+
+pub listed_by_tests : (sc : Scenario) → ((me : Side) (i : ℕ) (span : Span) (j : ℕ) → sc.behavior me i span j ≡ listed sc.plan.version (clock_of sc) sc.says me i span j)
+    → passes (entries_tests sc) ≡ true → IsListed sc
+listed_by_tests sc behavior h =
+    let is = passed (entries_tests sc) h in
+    record {
+      behavior = behavior;
+      says = each_by (IsSayOf sc) (λ s. passes (say_tests sc s)) (say_by sc) sc.says (is 0 (omega arith));
+      few = leb-true (length sc.says) 1024 (is 1 (omega arith));
     }

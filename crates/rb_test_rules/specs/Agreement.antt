@@ -15,7 +15,7 @@ use Rattle.rb_rules.specs.NodeState.{NodeState, first_state}
 use Rattle.rb_rules.specs.NodeSteps.{convicted_of}
 use Rattle.rb_rules.specs.Slots.{count_of}
 use Rattle.rb_rules.specs.Standing.{vector_of}
-use Rattle.rb_test_rules.specs.Buses.{b, r, steady, says}
+use Rattle.rb_test_rules.specs.Buses.{b, r, steady, says, listing}
 use Rattle.rb_test_rules.specs.Told.{none, at, all_begin, everybody, all_but, port, usual_ports, silent, usual_words}
 use Rattle.rb_test_rules.specs.Ordinary.{ordinary_use}
 use Rattle.rb_test_rules.specs.Frames.{late_onset}
@@ -23,12 +23,12 @@ use Rattle.rb_test_rules.specs.Parts.{sizes}
 
 -- RMU 2 is good until it sends a vector that names BIU 0
 abbrev pub false_accuser : Scenario
-false_accuser = record ordinary_use {
+false_accuser = listing (record ordinary_use {
   rmu_onsets = None ∷ None ∷ Some (0, 18) ∷ [];
   says =
       says (r 2) AllBiu (0, 0) (18, 18) (1, 1) (Word 1)
       ∷ [];
-}
+})
 
 abbrev pub false_accuser_records : List Record
 false_accuser_records =
@@ -42,7 +42,7 @@ false_accuser_records =
 
 -- two BIUs and one RMU. BIU 1 says another vote than BIU 0 in stage 3 of BIU 0's schedule slot
 abbrev pub other_vote : Scenario
-other_vote = record ordinary_use {
+other_vote = listing (record ordinary_use {
   sizes = record { bius = 2; rmus = 1; data_slots = 1 };
   requests = 1 ∷ 1 ∷ [];
   words = 10 ∷ 20 ∷ [];
@@ -53,7 +53,7 @@ other_vote = record ordinary_use {
   says =
       says (b 1) AllRmu (0, 0) (0, 0) (3, 3) (Word 9)
       ∷ [];
-}
+})
 
 -- the run ends with the breach in this stage
 abbrev pub other_vote_records : List Record

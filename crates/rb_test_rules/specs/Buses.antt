@@ -9,6 +9,8 @@ use Rattle.rb_rules.specs.declared.say.Content.{Content}
 use Rattle.rb_rules.specs.declared.say.Content.TheVariants.{Raw}
 use Rattle.rb_rules.specs.declared.say.Say.{Say}
 use Rattle.rb_rules.specs.Clock.{Timeline}
+use Rattle.rb_rules.specs.Entries.{listed}
+use Rattle.rb_rules.specs.Goodness.{Scenario, clock_of}
 
 -- the BIU and the RMU with this number
 abbrev pub b : ℕ → NodeName
@@ -55,6 +57,10 @@ says from to frames slots stages content = record {
   early = 0;
   content = content;
 }
+
+-- the scenario whose faulty nodes do what its entries list
+abbrev pub listing : Scenario → Scenario
+listing sc = record sc { behavior = listed sc.plan.version (clock_of sc) sc.says }
 
 -- bytes as they are
 abbrev pub raw : List ℕ → Content

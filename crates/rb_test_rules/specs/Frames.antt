@@ -8,7 +8,7 @@ use Rattle.rb_rules.specs.Book.{Record}
 use Rattle.rb_rules.specs.Book.Record.{Ended, Breach}
 use Rattle.rb_rules.specs.Goodness.{Scenario}
 use Rattle.rb_rules.specs.Ports.{HandIn}
-use Rattle.rb_test_rules.specs.Buses.{b, r, plan, steady, says, raw}
+use Rattle.rb_test_rules.specs.Buses.{b, r, plan, steady, says, listing, raw}
 use Rattle.rb_test_rules.specs.Told.{word, none, at, all_begin, everybody, all_but, port, usual_ports, silent, delivered, usual_words}
 use Rattle.rb_test_rules.specs.Ordinary.{ordinary_use}
 
@@ -46,7 +46,7 @@ late_onset_records =
 -- BIU 1 is heard by one of two RMUs in frame 0, and does right from then on; a probation of one
 -- frame
 abbrev pub probation_passed : Scenario
-probation_passed = record ordinary_use {
+probation_passed = listing (record ordinary_use {
   sizes = record { bius = 4; rmus = 2; data_slots = 8 };
   plan = record plan { version = version.One; probation = 1 };
   frames = 3;
@@ -71,7 +71,7 @@ probation_passed = record ordinary_use {
       ∷ says (b 1) AllRmu (0, 2) (18, 18) (1, 1) Sync
       ∷ says (b 1) AllRmu (0, 2) (18, 18) (3, 3) Sync
       ∷ [];
-}
+})
 
 abbrev pub probation_passed_records : List Record
 probation_passed_records =
@@ -94,7 +94,7 @@ probation_passed_records =
 
 -- the ordinary use without a probation
 abbrev pub no_probation : Scenario
-no_probation = record ordinary_use {
+no_probation = listing (record ordinary_use {
   sizes = record { bius = 4; rmus = 2; data_slots = 8 };
   frames = 3;
   requests = 1 ∷ 1 ∷ 1 ∷ 1 ∷ [];
@@ -118,7 +118,7 @@ no_probation = record ordinary_use {
       ∷ says (b 1) AllRmu (0, 2) (18, 18) (1, 1) Sync
       ∷ says (b 1) AllRmu (0, 2) (18, 18) (3, 3) Sync
       ∷ [];
-}
+})
 
 abbrev pub no_probation_records : List Record
 no_probation_records =
@@ -141,14 +141,14 @@ no_probation_records =
 
 -- bus 5, on which RMUs 1 and 2 relay messages of bus 6
 abbrev pub message_of_another_bus : Scenario
-message_of_another_bus = record ordinary_use {
+message_of_another_bus = listing (record ordinary_use {
   plan = record plan { version = version.Two 5; probation = 0 };
   rmu_onsets = None ∷ Some (0, 0) ∷ Some (0, 0) ∷ [];
   says =
       says (r 1) AllBiu (0, 0) (0, 0) (2, 2) (raw (1 ∷ 0 ∷ 0 ∷ 0 ∷ 0 ∷ 2 ∷ 0 ∷ 0 ∷ 0 ∷ 2 ∷ 6 ∷ 7 ∷ []))
       ∷ says (r 2) AllBiu (0, 0) (0, 0) (2, 2) (raw (1 ∷ 0 ∷ 0 ∷ 0 ∷ 0 ∷ 2 ∷ 0 ∷ 0 ∷ 0 ∷ 2 ∷ 6 ∷ 7 ∷ []))
       ∷ [];
-}
+})
 
 abbrev pub message_of_another_bus_records : List Record
 message_of_another_bus_records =
@@ -162,14 +162,14 @@ message_of_another_bus_records =
 
 -- the ordinary use with messages of bus 5
 abbrev pub message_of_the_bus : Scenario
-message_of_the_bus = record ordinary_use {
+message_of_the_bus = listing (record ordinary_use {
   plan = record plan { version = version.Two 5; probation = 0 };
   rmu_onsets = None ∷ Some (0, 0) ∷ Some (0, 0) ∷ [];
   says =
       says (r 1) AllBiu (0, 0) (0, 0) (2, 2) (raw (1 ∷ 0 ∷ 0 ∷ 0 ∷ 0 ∷ 2 ∷ 0 ∷ 0 ∷ 0 ∷ 2 ∷ 5 ∷ 4 ∷ []))
       ∷ says (r 2) AllBiu (0, 0) (0, 0) (2, 2) (raw (1 ∷ 0 ∷ 0 ∷ 0 ∷ 0 ∷ 2 ∷ 0 ∷ 0 ∷ 0 ∷ 2 ∷ 5 ∷ 4 ∷ []))
       ∷ [];
-}
+})
 
 abbrev pub message_of_the_bus_records : List Record
 message_of_the_bus_records =
@@ -201,7 +201,7 @@ hand_ins = record { frame = 1; biu = 0; state = 77 } ∷ []
 
 -- RMU 2 is silent in frame 0. In frame 1 it lies, and so does BIU 1
 abbrev pub convicted_rmu : Scenario
-convicted_rmu = record ordinary_use {
+convicted_rmu = listing (record ordinary_use {
   frames = 2;
   requests = 1 ∷ 1 ∷ 1 ∷ 1 ∷ [];
   biu_onsets = None ∷ Some (1, 5) ∷ None ∷ None ∷ [];
@@ -212,7 +212,7 @@ convicted_rmu = record ordinary_use {
       ∷ says (r 2) (One (b 0)) (1, 1) (6, 6) (2, 2) (Word 5)
       ∷ says (r 2) (One (b 2)) (1, 1) (6, 6) (2, 2) (Word 6)
       ∷ [];
-}
+})
 
 abbrev pub convicted_rmu_records : List Record
 convicted_rmu_records =

@@ -6,12 +6,12 @@ use Rattle.rb_rules.specs.declared.link.Rule.{Rule}
 use Rattle.rb_rules.specs.declared.say.Content.TheVariants.{Word, Sync}
 use Rattle.rb_rules.specs.declared.say.Say.{Say}
 use Rattle.rb_rules.specs.Goodness.{Scenario}
-use Rattle.rb_test_rules.specs.Buses.{b, r, says, raw}
+use Rattle.rb_test_rules.specs.Buses.{b, r, says, listing, raw}
 use Rattle.rb_test_rules.specs.Ordinary.{ordinary_use}
 
 -- RMU 1, which is not good from this slot on, says this
 abbrev pub saying_from : ℕ → Say → Scenario
-saying_from slot say = record ordinary_use { rmu_onsets = None ∷ Some (0, slot) ∷ None ∷ []; says = say ∷ [] }
+saying_from slot say = listing (record ordinary_use { rmu_onsets = None ∷ Some (0, slot) ∷ None ∷ []; says = say ∷ [] })
 
 -- the same where it is not good in the sync slot alone
 abbrev pub saying : Say → Scenario
@@ -32,7 +32,7 @@ ruled_by rule = record ordinary_use { delays = record { base = 10000; rules = ru
 -- RMU 1 calls as early as it may, and at the last tick, and says 32 bytes at the latest offset in
 -- the tail. RMU 2 asks in a schedule slot at the last tick of a window
 abbrev pub lies_at_the_edge : Scenario
-lies_at_the_edge = record ordinary_use {
+lies_at_the_edge = listing (record ordinary_use {
   rmu_onsets = None ∷ Some (0, 19) ∷ Some (0, 0) ∷ [];
   says =
       record call { offset = 0; early = 9998 }
@@ -40,4 +40,4 @@ lies_at_the_edge = record ordinary_use {
       ∷ record call { stages = (4, 4); offset = 38; content = raw (replicate 32 255) }
       ∷ record (says (r 2) AllBiu (0, 0) (0, 3) (2, 2) (Word 4294967295)) { offset = 14 }
       ∷ [];
-}
+})

@@ -8,7 +8,7 @@ use Rattle.rb_rules.specs.declared.say.Say.{Say}
 use Rattle.rb_rules.specs.Book.{Record}
 use Rattle.rb_rules.specs.Book.Record.{Ended, Breach}
 use Rattle.rb_rules.specs.Goodness.{Scenario}
-use Rattle.rb_test_rules.specs.Buses.{b, r, says, raw}
+use Rattle.rb_test_rules.specs.Buses.{b, r, says, listing, raw}
 use Rattle.rb_test_rules.specs.Told.{word, none, at, all_begin, everybody, all_but, port, usual_ports, silent, delivered, usual_words}
 use Rattle.rb_test_rules.specs.Ordinary.{ordinary_use}
 
@@ -28,12 +28,12 @@ silent_rmu_records =
 
 -- RMU 2 relays 999 in all slots of BIUs
 abbrev pub symmetric_rmu : Scenario
-symmetric_rmu = record ordinary_use {
+symmetric_rmu = listing (record ordinary_use {
   rmu_onsets = None ∷ None ∷ Some (0, 0) ∷ [];
   says =
       says (r 2) AllBiu (0, 0) (0, 15) (2, 2) (Word 999)
       ∷ [];
-}
+})
 
 abbrev pub symmetric_rmu_records : List Record
 symmetric_rmu_records =
@@ -47,7 +47,7 @@ symmetric_rmu_records =
 
 -- BIU 1 says 1 to one RMU and 2 to the others in its data slot
 abbrev pub asymmetric_sender : Scenario
-asymmetric_sender = record ordinary_use {
+asymmetric_sender = listing (record ordinary_use {
   requests = 1 ∷ 1 ∷ 1 ∷ 1 ∷ [];
   biu_onsets = None ∷ Some (0, 5) ∷ None ∷ None ∷ [];
   says =
@@ -55,7 +55,7 @@ asymmetric_sender = record ordinary_use {
       ∷ says (b 1) (One (r 1)) (0, 0) (5, 5) (1, 1) (Word 2)
       ∷ says (b 1) (One (r 2)) (0, 0) (5, 5) (1, 1) (Word 2)
       ∷ [];
-}
+})
 
 abbrev pub asymmetric_sender_records : List Record
 asymmetric_sender_records =
@@ -70,7 +70,7 @@ asymmetric_sender_records =
 
 -- BIU 1 says three different words
 abbrev pub no_majority : Scenario
-no_majority = record ordinary_use {
+no_majority = listing (record ordinary_use {
   requests = 1 ∷ 1 ∷ 1 ∷ 1 ∷ [];
   biu_onsets = None ∷ Some (0, 5) ∷ None ∷ None ∷ [];
   says =
@@ -78,7 +78,7 @@ no_majority = record ordinary_use {
       ∷ says (b 1) (One (r 1)) (0, 0) (5, 5) (1, 1) (Word 2)
       ∷ says (b 1) (One (r 2)) (0, 0) (5, 5) (1, 1) (Word 3)
       ∷ [];
-}
+})
 
 abbrev pub no_majority_records : List Record
 no_majority_records =
@@ -93,7 +93,7 @@ no_majority_records =
 
 -- BIU 1 lies as before, and RMU 2 in the slot after
 abbrev pub two_sided : Scenario
-two_sided = record ordinary_use {
+two_sided = listing (record ordinary_use {
   requests = 1 ∷ 1 ∷ 1 ∷ 1 ∷ [];
   biu_onsets = None ∷ Some (0, 5) ∷ None ∷ None ∷ [];
   rmu_onsets = None ∷ None ∷ Some (0, 6) ∷ [];
@@ -104,7 +104,7 @@ two_sided = record ordinary_use {
       ∷ says (r 2) (One (b 0)) (0, 0) (6, 6) (2, 2) (Word 5)
       ∷ says (r 2) (One (b 2)) (0, 0) (6, 6) (2, 2) (Word 6)
       ∷ [];
-}
+})
 
 abbrev pub two_sided_records : List Record
 two_sided_records =
@@ -117,13 +117,13 @@ two_sided_records =
 
 -- RMUs 1 and 2 relay 9
 abbrev pub too_few_good : Scenario
-too_few_good = record ordinary_use {
+too_few_good = listing (record ordinary_use {
   rmu_onsets = None ∷ Some (0, 0) ∷ Some (0, 0) ∷ [];
   says =
       says (r 1) AllBiu (0, 0) (0, 0) (2, 2) (Word 9)
       ∷ says (r 2) AllBiu (0, 0) (0, 0) (2, 2) (Word 9)
       ∷ [];
-}
+})
 
 abbrev pub too_few_good_records : List Record
 too_few_good_records =
@@ -159,10 +159,10 @@ relayed_request = raw (1 ∷ 0 ∷ 0 ∷ 0 ∷ 0 ∷ 2 ∷ 0 ∷ 0 ∷ 0 ∷ 2 �
 
 -- RMU 1 relays it to all BIUs in the last tick of stage 2
 abbrev pub message_in_time : Scenario
-message_in_time = record ordinary_use {
+message_in_time = listing (record ordinary_use {
   rmu_onsets = None ∷ Some (0, 0) ∷ None ∷ [];
   says = record (says (r 1) AllBiu (0, 0) (0, 0) (2, 2) relayed_request) { offset = 14 } ∷ rest_of_frame 0 0 0 0;
-}
+})
 
 abbrev pub message_in_time_records : List Record
 message_in_time_records =
@@ -176,14 +176,14 @@ message_in_time_records =
 
 -- to BIU 0 it comes in that tick, to the other BIUs one tick later, when the window is over
 abbrev pub message_too_late : Scenario
-message_too_late = record message_in_time {
+message_too_late = listing (record message_in_time {
   says =
       record (says (r 1) (One (b 0)) (0, 0) (0, 0) (2, 2) relayed_request) { offset = 14 }
       ∷ record (says (r 1) (One (b 1)) (0, 0) (0, 0) (3, 3) relayed_request) { offset = 0 }
       ∷ record (says (r 1) (One (b 2)) (0, 0) (0, 0) (3, 3) relayed_request) { offset = 0 }
       ∷ record (says (r 1) (One (b 3)) (0, 0) (0, 0) (3, 3) relayed_request) { offset = 0 }
       ∷ rest_of_frame 0 2 2 2;
-}
+})
 
 abbrev pub message_too_late_records : List Record
 message_too_late_records =
@@ -197,7 +197,7 @@ message_too_late_records =
 
 -- RMU 1 is silent. RMU 2 sends two messages to BIU 0, and bytes that spell none to the others
 abbrev pub ill_formed_messages : Scenario
-ill_formed_messages = record ordinary_use {
+ill_formed_messages = listing (record ordinary_use {
   rmu_onsets = None ∷ Some (0, 0) ∷ Some (0, 0) ∷ [];
   says =
       says (r 2) (One (b 0)) (0, 0) (0, 0) (2, 2) (Word 2)
@@ -206,7 +206,7 @@ ill_formed_messages = record ordinary_use {
       ∷ says (r 2) (One (b 2)) (0, 0) (0, 0) (2, 2) (raw (1 ∷ 0 ∷ 0 ∷ 0 ∷ 0 ∷ 2 ∷ 0 ∷ 0 ∷ 0 ∷ 1 ∷ 3 ∷ []))
       ∷ says (r 2) (One (b 3)) (0, 0) (0, 0) (2, 2) (raw (2 ∷ 0 ∷ 0 ∷ 0 ∷ 0 ∷ 2 ∷ 0 ∷ 0 ∷ 0 ∷ 1 ∷ 1 ∷ []))
       ∷ [];
-}
+})
 
 abbrev pub ill_formed_messages_records : List Record
 ill_formed_messages_records =
@@ -220,13 +220,13 @@ ill_formed_messages_records =
 
 -- BIU 2 asks for 4294967295 slots
 abbrev pub greedy_biu : Scenario
-greedy_biu = record ordinary_use {
+greedy_biu = listing (record ordinary_use {
   requests = 1 ∷ 1 ∷ 1 ∷ 1 ∷ [];
   biu_onsets = None ∷ None ∷ Some (0, 2) ∷ None ∷ [];
   says =
       says (b 2) AllRmu (0, 0) (2, 2) (1, 1) (Word 4294967295)
       ∷ [];
-}
+})
 
 abbrev pub greedy_biu_records : List Record
 greedy_biu_records =

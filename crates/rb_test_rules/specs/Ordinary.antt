@@ -20,6 +20,7 @@ ordinary_use = record {
   delays = record { base = 10000; rules = [] };
   biu_onsets = None ∷ None ∷ None ∷ None ∷ [];
   rmu_onsets = None ∷ None ∷ None ∷ [];
+  behavior = λ me i span j. [];
   says = [];
 }
 

@@ -6,13 +6,13 @@ use Rattle.rb_rules.specs.declared.say.Content.TheVariants.{Word, Sync}
 use Rattle.rb_rules.specs.Book.{Record}
 use Rattle.rb_rules.specs.Book.Record.{Ended, Breach}
 use Rattle.rb_rules.specs.Goodness.{Scenario}
-use Rattle.rb_test_rules.specs.Buses.{b, r, says}
+use Rattle.rb_test_rules.specs.Buses.{b, r, says, listing}
 use Rattle.rb_test_rules.specs.Told.{word, at, all_begin, everybody, all_but, port, usual_ports, silent, delivered, usual_words}
 use Rattle.rb_test_rules.specs.Ordinary.{ordinary_use}
 
 -- BIU 3 accuses all RMUs, repeats it, relays nothing and calls
 abbrev pub false_accuser : Scenario
-false_accuser = record ordinary_use {
+false_accuser = listing (record ordinary_use {
   biu_onsets = None ∷ None ∷ None ∷ Some (0, 15) ∷ [];
   says =
       says (b 3) AllRmu (0, 0) (15, 15) (1, 1) (Word 7)
@@ -21,7 +21,7 @@ false_accuser = record ordinary_use {
       ∷ says (b 3) AllRmu (0, 0) (19, 19) (1, 1) Sync
       ∷ says (b 3) AllRmu (0, 0) (19, 19) (3, 3) Sync
       ∷ [];
-}
+})
 
 abbrev pub false_accuser_records : List Record
 false_accuser_records =
@@ -35,12 +35,12 @@ false_accuser_records =
 
 -- RMU 1 calls at the first tick of the window
 abbrev pub call_at_the_first_tick : Scenario
-call_at_the_first_tick = record ordinary_use {
+call_at_the_first_tick = listing (record ordinary_use {
   rmu_onsets = None ∷ Some (0, 19) ∷ None ∷ [];
   says =
       record (says (r 1) AllBiu (0, 0) (19, 19) (2, 2) Sync) { offset = 0 }
       ∷ [];
-}
+})
 
 abbrev pub call_at_the_first_tick_records : List Record
 call_at_the_first_tick_records =
@@ -54,7 +54,7 @@ call_at_the_first_tick_records =
 
 -- RMU 1 calls at the first tick at two BIUs, at the last at the others
 abbrev pub calls_at_both_edges : Scenario
-calls_at_both_edges = record ordinary_use {
+calls_at_both_edges = listing (record ordinary_use {
   rmu_onsets = None ∷ Some (0, 19) ∷ None ∷ [];
   says =
       record (says (r 1) (One (b 0)) (0, 0) (19, 19) (2, 2) Sync) { offset = 0 }
@@ -62,7 +62,7 @@ calls_at_both_edges = record ordinary_use {
       ∷ record (says (r 1) (One (b 2)) (0, 0) (19, 19) (2, 2) Sync) { offset = 17 }
       ∷ record (says (r 1) (One (b 3)) (0, 0) (19, 19) (2, 2) Sync) { offset = 17 }
       ∷ [];
-}
+})
 
 abbrev pub calls_at_both_edges_records : List Record
 calls_at_both_edges_records =
@@ -76,7 +76,7 @@ calls_at_both_edges_records =
 
 -- BIU 1 lies unlike in its data slot, and RMU 1 calls at times that differ by as much as they may
 abbrev pub alike_in_time : Scenario
-alike_in_time = record ordinary_use {
+alike_in_time = listing (record ordinary_use {
   requests = 1 ∷ 1 ∷ 1 ∷ 1 ∷ [];
   biu_onsets = None ∷ Some (0, 5) ∷ None ∷ None ∷ [];
   rmu_onsets = None ∷ Some (0, 19) ∷ None ∷ [];
@@ -88,7 +88,7 @@ alike_in_time = record ordinary_use {
       ∷ record (says (r 1) (One (b 2)) (0, 0) (19, 19) (2, 2) Sync) { offset = 9 }
       ∷ record (says (r 1) (One (b 3)) (0, 0) (19, 19) (2, 2) Sync) { offset = 9 }
       ∷ [];
-}
+})
 
 abbrev pub alike_in_time_records : List Record
 alike_in_time_records =
@@ -103,7 +103,7 @@ alike_in_time_records =
 
 -- the ordinary use with one of the calls one unit earlier
 abbrev pub apart_in_time : Scenario
-apart_in_time = record ordinary_use {
+apart_in_time = listing (record ordinary_use {
   requests = 1 ∷ 1 ∷ 1 ∷ 1 ∷ [];
   biu_onsets = None ∷ Some (0, 5) ∷ None ∷ None ∷ [];
   rmu_onsets = None ∷ Some (0, 19) ∷ None ∷ [];
@@ -115,7 +115,7 @@ apart_in_time = record ordinary_use {
       ∷ record (says (r 1) (One (b 2)) (0, 0) (19, 19) (2, 2) Sync) { offset = 9 }
       ∷ record (says (r 1) (One (b 3)) (0, 0) (19, 19) (2, 2) Sync) { offset = 9 }
       ∷ [];
-}
+})
 
 abbrev pub apart_in_time_records : List Record
 apart_in_time_records =

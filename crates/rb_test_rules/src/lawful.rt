@@ -1,10 +1,13 @@
-//! Which scenarios are lawful.
+//! Which scenarios are lawful, and which entries a document may list.
 #![tactic(auto)]
 
-ghost use Rattle.std.specs.Prelude.{[], ◌∷◌, None, Some, replicate};
+ghost use Rattle.std.specs.Prelude.{List, [], ◌∷◌, None, Some, replicate};
 ghost use Rattle.rb_rules.specs.declared.link.Pattern.TheVariants.{AllBiu, AllRmu, One};
+ghost use Rattle.rb_rules.specs.declared.say.Say.{Say};
+ghost use Rattle.rb_rules.specs.Entries.{IsListed};
 ghost use Rattle.rb_rules.specs.Lawful.{IsLawful};
 ghost use Rattle.rb_test_rules.specs.Buses.{b, r, raw, steady, ticking};
+ghost use Rattle.rb_test_rules.specs.Floods.{flooding_rmu};
 ghost use Rattle.rb_test_rules.specs.Lawful.{call, lies_at_the_edge, rule_of_calls, ruled_by, saying, saying_from};
 ghost use Rattle.rb_test_rules.specs.Lies.{two_sided};
 ghost use Rattle.rb_test_rules.specs.Ordinary.{greatest_drift, ordinary_use, smallest_bus};
@@ -18,29 +21,35 @@ pub fn lawful_scenarios()
     ensures smallest_bus { IsLawful smallest_bus }
     // Clocks that drift as far as the plan allows.
     ensures greatest_drift { IsLawful greatest_drift }
-    // Lies of both kinds, which break the fault premise in a data slot.
-    ensures two_sided { IsLawful two_sided }
-    // Lies that break it in the sync slot.
-    ensures apart_in_time { IsLawful apart_in_time }
-    // An RMU calls as early and as late as may be, and fills the tail's last offset with as many
-    // bytes as a message may have.
-    ensures lies_at_the_edge { IsLawful lies_at_the_edge }
+    // An RMU says more than a document may list.
+    ensures flooding_rmu { IsLawful flooding_rmu }
 {}
 
-/// Beyond each edge nothing is lawful: a tick early or more, after the window's last tick, early or
-/// in the tail in other slots, to nodes of the own kind, no bytes, and by a node that is good at
-/// the first place.
+/// Scenarios that are lawful and whose entries a document may list.
+pub fn listed_scenarios()
+    // Lies of both kinds, which break the fault premise in a data slot.
+    ensures two_sided { IsLawful two_sided × IsListed two_sided }
+    // Lies that break it in the sync slot.
+    ensures apart_in_time { IsLawful apart_in_time × IsListed apart_in_time }
+    // An RMU calls as early and as late as may be, and fills the tail's last offset with as many
+    // bytes as a message may have.
+    ensures lies_at_the_edge { IsLawful lies_at_the_edge × IsListed lies_at_the_edge }
+{}
+
+/// No document lists what lies beyond an edge: a tick early or more, after the window's last tick,
+/// early or in the tail in other slots, to nodes of the own kind, no bytes, and by a node that is
+/// good at the first place.
 pub fn beyond_the_edge()
-    ensures a_tick_early { ¬ IsLawful (saying (record call { early = 9999 })) }
-    ensures after_the_window { ¬ IsLawful (saying (record call { offset = 18 })) }
-    ensures after_the_tail { ¬ IsLawful (saying (record call { stages = (4, 4); offset = 39 })) }
-    ensures early_in_another_slot { ¬ IsLawful
+    ensures a_tick_early { ¬ IsListed (saying (record call { early = 9999 })) }
+    ensures after_the_window { ¬ IsListed (saying (record call { offset = 18 })) }
+    ensures after_the_tail { ¬ IsListed (saying (record call { stages = (4, 4); offset = 39 })) }
+    ensures early_in_another_slot { ¬ IsListed
         (saying_from 18 (record call { slots = (18, 19); early = 1 })) }
-    ensures tail_of_another_slot { ¬ IsLawful
+    ensures tail_of_another_slot { ¬ IsListed
         (saying_from 18 (record call { slots = (18, 19); stages = (3, 4) })) }
-    ensures to_its_own_kind { ¬ IsLawful (saying (record call { to = AllRmu })) }
-    ensures no_bytes { ¬ IsLawful (saying (record call { content = raw [] })) }
-    ensures by_a_good_node { ¬ IsLawful (saying (record call { from = r 0 })) }
+    ensures to_its_own_kind { ¬ IsListed (saying (record call { to = AllRmu })) }
+    ensures no_bytes { ¬ IsListed (saying (record call { content = raw [] })) }
+    ensures by_a_good_node { ¬ IsListed (saying (record call { from = r 0 })) }
 {}
 
 /// A bus that no document says: of no frame, a request or a clock less than it has nodes, a request
@@ -72,14 +81,20 @@ pub fn beyond_the_links()
     ensures after_the_run { ¬ IsLawful (ruled_by (record rule_of_calls { frames = (0, 1) })) }
     ensures after_the_sync_slot { ¬ IsLawful
         (ruled_by (record rule_of_calls { slots = (19, 20) })) }
-    ensures many_bytes { ¬ IsLawful (saying (record call { content = raw (replicate 33 255) })) }
-    ensures said_to_nobody { ¬ IsLawful (saying (record call { to = One (b 4) })) }
+    ensures many_bytes { ¬ IsListed (saying (record call { content = raw (replicate 33 255) })) }
+    ensures said_to_nobody { ¬ IsListed (saying (record call { to = One (b 4) })) }
 {}
 
 /// A node says nothing in the slot before it fails, no byte is above 255, and a run may have 4096
 /// frames.
 pub fn bounds_of_scenarios()
-    ensures good_at_first { ¬ IsLawful (saying (record call { slots = (18, 19) })) }
-    ensures no_byte { ¬ IsLawful (saying (record call { content = raw (256 ∷ []) })) }
+    ensures good_at_first { ¬ IsListed (saying (record call { slots = (18, 19) })) }
+    ensures no_byte { ¬ IsListed (saying (record call { content = raw (256 ∷ []) })) }
     ensures most_frames { IsLawful (record ordinary_use { frames = 4096 }) }
+{}
+
+/// No document lists what the flooding RMU does, whatever its entries are: a window has more
+/// messages than a document has entries.
+pub fn more_than_any_entries()
+    ensures { (says : List Say) → ¬ IsListed (record flooding_rmu { says = says }) }
 {}

@@ -10,7 +10,8 @@ ghost use Rattle.rb_base.specs.declared.values.See.TheVariants.{Nothing, Value, 
 ghost use Rattle.rb_rules.specs.declared.message.Tag.TheVariants as tag;
 ghost use Rattle.rb_rules.specs.Conviction.{turn};
 ghost use Rattle.rb_rules.specs.Core.{arrive, is_spent, next_tick, slot_wanted, tick};
-ghost use Rattle.rb_rules.specs.Hearing.{is_said, judged_see, sole_time};
+ghost use Rattle.rb_rules.specs.Entries.{is_said};
+ghost use Rattle.rb_rules.specs.Hearing.{judged_see, sole_time};
 ghost use Rattle.rb_rules.specs.WorldStep.{due_of, event_at, event_of, hand, ready_at};
 ghost use Rattle.rb_rules.specs.WorldStep.{stop, with_close, with_message};
 ghost use Rattle.rb_rules.specs.WorldStep.Pending.{Arrival, Tick};

@@ -1,16 +1,17 @@
 use Rattle.std.proofs.Common.{arith, inl, inr, refl}
 use Rattle.std.proofs.lemmas.Bool.{true≢false}
-use Rattle.rb_rules.specs.Lawful.{IsLawful, IsSayOf}
+use Rattle.rb_rules.specs.Entries.{IsListed}
+use Rattle.rb_rules.specs.Lawful.{IsSayOf}
 use Rattle.rb_rules.specs.declared.say.Say.{Say}
 use Rattle.rb_test_rules.specs.Lawful.{saying, saying_from}
 use Rattle.rb_test_rules.proofs.lawful.beyond_the_edge.Goals as goal
 
 -- the sole entry is one that the lawful scenario may have
-said : (say : Say) → IsLawful (saying say) → IsSayOf (saying say) say
-said say lawful = lawful.says 0 say (omega arith)
+said : (say : Say) → IsListed (saying say) → IsSayOf (saying say) say
+said say l = l.says 0 say (omega arith)
 
-said_from_18 : (say : Say) → IsLawful (saying_from 18 say) → IsSayOf (saying_from 18 say) say
-said_from_18 say lawful = lawful.says 0 say (omega arith)
+said_from_18 : (say : Say) → IsListed (saying_from 18 say) → IsSayOf (saying_from 18 say) say
+said_from_18 say l = l.says 0 say (omega arith)
 
 pub returns-clause-a_tick_early : goal.returns-clause-a_tick_early
 returns-clause-a_tick_early c = λ l. let e = (said _ l).early in omega arith

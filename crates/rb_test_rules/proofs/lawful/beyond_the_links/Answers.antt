@@ -1,4 +1,5 @@
 use Rattle.std.proofs.Common.{◌≤◌, ◌<◌, arith}
+use Rattle.rb_rules.specs.Entries.{IsListed}
 use Rattle.rb_rules.specs.Lawful.{IsLawful, IsRuleOf, IsSayOf}
 use Rattle.rb_rules.specs.declared.link.Rule.{Rule}
 use Rattle.rb_rules.specs.declared.say.Say.{Say}
@@ -9,8 +10,8 @@ use Rattle.rb_test_rules.proofs.lawful.beyond_the_links.Goals as goal
 ruled : (rule : Rule) → IsLawful (ruled_by rule) → IsRuleOf (ruled_by rule) rule
 ruled rule lawful = lawful.rules 0 rule (omega arith)
 
-said : (say : Say) → IsLawful (saying say) → IsSayOf (saying say) say
-said say lawful = lawful.says 0 say (omega arith)
+said : (say : Say) → IsListed (saying say) → IsSayOf (saying say) say
+said say l = l.says 0 say (omega arith)
 
 pub returns-clause-within_a_kind : goal.returns-clause-within_a_kind
 returns-clause-within_a_kind c = λ l. let e = (ruled _ l).unlike_kinds in cc

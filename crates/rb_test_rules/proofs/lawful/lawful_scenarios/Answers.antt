@@ -1,19 +1,11 @@
 use Rattle.std.proofs.Common.{refl}
+use Rattle.rb_test_rules.specs.Floods.{flooding_rmu}
 use Rattle.rb_test_rules.specs.Ordinary.{greatest_drift}
 use Rattle.rb_test_rules.proofs.LawfulTests.{lawful_by_tests}
-use Rattle.rb_test_rules.specs.Lies.{two_sided}
-use Rattle.rb_test_rules.specs.Resynchronisation.{apart_in_time}
-use Rattle.rb_test_rules.specs.Lawful.{lies_at_the_edge}
 use Rattle.rb_test_rules.proofs.lawful.lawful_scenarios.Goals as goal
 
 pub returns-clause-greatest_drift : goal.returns-clause-greatest_drift
 returns-clause-greatest_drift c = lawful_by_tests greatest_drift refl
 
-pub returns-clause-two_sided : goal.returns-clause-two_sided
-returns-clause-two_sided c = lawful_by_tests two_sided refl
-
-pub returns-clause-apart_in_time : goal.returns-clause-apart_in_time
-returns-clause-apart_in_time c = lawful_by_tests apart_in_time refl
-
-pub returns-clause-lies_at_the_edge : goal.returns-clause-lies_at_the_edge
-returns-clause-lies_at_the_edge c = lawful_by_tests lies_at_the_edge refl
+pub returns-clause-flooding_rmu : goal.returns-clause-flooding_rmu
+returns-clause-flooding_rmu c = lawful_by_tests flooding_rmu refl
