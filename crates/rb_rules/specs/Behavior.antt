@@ -26,9 +26,10 @@ abbrev pub is_after_previous : Timeline → ℕ → ℕ → Bool
 is_after_previous clock zero time = true
 is_after_previous clock (suc previous) time = nat_lt (time_of clock previous) time
 
--- a time whose stamp is a tick of the window, by the receiver's clock
+-- by the receiver's clock the stamp of the time is a tick of the window
 abbrev pub is_within : Timeline → Span → ℕ → Bool
 is_within clock span time = is_after_previous clock span.first time && nat_le time (time_of clock span.last)
 
+-- every number of the list is a byte
 abbrev pub are_bytes : List ℕ → Bool
 are_bytes bytes = list_all (λ byte. nat_lt byte 256) bytes

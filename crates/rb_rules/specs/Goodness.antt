@@ -19,7 +19,7 @@ pub record Scenario : Type 0 where
   pub requests : List ℕ  -- how many data slots each BIU asks for
   pub words : List ℕ  -- the state with which each BIU's port begins
   pub apps : List ℕ  -- the application at each BIU
-  pub clocks : List Timeline  -- those of the BIUs, then those of the RMUs
+  pub clocks : List Timeline  -- the clocks of the BIUs, then those of the RMUs
   pub delays : DelayRules
   pub biu_onsets : List (Option (ℕ × ℕ))
   pub rmu_onsets : List (Option (ℕ × ℕ))
@@ -52,5 +52,6 @@ clock_place sizes Rmu i = sizes.bius + i
 abbrev pub clock_among : Sizes → List Timeline → Side → ℕ → Timeline
 clock_among sizes clocks side i = get_or clocks (clock_place sizes side i) (record { start = 0; segments = [] })
 
+-- the clock of node i of a kind of a scenario's bus
 abbrev pub clock_of : Scenario → Side → ℕ → Timeline
 clock_of sc side i = clock_among sc.sizes sc.clocks side i

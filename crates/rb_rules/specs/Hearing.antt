@@ -88,8 +88,8 @@ coming_of sc me i j frame s = record {
   bytes = spelling_of sc.plan.version s.message;
 }
 
--- what source j says is heard by node i of kind me in a window: the source is a node of the bus, and
--- the bytes come in the window
+-- node i of kind me hears `s` from source j in a window: the source is a node of the bus, and the
+-- bytes come in the window
 abbrev pub is_heard : Scenario → Side → ℕ → Span → ℕ → Said → Bool
 is_heard sc me i span j s = nat_lt j (count_of (other me) sc.sizes) && is_within (clock_of sc me i) span s.time && are_bytes s.bytes
 
