@@ -154,7 +154,7 @@ results-alike sc b c m same =
     results : Behavior → Each (Option Sending) → Each Result
     results x sent = map_each (λ me i st. go_through (behaving sc x) m sent me i st (window_in sc m me st)) m.nodes
 
--- the verdict on a stage does not depend on what faulty nodes do, but on the nodes that are good
+-- on equal rows a stage is settled alike, whatever faulty nodes do
 stage-is : (sc : Scenario) (b : Behavior) (place : Place) (rows : Each (Option Row)) (k : Book) → with_stage (behaving sc b) place rows k ≡ with_stage sc place rows k
 unfolding with_stage
 stage-is sc b place rows k = ap judged (fun_ext (λ kind. good kind))
