@@ -1,14 +1,14 @@
 -- What an engine keeps of one slot is right.
-use Rattle.std.proofs.Common.{◌≡◌, ℕ, zero, suc, ◌<◌, Bool, true, false, not, if◌then◌else◌, Option, List, [], ◌∷◌, get_or, subst, refl, sym, ◌∙◌, ap, arith}
+use Rattle.std.proofs.Common.{◌≡◌, ℕ, ◌<◌, false, Option, List, get_or, subst, refl, sym, ◌∙◌, ap, arith}
 use Rattle.rb_base.specs.Nodes.{Side}
 use Rattle.rb_base.specs.Sizes.{Sizes, sync_slot_of}
 use Rattle.rb_base.proofs.Sets.{eq_other}
 use Rattle.rb_rules.specs.declared.role.Role.{Role}
 use Rattle.rb_rules.specs.NodeState.{NodeState, trusted_of}
-use Rattle.rb_rules.specs.Slots.{has_third_stage, listens, role_of, same_side, sender_in, sender_kind}
+use Rattle.rb_rules.specs.Slots.{role_of, sender_in}
 use Rattle.rb_slot.specs.declared.kept.KeptSlot.{KeptSlot}
 use Rattle.rb_slot.specs.Engines.{IsSound, Seated}
-use Rattle.rb_slot.specs.KeptSlots.{AreIdle, IsKeptSlot, bius_by, rmus_by, speaks_of}
+use Rattle.rb_slot.specs.KeptSlots.{IsKeptSlot, bius_by, rmus_by, speaks_of}
 use Rattle.rb_slot.specs.Senders.{sender_of}
 
 -- with the same trusted nodes
@@ -48,44 +48,6 @@ senders_alike me st role =
     ap (λ b. sender_in b (rmus_by me st.near st.far.trusted) st.owners role) (bius_are me st)
     ∙ ap (λ r. sender_in (trusted_of me Side.Biu st) r st.owners role) (rmus_are me st)
 
--- the stages in which a node does not listen
-pub never_idle : (me : Side) (role : Role) → AreIdle me role (false ∷ false ∷ false ∷ false ∷ [])
-unfolding AreIdle
-never_idle me role zero e = let no : false ≡ true = e in cc
-never_idle me role (suc zero) e = let no : false ≡ true = e in cc
-never_idle me role (suc (suc zero)) e = let no : false ≡ true = e in cc
-never_idle me role (suc (suc (suc zero))) e = let no : false ≡ true = e in cc
-never_idle me role (suc (suc (suc (suc stage)))) e = let no : false ≡ true = e in cc
-
-pub idle_first : (me : Side) (role : Role) → same_side me (sender_kind role) ≡ true → AreIdle me role (false ∷ true ∷ false ∷ true ∷ [])
-unfolding AreIdle
-idle_first me role first zero e = let no : false ≡ true = e in cc
-idle_first me role first (suc zero) e = ap (λ b. if b then false else true) first
-idle_first me role first (suc (suc zero)) e = let no : false ≡ true = e in cc
-idle_first me role first (suc (suc (suc zero))) e = ap (λ b. if b then false else has_third_stage role) first
-idle_first me role first (suc (suc (suc (suc stage)))) e = let no : false ≡ true = e in cc
-
-pub idle_second : (me : Side) (role : Role) (third : Bool) → same_side me (sender_kind role) ≡ false → third ≡ not (has_third_stage role)
-    → AreIdle me role (false ∷ false ∷ true ∷ third ∷ [])
-unfolding AreIdle
-idle_second me role third second is zero e = let no : false ≡ true = e in cc
-idle_second me role third second is (suc zero) e = let no : false ≡ true = e in cc
-idle_second me role third second is (suc (suc zero)) e = ap (λ b. if b then true else false) second
-idle_second me role third second is (suc (suc (suc zero))) e = ap (λ b. if b then false else has_third_stage role) second ∙ not_true (has_third_stage role) (sym is ∙ e)
-  where
-    not_true : (b : Bool) → not b ≡ true → b ≡ false
-    not_true true is = sym is
-    not_true false is = refl
-idle_second me role third second is (suc (suc (suc (suc stage)))) e = let no : false ≡ true = e in cc
-
--- a node does not listen in a stage that is kept as idle
-pub kept_idle : (sizes : Sizes) (me : Side) (index near far : ℕ) (owners : List ℕ) (k : KeptSlot) (slot stage : ℕ) (found : Bool)
-    → IsKeptSlot sizes me index near far owners k → slot ≡ k.slot → found ≡ get_or k.idle stage false → found ≡ true
-    → listens me (role_of sizes slot) stage ≡ false
-unfolding AreIdle
-kept_idle sizes me index near far owners k slot stage found right here is known =
-    ap (λ r. listens me r stage) (ap (role_of sizes) here ∙ sym right.role_is) ∙ right.idle_is stage (sym is ∙ known)
-
 -- what was found of a slot below the sync slot is right
 pub found_right : (me : Side) (v : Seated) (slot : ℕ) (k : KeptSlot)
     → slot < sync_slot_of v.sizes
@@ -93,12 +55,10 @@ pub found_right : (me : Side) (v : Seated) (slot : ℕ) (k : KeptSlot)
     → k.role ≡ role_of v.sizes slot
     → sender_of k.sender ≡ sender_in (trusted_of me Side.Biu v.state) (trusted_of me Side.Rmu v.state) v.state.owners k.role
     → ((stage : ℕ) → get_or k.spoken stage false ≡ speaks_of me v.index k.role (sender_of k.sender) stage)
-    → AreIdle me k.role k.idle
     → IsKeptSlot v.sizes me v.index v.state.near v.state.far.trusted v.state.owners k
-found_right me v slot k below here role_is sender_is spoken idle = record {
+found_right me v slot k below here role_is sender_is spoken = record {
   role_is = role_is ∙ ap (role_of v.sizes) (sym here);
   sender_is = sender_is ∙ sym (senders_alike me v.state k.role);
   apart = eq_other k.slot (sync_slot_of v.sizes) (λ e. omega (arith, e, here, below));
   spoken_is = spoken;
-  idle_is = idle;
 }

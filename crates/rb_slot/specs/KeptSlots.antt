@@ -1,5 +1,5 @@
 -- What an engine keeps of one slot.
-use Rattle.std.specs.Prelude.{ℕ, ◌≡◌, ◌==◌, ◌&&◌, ◌||◌, not, nat_lt, Bool, true, false, List, get_or}
+use Rattle.std.specs.Prelude.{ℕ, ◌≡◌, ◌==◌, ◌&&◌, ◌||◌, not, nat_lt, Bool, false, List, get_or}
 use Rattle.rb_base.specs.Nodes.{Side, other}
 use Rattle.rb_base.specs.Nodes.Side.{Biu, Rmu}
 use Rattle.rb_base.specs.Sizes.{Sizes, sync_slot_of}
@@ -27,14 +27,9 @@ speaks_of me index role (Node i) stage =
     nat_lt index 16 && (listens (other me) role stage && (not (stage == 1) || is_sender me index role (Node i)))
 speaks_of me index role EachTrusted stage = false
 
--- in the stages with a mark a node of kind me does not listen
-unfoldable pub AreIdle : Side → Role → List Bool → Type 0
-AreIdle me role idle = (stage : ℕ) → get_or idle stage false ≡ true → listens me role stage ≡ false
-
 -- what is kept of a slot is what the engine would find again
 pub record IsKeptSlot (sizes : Sizes) (me : Side) (index near far : ℕ) (owners : List ℕ) (k : KeptSlot) : Type 0 where
   pub role_is : k.role ≡ role_of sizes k.slot
   pub sender_is : sender_of k.sender ≡ sender_in (bius_by me near far) (rmus_by me near far) owners k.role
   pub apart : (k.slot == sync_slot_of sizes) ≡ false
   pub spoken_is : (stage : ℕ) → get_or k.spoken stage false ≡ speaks_of me index k.role (sender_of k.sender) stage
-  pub idle_is : AreIdle me k.role k.idle

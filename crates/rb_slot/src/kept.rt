@@ -4,29 +4,27 @@ ghost use Rattle.rb_base.specs.Nodes.{Side, side_of};
 ghost use Rattle.rb_base.specs.Sizes.{Sizes, sync_slot_of};
 ghost use Rattle.rb_rules.specs.NodeState.{trusted_of};
 ghost use Rattle.rb_rules.specs.Slots.{listens, role_of, sender_in};
-ghost use Rattle.rb_slot.specs.KeptSlots.{AreIdle, IsKeptSlot, speaks_of};
+ghost use Rattle.rb_slot.specs.KeptSlots.{IsKeptSlot, speaks_of};
 ghost use Rattle.rb_slot.specs.Senders.{sender_of};
 
 use crate::engine::{Engine, PASSIVE};
 use crate::sender::Sender;
-use crate::slots::{has_third_stage, role_of, sends_first};
+use crate::slots::{has_third_stage, listens, role_of, sends_first};
 use rb_base::{Kind, Shape};
 use rb_rules::Role;
 
 // What is kept of one slot, so that it is not worked out again in each stage: what it is for, who
-// sends in stage 1, by stage whether this node speaks, and in which stages it surely does not
-// listen. This is the short cut "kept slot" of docs/PERFORMANCE.md.
+// sends in stage 1, and by stage whether this node speaks. This is the short cut "kept slot" of
+// docs/PERFORMANCE.md.
 #[derive(Clone, Copy)]
 pub(crate) struct KeptSlot {
     pub(crate) slot: u16,
     pub(crate) role: Role,
     pub(crate) sender: Sender,
     pub(crate) spoken: [bool; 4],
-    pub(crate) idle: [bool; 4],
 }
 
 // What is kept if there is no slot: that of a slot past all others, in which nobody speaks.
-#[tactic(auto, using(crate::proofs::Keeping::never_idle))]
 pub(crate) fn no_slot(shape: &Shape) -> KeptSlot
     ensures { (me : Side) (index near far : ℕ) (owners : List ℕ)
         → IsKeptSlot shape.now me index near far owners result }
@@ -37,32 +35,18 @@ pub(crate) fn no_slot(shape: &Shape) -> KeptSlot
         role: Role::Sync,
         sender: Sender::EachTrusted,
         spoken: [false; 4],
-        idle: [false; 4],
     }
 }
 
-// What is kept for a stage.
+// Whether a stage is among those in which the node speaks.
 #[inline(always)]
-pub(crate) fn in_stage(kept: &[bool; 4], stage: u8) -> bool
-    ensures { result ≡ get_or kept.now stage false }
+pub(crate) fn is_spoken(spoken: &[bool; 4], stage: u8) -> bool
+    ensures { result ≡ get_or spoken.now stage false }
 {
     if stage < 4 {
-        kept[usize::from(stage)]
+        spoken[usize::from(stage)]
     } else {
         false
-    }
-}
-
-// By stage whether the nodes of the kind with this code do not listen.
-#[tactic(auto, using(crate::proofs::Keeping::idle_first, crate::proofs::Keeping::idle_second))]
-#[inline(always)]
-fn stages_idle(code: u8, role: Role) -> [bool; 4]
-    ensures { AreIdle (side_of code) role result }
-{
-    if sends_first(code, role) {
-        [false, true, false, true]
-    } else {
-        [false, false, true, !has_third_stage(role)]
     }
 }
 
@@ -100,7 +84,6 @@ impl<K: Kind> Engine<K> {
             role,
             sender,
             spoken: self.stages_spoken(role, sender),
-            idle: stages_idle(K::CODE, role),
         }
     }
 
@@ -122,7 +105,7 @@ impl<K: Kind> Engine<K> {
         ensures { IsTrue result
             → listens (side_of K.CODE) (role_of self.now.sizes slot) stage ≡ false }
     {
-        slot == self.kept.slot && in_stage(&self.kept.idle, stage)
+        slot == self.kept.slot && !listens(K::CODE, self.kept.role, stage)
     }
 
     // At the close of the last stage of a slot the next one is kept.

@@ -1,8 +1,7 @@
-use Rattle.std.proofs.Common.{refl, ◌∙◌, ap, subst}
+use Rattle.std.proofs.Common.{refl, ◌∙◌, ap}
 use Rattle.rb_base.specs.Nodes.{side_of}
 use Rattle.rb_rules.specs.Slots.{role_of}
 use Rattle.rb_slot.specs.Engines.{Seated}
-use Rattle.rb_slot.specs.KeptSlots.{AreIdle}
 use Rattle.rb_slot.proofs.Keeping.{found_right}
 use Rattle.rb_slot.proofs.engine.Engine.slot_now.Goals as goal
 
@@ -14,4 +13,3 @@ returns g c =
     (c.role_of-role.ensures ∙ ap (λ s. role_of s c.args.slot) (c.shape.ensures ∙ ap (λ (v : Seated). v.sizes) c.self.view_is))
     c.sender-sender.ensures
     c.stages_spoken.ensures
-    (subst (λ k. AreIdle (side_of k) c.role_of-role.result c.stages_idle.result) c.CODE.ensures c.stages_idle.ensures)
