@@ -10,6 +10,8 @@ pub struct Shape {
     biu: u8,
     rmu: u8,
     slots: u16,
+    // The number of the sync slot, which follows from the rest.
+    sync: u16,
 }
 
 impl Model for Shape {
@@ -17,9 +19,15 @@ impl Model for Shape {
 
     ghost view = { λ s. record { bius = s.biu; rmus = s.rmu; data_slots = s.slots } };
 
-    ghost invariant = { λ s. IsShape (record { bius = s.biu; rmus = s.rmu; data_slots = s.slots }) };
+    ghost invariant = { λ s. IsShape (record { bius = s.biu; rmus = s.rmu; data_slots = s.slots })
+        × (s.sync ≡ sync_slot_of (record { bius = s.biu; rmus = s.rmu; data_slots = s.slots })) };
 
-    ghost inverse = { λ v. record { biu = v.bius; rmu = v.rmus; slots = v.data_slots } };
+    ghost inverse = { λ v. record {
+      biu = v.bius;
+      rmu = v.rmus;
+      slots = v.data_slots;
+      sync = sync_slot_of v;
+    } };
 }
 
 impl Shape {
@@ -32,7 +40,13 @@ impl Shape {
             ≡ record { bius = biu; rmus = rmu; data_slots = slots }) }
     {
         if (1..=16).contains(&biu) && (1..=16).contains(&rmu) && (1..=64).contains(&slots) {
-            Some(Shape { biu, rmu, slots })
+            let sync = 2 * u16::from(biu) + u16::from(rmu) + slots;
+            Some(Shape {
+                biu,
+                rmu,
+                slots,
+                sync,
+            })
         } else {
             None
         }
@@ -68,6 +82,6 @@ impl Shape {
         ensures value { result ≡ sync_slot_of self.now }
         ensures most { result ≤ 112 }
     {
-        2 * u16::from(self.biu) + u16::from(self.rmu) + self.slots
+        self.sync
     }
 }

@@ -1,15 +1,15 @@
 //! What an engine keeps of one slot.
-ghost use Rattle.std.specs.Prelude.{◌≡◌, ℕ, ◌<◌, false, List, get_or};
+ghost use Rattle.std.specs.Prelude.{◌≡◌, ℕ, ◌<◌, false, IsTrue, List, get_or};
 ghost use Rattle.rb_base.specs.Nodes.{Side, side_of};
 ghost use Rattle.rb_base.specs.Sizes.{Sizes, sync_slot_of};
 ghost use Rattle.rb_rules.specs.NodeState.{trusted_of};
-ghost use Rattle.rb_rules.specs.Slots.{role_of, sender_in};
+ghost use Rattle.rb_rules.specs.Slots.{listens, role_of, sender_in};
 ghost use Rattle.rb_slot.specs.KeptSlots.{IsKeptSlot, speaks_of};
 ghost use Rattle.rb_slot.specs.Senders.{sender_of};
 
 use crate::engine::{Engine, PASSIVE};
 use crate::sender::Sender;
-use crate::slots::{has_third_stage, role_of, sends_first};
+use crate::slots::{has_third_stage, listens, role_of, sends_first};
 use rb_base::{Kind, Shape};
 use rb_rules::Role;
 
@@ -97,6 +97,15 @@ impl<K: Kind> Engine<K> {
         } else {
             self.kept = no_slot(self.plan.shape());
         }
+    }
+
+    // Whether it is known at once that this node does not listen in a stage.
+    #[inline(always)]
+    pub(crate) fn is_idle(&self, slot: u16, stage: u8) -> bool
+        ensures { IsTrue result
+            → listens (side_of K.CODE) (role_of self.now.sizes slot) stage ≡ false }
+    {
+        slot == self.kept.slot && !listens(K::CODE, self.kept.role, stage)
     }
 
     // At the close of the last stage of a slot the next one is kept.

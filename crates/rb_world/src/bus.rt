@@ -215,7 +215,7 @@ impl Bus {
     }
 
     /// A message of a good node is on its way to the nodes of the other kind that run.
-    #[inline(never)]
+    #[inline(always)]
     pub fn send(&self, agenda: &mut Agenda, departure: &Departure, running: u16)
         requires node { IsNodeOf self.now.sizes departure.now.from }
         requires tick { departure.now.tick ≤ 2 ^ 31 }

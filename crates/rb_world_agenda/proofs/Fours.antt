@@ -1,10 +1,9 @@
 -- The least of 32 marks is read off the least of each four.
-use Rattle.std.proofs.Common.{◌≡◌, ℕ, ◌+◌, ◌*◌, ◌/◌, ◌<◌, ◌≤◌, nat_le, Bool, true, false, if◌then◌else◌, min, List, length, take, get_or, inl, inr, refl, sym, ap, ◌∙◌, subst, arith}
+use Rattle.std.proofs.Common.{◌≡◌, ℕ, ◌+◌, ◌*◌, ◌/◌, ◌<◌, ◌≤◌, min, List, length, get_or, inl, inr, sym, ap, ◌∙◌, subst, arith}
 use Rattle.std.specs.Prelude.{slice_set}
 use Rattle.std.proofs.Math.Path.{ap₂}
 use Rattle.std.proofs.lemmas.Bool.{cases_eq, cases_lt}
-use Rattle.std.proofs.lemmas.Bool.Decides.{nat_tests}
-use Rattle.std.proofs.lemmas.List.{length-set, get_or-set_same, get_or-set_other, get_or-take, length-take, take_all}
+use Rattle.std.proofs.lemmas.List.{length-set, get_or-set_same, get_or-set_other}
 use Rattle.rb_world_agenda.specs.Agenda.{least_key}
 use Rattle.rb_world_agenda.specs.Fours.{AreFours, four_at}
 use Rattle.rb_world_agenda.proofs.Fronts.{least-above, least-low, least-most}
@@ -96,42 +95,39 @@ kept-high all leasts opened at j h few =
       | inr n ↦ subst (λ n. least_key all ≤ n) (sym (h.others j few n)) (four-high all (j * 4) (omega (arith, few, marks)))
     ]
 
--- the least of what is kept of the first fours and of the open four is at most each of their marks
-below : (all leasts : List ℕ) (opened at own rest n : ℕ) → AreFours all leasts opened at → own ≡ four_at all (opened * 4) → own < 18446744073709551616 → n ≤ 32
-    → ((j : ℕ) → j * 4 < n → rest ≤ get_or leasts j 0) → min own rest ≤ least_key (take n all)
-below all leasts opened at own rest n h is fits most low =
+-- the least of what is kept of all fours and of the open four is at most each mark
+below : (all leasts : List ℕ) (opened at own rest : ℕ) → AreFours all leasts opened at → own ≡ four_at all (opened * 4) → own < 18446744073709551616
+    → ((j : ℕ) → j < 8 → rest ≤ get_or leasts j 0) → min own rest ≤ least_key all
+below all leasts opened at own rest h is fits low =
     let marks = h.marks in
-    let long = length-take n all in
-    least-above (take n all) (min own rest) (omega (arith, fits)) (λ k inside.
-    let within : k < n = omega (arith, inside, long) in
+    least-above all (min own rest) (omega (arith, fits)) (λ k inside.
     let j : ℕ = k / 4 in
+    let few : j < 8 = omega (arith, inside, marks) in
     let four : four_at all (j * 4) ≤ get_or all k 0 = four-low all (j * 4) k (omega arith) (omega arith) in
     let under : min own rest ≤ four_at all (j * 4) = elim (cases_eq j opened) as (λ _. min own rest ≤ four_at all (j * 4)) [
       | inl e ↦ subst (λ m. min own rest ≤ four_at all (m * 4)) (sym e) (omega (arith, is))
       | inr apart ↦
-          let kept = low j (omega (arith, within)) in
-          let same = h.others j (omega (arith, within, most)) apart in
+          let kept = low j few in
+          let same = h.others j few apart in
           omega (arith, kept, same)
     ] in
-    subst (λ m. min own rest ≤ m) (sym (get_or-take n all k 0 within)) (omega (arith, four, under)))
+    omega (arith, four, under))
 
 -- the least of both halves is the least of all 32 keys
-pub fours-least : (all leasts : List ℕ) (opened at own : ℕ) → AreFours all leasts opened at → own ≡ four_at all (opened * 4) → own < 18446744073709551616
-    → min own (min (four_at leasts 0) (four_at leasts 4)) ≡ least_key all
-fours-least all leasts opened at own h is fits =
-    let rest : ℕ = min (four_at leasts 0) (four_at leasts 4) in
+pub fours-least : (all leasts : List ℕ) (opened at own rest found : ℕ) → AreFours all leasts opened at → own ≡ four_at all (opened * 4) → own < 18446744073709551616
+    → rest ≡ min (four_at leasts 0) (four_at leasts 4) → found ≡ min own rest → found ≡ least_key all
+fours-least all leasts opened at own rest found h is fits are sum =
     let marks = h.marks in
     let within = h.within in
-    let low : min own rest ≤ least_key (take 32 all) = below all leasts opened at own rest 32 h is fits (omega arith) (λ j few.
+    let lower : min own rest ≤ least_key all = below all leasts opened at own rest h is fits (λ j few.
     elim (cases_lt j 4) as (λ _. rest ≤ get_or leasts j 0) [
-      | inl less ↦ let four = four-low leasts 0 j (omega arith) (omega (arith, less)) in omega (arith, four)
-      | inr ge ↦ let four = four-low leasts 4 j (omega (arith, ge)) (omega (arith, few)) in omega (arith, four)
+      | inl less ↦ let four = four-low leasts 0 j (omega arith) (omega (arith, less)) in omega (arith, four, are)
+      | inr ge ↦ let four = four-low leasts 4 j (omega (arith, ge)) (omega (arith, few)) in omega (arith, four, are)
     ]) in
-    let lower : min own rest ≤ least_key all = subst (λ l. min own rest ≤ least_key l) (take_all 32 all (omega (arith, marks))) low in
     let mine : least_key all ≤ own = subst (λ m. least_key all ≤ m) (sym is) (four-high all (opened * 4) (omega (arith, within, marks))) in
     let first : least_key all ≤ four_at leasts 0 = kept-four all leasts opened at 0 h (omega arith) in
     let second : least_key all ≤ four_at leasts 4 = kept-four all leasts opened at 4 h (omega arith) in
-    omega (arith, lower, mine, first, second)
+    omega (arith, lower, mine, first, second, are, sum)
   where
     kept-four : (all leasts : List ℕ) (opened at i : ℕ) → AreFours all leasts opened at → i + 4 ≤ 8 → least_key all ≤ four_at leasts i
     kept-four all leasts opened at i h few =
@@ -140,29 +136,3 @@ fours-least all leasts opened at own h is fits =
         let c = kept-high all leasts opened at (i + 2) h (omega (arith, few)) in
         let d = kept-high all leasts opened at (i + 3) h (omega (arith, few)) in
         omega (arith, a, b, c, d)
-
--- if the least is among the first 16 keys, the least of the first half is the least of all
-pub fours-half : (all leasts : List ℕ) (opened at own : ℕ) → AreFours all leasts opened at → own ≡ four_at all (opened * 4) → own < 18446744073709551616
-    → least_key (take 16 all) ≡ least_key all → min own (four_at leasts 0) ≡ least_key all
-fours-half all leasts opened at own h is fits half =
-    let rest : ℕ = four_at leasts 0 in
-    let marks = h.marks in
-    let within = h.within in
-    let low : min own rest ≤ least_key (take 16 all) = below all leasts opened at own rest 16 h is fits (omega arith) (λ j few.
-    four-low leasts 0 j (omega arith) (omega (arith, few))) in
-    let mine : least_key all ≤ own = subst (λ m. least_key all ≤ m) (sym is) (four-high all (opened * 4) (omega (arith, within, marks))) in
-    let a = kept-high all leasts opened at 0 h (omega arith) in
-    let b = kept-high all leasts opened at 1 h (omega arith) in
-    let c = kept-high all leasts opened at 2 h (omega arith) in
-    let d = kept-high all leasts opened at 3 h (omega arith) in
-    omega (arith, low, half, mine, a, b, c, d)
-
--- what is found is the least of all
-pub fours-found : (all leasts : List ℕ) (opened at own kept found count : ℕ) → AreFours all leasts opened at → (count ≤ 16 → least_key (take 16 all) ≡ least_key all)
-    → own ≡ four_at all (opened * 4) → own < 18446744073709551616
-    → kept ≡ (if nat_le count 16 then four_at leasts 0 else min (four_at leasts 0) (four_at leasts 4)) → found ≡ min own kept → found ≡ least_key all
-fours-found all leasts opened at own kept found count h half is fits are sum = go (nat_le count 16) refl are
-  where
-    go : (b : Bool) → nat_le count 16 ≡ b → kept ≡ (if b then four_at leasts 0 else min (four_at leasts 0) (four_at leasts 4)) → found ≡ least_key all
-    go true few are = sum ∙ ap (min own) are ∙ fours-half all leasts opened at own h is fits (half (grind (arith, nat_tests)))
-    go false few are = sum ∙ ap (min own) are ∙ fours-least all leasts opened at own h is fits

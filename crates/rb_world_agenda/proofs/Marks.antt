@@ -1,13 +1,11 @@
 -- The marks of ticks, and what is read off the least of them.
-use Rattle.std.proofs.Common.{◌≡◌, ℕ, zero, suc, ◌+◌, ◌-◌, ◌*◌, ◌/◌, ◌%◌, Bool, ◌<◌, ◌≤◌, nat_lt, true, false, if◌then◌else◌, List, [], ◌∷◌, ◌++◌, length, take, min, get_or, refl, sym, ap, ◌∙◌, subst, arith, inl, inr, length-append}
+use Rattle.std.proofs.Common.{◌≡◌, ℕ, zero, suc, ◌+◌, ◌-◌, ◌*◌, ◌/◌, ◌%◌, Bool, ◌<◌, ◌≤◌, nat_lt, true, false, if◌then◌else◌, List, [], ◌∷◌, ◌++◌, length, min, get_or, refl, sym, ap, ◌∙◌, subst, arith, inl, inr, length-append}
 use Rattle.std.specs.Prelude.{slice_set}
 use Rattle.std.proofs.Math.ListN.{replicate}
 use Rattle.std.proofs.lemmas.Bool.{cases_lt}
 use Rattle.std.proofs.lemmas.Bool.Decides.{nat_tests}
-use Rattle.std.proofs.lemmas.List.{length-replicate, length-set, set-append_left, take_all}
-use Rattle.rb_rules.specs.Book.{Each}
-use Rattle.rb_queue.specs.Waiting.{Held}
-use Rattle.rb_world_agenda.specs.Agenda.{AreTicks, filled, least_key, mark_of, marks_from, tick_times}
+use Rattle.std.proofs.lemmas.List.{length-replicate, length-set, set-append_left}
+use Rattle.rb_world_agenda.specs.Agenda.{filled, least_key, mark_of, marks_from}
 use Rattle.rb_world_agenda.specs.Fronts.{IsFront}
 use Rattle.rb_world_agenda.proofs.Fronts.{least-above, least-low}
 
@@ -55,20 +53,18 @@ length-filled ms few =
     length-append ms (replicate (32 - length ms) 18446744073709551615)
     ∙ omega (arith, few, length-replicate {A = ℕ} (32 - length ms) 18446744073709551615)
 
-none-least : (n r : ℕ) → least_key (take n (replicate r 18446744073709551615)) ≡ 18446744073709551615
+none-least : (r : ℕ) → least_key (replicate r 18446744073709551615) ≡ 18446744073709551615
 unfolding least_key
-none-least zero r = refl
-none-least (suc n) zero = refl
-none-least (suc n) (suc r) = omega (arith, none-least n r)
+none-least zero = refl
+none-least (suc r) = omega (arith, none-least r)
 
-least-front : (ms : List ℕ) (n r : ℕ) → length ms ≤ n → least_key (take n (ms ++ replicate r 18446744073709551615)) ≡ least_key ms
+least-front : (ms : List ℕ) (r : ℕ) → least_key (ms ++ replicate r 18446744073709551615) ≡ least_key ms
 unfolding least_key
-least-front [] n r h = none-least n r
-least-front (x ∷ ms) zero r h = absurd (omega (arith, h))
-least-front (x ∷ ms) (suc n) r h = ap (min x) (least-front ms n r (omega (arith, h)))
+least-front [] r = none-least r
+least-front (x ∷ ms) r = ap (min x) (least-front ms r)
 
-least-filled : (ms : List ℕ) → length ms ≤ 32 → least_key (filled ms) ≡ least_key ms
-least-filled ms few = ap least_key (sym (take_all 32 (filled ms) (omega (arith, length-filled ms few)))) ∙ least-front ms 32 (32 - length ms) few
+least-filled : (ms : List ℕ) → least_key (filled ms) ≡ least_key ms
+least-filled ms = least-front ms (32 - length ms)
 
 -- The least mark.
 
@@ -131,14 +127,6 @@ front-marks ts first least few small is some =
       before = λ j below. let inside = there.0 in (above j (omega (arith, below, inside))).1 below;
     }
 
-pub first-ticks : (lanes : Each Held) (ticks : List ℕ) (count : ℕ) → AreTicks lanes ticks → count ≡ length (tick_times lanes) → count ≤ 16
-    → least_key (take 16 ticks) ≡ least_key ticks
-first-ticks lanes ticks count are many h =
-    let ms : List ℕ = marks_from 0 (tick_times lanes) in
-    let long = length-marks 0 (tick_times lanes) in
-    ap (λ l. least_key (take 16 l)) are ∙ least-front ms 16 (32 - length ms) (omega (arith, long, many, h))
-    ∙ sym (ap least_key are ∙ least-filled ms (omega (arith, long, many, h)))
-
 pub front-read : (ts ticks : List ℕ) (mark : ℕ) → ticks ≡ filled (marks_from 0 ts) → length ts ≤ 32 → mark ≡ least_key ticks → (mark ≡ 18446744073709551615 → ⊥)
     → mark < 18446744073709551616 → IsFront ts (record { first = mark % 32; least = mark / 32 })
 front-read ts ticks mark are few is not fits =
@@ -147,4 +135,4 @@ front-read ts ticks mark are few is not fits =
       | inl less ↦ omega (arith, less, parts)
       | inr ge ↦ absurd (not (omega (arith, ge, fits)))
     ] in
-    front-marks ts (mark % 32) (mark / 32) few (omega arith) (sym (least-filled (marks_from 0 ts) (omega (arith, few, length-marks 0 ts))) ∙ ap least_key (sym are) ∙ sym is ∙ parts) some
+    front-marks ts (mark % 32) (mark / 32) few (omega arith) (sym (least-filled (marks_from 0 ts)) ∙ ap least_key (sym are) ∙ sym is ∙ parts) some

@@ -140,7 +140,7 @@ pub(crate) fn tick_front(lanes: &RunLanes, ticks: &mut Marks, bius: usize, count
     ensures ticks { ticks.new.all ≡ ticks.old.all }
     ensures fours { AreFours ticks.new.all ticks.new.leasts ticks.new.opened ticks.new.at }
 {
-    let least = ticks.least(count);
+    let least = ticks.least();
     if least == u64::MAX {
         return late_front(lanes, bius, count);
     }

@@ -1,5 +1,5 @@
 //! The marks of the ticks of all nodes, and beside them the least of each four.
-ghost use Rattle.std.specs.Prelude.{◌≡◌, ◌+◌, ◌*◌, ◌/◌, ◌<◌, ◌≤◌, length, nat_le, slice_set, take, if◌then◌else◌, min};
+ghost use Rattle.std.specs.Prelude.{◌≡◌, ◌+◌, ◌*◌, ◌/◌, ◌<◌, ◌≤◌, length, slice_set, min};
 ghost use Rattle.std.proofs.Math.ListN.{replicate};
 ghost use Rattle.rb_world_agenda.specs.Agenda.{least_key};
 ghost use Rattle.rb_world_agenda.specs.Fours.{AreFours, four_at};
@@ -28,18 +28,12 @@ fn four_at(all: &[u64], i: usize) -> u64
     first.min(second)
 }
 
-// The least of those that are kept. The first four are usually enough: this is the short cut "first
-// marks" of docs/PERFORMANCE.md.
+// The least of those that are kept.
 #[inline(always)]
-fn least_kept(leasts: &[u64; 8], count: usize) -> u64
-    ensures { result ≡ (if nat_le count 16 then four_at leasts.now 0
-        else min (four_at leasts.now 0) (four_at leasts.now 4)) }
+fn least_kept(leasts: &[u64; 8]) -> u64
+    ensures { result ≡ min (four_at leasts.now 0) (four_at leasts.now 4) }
 {
-    let first = four_at(leasts, 0);
-    if count <= 16 {
-        return first;
-    }
-    first.min(four_at(leasts, 4))
+    four_at(leasts, 0).min(four_at(leasts, 4))
 }
 
 // The least of the four that were open is kept, and others are open.
@@ -101,15 +95,14 @@ impl Marks {
 
     // The least of all marks. Its four are open then.
     #[inline(always)]
-    pub(crate) fn least(&mut self, count: usize) -> u64
-        requires few { count ≤ 16 → least_key (take 16 self.old.all) ≡ least_key self.old.all }
-        requires fours { AreFours self.old.all self.old.leasts self.old.opened self.old.at }
+    pub(crate) fn least(&mut self) -> u64
+        requires { AreFours self.old.all self.old.leasts self.old.opened self.old.at }
         ensures least { result ≡ least_key self.old.all }
         ensures marks { self.new.all ≡ self.old.all }
         ensures fours { AreFours self.new.all self.new.leasts self.new.opened self.new.at }
     {
         let own = four_at(&self.all, self.opened * 4);
-        let least = own.min(least_kept(&self.leasts, count));
+        let least = own.min(least_kept(&self.leasts));
         if least == u64::MAX {
             return least;
         }

@@ -68,7 +68,7 @@ fn place_in(departure: &Departure) -> Place
 
 // A message that leaves at a time comes to each of these nodes of the other kind, later by its
 // delay.
-#[inline(never)]
+#[inline(always)]
 fn spread(
     agenda: &mut Agenda,
     delays: &Delays,
@@ -131,6 +131,7 @@ fn spread_from(
 /// Puts a message of a good node into the lanes of the nodes of the other kind that still run, one
 /// bit of `running` for each. It comes to each at the time of the sending tick and the delay of the
 /// link, and all get the same bytes. `clock` is the sender's.
+#[inline(always)]
 pub fn send(
     agenda: &mut Agenda,
     clock: &Clock,

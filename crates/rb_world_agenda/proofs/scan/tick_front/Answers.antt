@@ -1,10 +1,7 @@
 use Rattle.rb_world_agenda.specs.Agenda.{tick_times}
-use Rattle.rb_world_agenda.proofs.Marks.{first-ticks, front-read}
+use Rattle.rb_world_agenda.proofs.Marks.{front-read}
 use Rattle.rb_world_agenda.proofs.Ticks.{few-times}
 use Rattle.rb_world_agenda.proofs.scan.tick_front.Goals as goal
-
-pub least-least-requires-clause-few : goal.least-least-requires-clause-few
-least-least-requires-clause-few c = first-ticks c.args.lanes.now c.args.ticks.now.all c.args.count c.requires.ticks c.requires.many
 
 pub returns-clause-front : goal.returns-clause-front
 returns-clause-front c =
