@@ -1,3 +1,4 @@
+pub mod Following
 pub mod Promise
 pub mod Whole
 pub mod Passes
