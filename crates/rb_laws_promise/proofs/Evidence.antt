@@ -1,5 +1,5 @@
 -- In each moment of a run the standing of each good node follows the evidence that it found.
-use Rattle.std.proofs.Common.{◌≡◌, ℕ, zero, suc, ◌+◌, ◌<◌, ◌≤◌, ◌==◌, ◌&&◌, ◌⊎◌, inl, inr, nat_lt, nat_le, Bool, true, false, if◌then◌else◌, List, length, map, Option, Some, None, is_some, slice_get, refl, sym, ◌∙◌, ap, subst, arith}
+use Rattle.std.proofs.Common.{◌≡◌, ℕ, zero, suc, ◌+◌, ◌<◌, ◌≤◌, ◌==◌, ◌&&◌, ◌⊎◌, inl, inr, nat_le, Bool, true, false, if◌then◌else◌, List, length, map, Option, Some, None, is_some, slice_get, refl, sym, ◌∙◌, ap, subst, arith}
 use Rattle.std.proofs.lemmas.Bool.{and_parts, cases_lt, eqb-true, le-leb, leb-true}
 use Rattle.std.proofs.lemmas.Option.{same_Some}
 use Rattle.rb_base.specs.Nodes.{Side, has, other}
@@ -11,7 +11,7 @@ use Rattle.rb_rules.specs.declared.plan.Window.{Window}
 use Rattle.rb_rules.specs.declared.role.Role.{Role}
 use Rattle.rb_rules.specs.declared.role.Role.TheVariants.{Sync}
 use Rattle.rb_rules.specs.declared.sense.Sense.{Sense}
-use Rattle.rb_rules.specs.Book.{Each, each_of, of_kind}
+use Rattle.rb_rules.specs.Book.{each_of, of_kind}
 use Rattle.rb_rules.specs.Conviction.{convicted_at, turn}
 use Rattle.rb_rules.specs.ExactStage.{Outcome, close_exact, compare_with, keep_sent, outcome_of, says, with_unlike}
 use Rattle.rb_rules.specs.Goodness.{Scenario, clock_of, is_good}
@@ -20,7 +20,7 @@ use Rattle.rb_rules.specs.Lawful.{IsLawful}
 use Rattle.rb_rules.specs.NodeState.{NodeState, first_state, trusted_of}
 use Rattle.rb_rules.specs.NodeSteps.{close, expect_of, turn_if_known}
 use Rattle.rb_rules.specs.Ports.{HandIn}
-use Rattle.rb_rules.specs.Rounds.{Moment, Result, IsGoodIn, after_window, begin_frame, close_on, first_moment, go_through, heard_at, moment, next_frame, results_of, sent_in, window_in, windows_in, word_for_window}
+use Rattle.rb_rules.specs.Rounds.{Moment, Result, IsGoodIn, begin_frame, close_on, go_through, heard_at, moment, sent_in, window_in, windows_in, word_for_window}
 use Rattle.rb_rules.specs.Sense.{sense_of}
 use Rattle.rb_rules.specs.Slots.{count_of, expects, role_of, sender_in}
 use Rattle.rb_rules.specs.Standing.{Standing, has_evidence, standing_at_end, with_evidence, without}
@@ -177,17 +177,17 @@ through-keeps sc hands n me i st inside good k = by (nat_le w.first w.last) refl
 
 -- The turn.
 
-turned-by : (sizes : Sizes) (probation : ℕ) (me : Side) (st : NodeState) (o : Option ℕ) → is_some o ≡ true
-    → (epoch : ℕ) × ((elim o as (λ _. NodeState) [ None ↦ st | Some epoch ↦ turn sizes probation me epoch st ]) ≡ turn sizes probation me epoch st)
-turned-by sizes probation me st None h = cc
-turned-by sizes probation me st (Some epoch) h = (epoch, refl)
-
 turned-far : (sc : Scenario) (me : Side) (st : NodeState) → is_some (new_epoch_of sc.plan me st) ≡ true
-    → (trusted : ℕ) × ((turn_if_known sc.sizes sc.plan me st).far ≡ standing_at_end sc.plan.probation (record st.far { trusted = trusted }))
+    → (turn_if_known sc.sizes sc.plan me st).far
+    ≡ standing_at_end sc.plan.probation (record st.far { trusted = without st.far.trusted (convicted_at sc.sizes me st (other me)) })
 unfolding turn
-turned-far sc me st known =
-    let by = turned-by sc.sizes sc.plan.probation me st (new_epoch_of sc.plan me st) known in
-    (without st.far.trusted (convicted_at sc.sizes me st (other me)), ap (λ (st : NodeState). st.far) by.1)
+turned-far sc me st known = by (new_epoch_of sc.plan me st) known
+  where
+    by : (next : Option ℕ) → is_some next ≡ true
+        → (elim next as (λ _. NodeState) [ None ↦ st | Some epoch ↦ turn sc.sizes sc.plan.probation me epoch st ]).far
+        ≡ standing_at_end sc.plan.probation (record st.far { trusted = without st.far.trusted (convicted_at sc.sizes me st (other me)) })
+    by None h = let no : false ≡ true = h in cc
+    by (Some epoch) h = refl
 
 -- The run.
 
@@ -247,12 +247,11 @@ frame-keep sc hands n law over keep me i st there good =
     let full : m.window ≡ windows_in sc.sizes = omega arith in
     let known : is_some (new_epoch_of sc.plan me old.0) ≡ true =
     epoch-known sc.sizes sc.plan me old.0 (subst (λ n. Knows sc.sizes me n old.0) full (stand.stands me i old.0 old.1 before).knows) in
-    let turned = turned-far sc me old.0 known in
     let now : NodeState = turn_if_known sc.sizes sc.plan me old.0 in
     let same : now ≡ st = same_Some now st (sym (state-turned sc hands m me i old.0 old.1) ∙ ap (λ nodes. slice_get (of_kind me nodes) i) (sym next.nodes) ∙ there) in
     subst (λ f. Keeps sc.plan.probation f st.far (Evidence sc hands (suc n) me i)) (sym frame_is)
-    (subst (λ s. Keeps sc.plan.probation (m.frame + 1) s (Evidence sc hands (suc n) me i)) (sym turned.1 ∙ ap (λ (st : NodeState). st.far) same)
-    (turn-keeps sc.plan.probation m.frame turned.0 old.0.far (Evidence sc hands (suc n) me i) law.plan.probation
+    (subst (λ s. Keeps sc.plan.probation (m.frame + 1) s (Evidence sc hands (suc n) me i)) (sym (turned-far sc me old.0 known) ∙ ap (λ (st : NodeState). st.far) same)
+    (turn-keeps sc.plan.probation m.frame (without old.0.far.trusted (convicted_at sc.sizes me old.0 (other me))) old.0.far (Evidence sc hands (suc n) me i) law.plan.probation
     (nothing-found sc hands n me i old.0 old.0.far old.1 (λ j found. let below : m.window < windows_in sc.sizes = found.in_frame in omega arith)
     (keep me i old.0 old.1 before))))
 

@@ -1,7 +1,7 @@
 -- A standing that follows the evidence against each source goes on to do so, through a window and
 -- over the end of a frame.
-use Rattle.std.proofs.Common.{◌≡◌, ℕ, ◌+◌, ◌<◌, ◌≤◌, ◌⊎◌, inl, inr, Bool, true, false, not, ◌&&◌, ◌||◌, if◌then◌else◌, refl, sym, ◌∙◌, ap, subst, arith}
-use Rattle.std.proofs.lemmas.Bool.{and_parts, or_right}
+use Rattle.std.proofs.Common.{◌≡◌, ℕ, ◌+◌, ◌<◌, ◌≤◌, ◌⊎◌, inl, inr, Bool, true, false, not, ◌&&◌, ◌||◌, if◌then◌else◌, refl, sym, ◌∙◌, arith}
+use Rattle.std.proofs.lemmas.Bool.{and_parts, not-true, or_left, or_right}
 use Rattle.std.proofs.lemmas.Bool.Decides.{nat_tests}
 use Rattle.rb_base.specs.Nodes.{has}
 use Rattle.rb_base.proofs.Plain.{or-false}
@@ -38,14 +38,9 @@ follows q frame s Against k = record {
       let is : IsNewest q frame (Against j) (k.newest j) = k.is j below h in
       record { f = k.newest j; is_of = is.is_of; newest = is.newest; stands = k.says j below h };
   trusted = k.trusted;
-  past = k.past;
 }
 
 -- Lapsing.
-
-not-true : (b : Bool) → not b ≡ true → b ≡ false
-not-true true h = let no : false ≡ true = h in cc
-not-true false h = refl
 
 -- evidence of this frame has not lapsed, and what lasts in a frame lasted in the one before, and
 -- with newer evidence too
@@ -95,9 +90,6 @@ pub record Adds (evidence : ℕ → Bool) (frame : ℕ) (Before After : ℕ → 
   pub added : (j : ℕ) → evidence j ≡ true → After j frame
   pub only : (j f : ℕ) → After j f → Before j f ⊎ ((f ≡ frame) × (evidence j ≡ true))
 
-or-left : (a b : Bool) → a ≡ true → (a || b) ≡ true
-or-left a b h = rw h refl
-
 pub window-keeps : (q frame : ℕ) (s : Standing) (evidence : ℕ → Bool) (mismatch : ℕ) (Before After : ℕ → ℕ → Type 0)
     → ((j : ℕ) → evidence j ≡ true → has s.trusted j ≡ true) → Adds evidence frame Before After → Keeps q frame s Before
     → Keeps q frame (record (with_evidence evidence s) { mismatch = mismatch }) After
@@ -126,11 +118,11 @@ window-keeps q frame s evidence mismatch Before After against adds k = record {
     past-by j f (inr new) = let e : f ≡ frame = new.0 in omega arith
 
     accused-by : (j f : ℕ) → j < 16 → has_lapsed q f frame ≡ false → Before j f ⊎ ((f ≡ frame) × (evidence j ≡ true)) → (has s.direct j || evidence j) ≡ true
-    accused-by j f below lasts (inl old) = or-left (has s.direct j) (evidence j) (k.accused j f below old lasts)
+    accused-by j f below lasts (inl old) = or_left (has s.direct j) (evidence j) (k.accused j f below old lasts)
     accused-by j f below lasts (inr new) = or_right (has s.direct j) (evidence j) new.1
 
     fresh-by : (j : ℕ) → j < 16 → Before j frame ⊎ ((frame ≡ frame) × (evidence j ≡ true)) → (has s.fresh j || evidence j) ≡ true
-    fresh-by j below (inl old) = or-left (has s.fresh j) (evidence j) (k.is_fresh j below old)
+    fresh-by j below (inl old) = or_left (has s.fresh j) (evidence j) (k.is_fresh j below old)
     fresh-by j below (inr new) = or_right (has s.fresh j) (evidence j) new.1
 
     not-new : (j f : ℕ) → evidence j ≡ false → Before j f ⊎ ((f ≡ frame) × (evidence j ≡ true)) → Before j f

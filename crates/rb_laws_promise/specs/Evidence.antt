@@ -71,7 +71,6 @@ pub record FollowsEvidence (probation frame : ℕ) (s : Standing) (Against : ℕ
   pub fresh : (j : ℕ) → j < 16 → (has s.fresh j ≡ true) ↔ Against j frame
   pub calm : (j : ℕ) → j < 16 → has s.direct j ≡ true → KnowsNewest s frame j (Against j)
   pub trusted : (j : ℕ) → Against j frame → has s.trusted j ≡ true
-  pub past : (j f : ℕ) → Against j f → f ≤ frame
 
 -- in each moment of the run of a lawful scenario, with any hand-ins, the standing of each good node
 -- is what the evidence that it found until then makes of it
