@@ -1,3 +1,5 @@
+pub mod Following
+pub mod Evidence
 pub mod Promise
 pub mod Whole
 pub mod Passes

@@ -1,3 +1,4 @@
+pub mod Evidence
 pub mod Laws
 pub mod Promise
 pub mod Shares

@@ -2,6 +2,7 @@
 //! nothing.
 #![tactic(auto)]
 
+ghost use Rattle.rb_laws_promise.specs.Evidence.{AccusationsFollowEvidence};
 ghost use Rattle.rb_laws_promise.specs.Laws.{RoundsStandForTheBus, ThePromiseIsKept};
 ghost use Rattle.rb_laws_promise.specs.Promise.{AnyBehaviorKeepsThePromise, RunsKeepThePromise};
 ghost use Rattle.rb_laws_promise.specs.Shares.{GoodBiusGetTheirShare};
@@ -46,4 +47,13 @@ pub fn any_behavior_keeps_the_promise()
 /// run keeps the whole promise.
 pub fn strategies_gain_nothing()
     ensures { StrategiesGainNothing }
+{}
+
+/// In each moment of the run of a lawful scenario each good node accuses directly exactly those
+/// sources against which it found direct evidence that has not lapsed: evidence of frame `f` lapses
+/// as frame `f + q + 1` begins, with a probation of `q` frames, and never if `q` is 0. Its `fresh`
+/// is exactly those with evidence of this frame, and for those that it accuses its `calm` counts
+/// the frames since the newest.
+pub fn accusations_follow_evidence()
+    ensures { AccusationsFollowEvidence }
 {}
