@@ -39,8 +39,8 @@ pub record FindsEvidence (sc : Scenario) (m : Moment) (me : Side) (i : ℕ) (st 
 
 -- In a run.
 
--- direct evidence is a triple: the accuser, which is node i of kind me, the accused, which is node j
--- of the other kind, and the frame. It is found in one of the first n steps of a run
+-- direct evidence is a triple: the accuser, which is node i of kind me; the accused, which is node
+-- j of the other kind; and the frame. It is found in one of the first n steps of a run
 pub record Evidence (sc : Scenario) (hands : List HandIn) (n : ℕ) (me : Side) (i j frame : ℕ) : Type 0 where
   pub k : ℕ
   pub earlier : k < n

@@ -104,7 +104,7 @@ idle_steps me slot stage c sense v0 v1 v2 idle closed taken passed =
       left = passed ∙ ap (λ (o : Option Heard). record v { state = record v.state { sent = if stage == 2 then None else v.state.sent; got = if stage == 1 then o else v.state.got } }) nothing;
     }
 
--- such a close shows what the rules have it show
+-- the close of a node that does not listen shows what the rules have it show
 pub idle_shows : (me : Side) (slot stage frame : ℕ) (c : Closing) (sense : ℕ → Sense) (v0 v1 v2 v3 v4 v5 : Seated)
     → listens me (role_of v0.sizes slot) stage ≡ false
     → Steps me slot stage (role_of v0.sizes slot) (sender_at v0.sizes me v0.state slot) c sense v0 v1 v2 v3 v4 v5
