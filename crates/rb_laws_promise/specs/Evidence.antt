@@ -33,14 +33,14 @@ sense_in sc m me i st j =
 -- source j. There is none against a source that it trusts no more
 pub record FindsEvidence (sc : Scenario) (m : Moment) (me : Side) (i : ℕ) (st : NodeState) (j : ℕ) : Type 0 where
   pub good : IsGoodIn sc m me i st
-  pub in_frame : m.window < windows_in sc.sizes  -- a window comes next, and not the turn to the next frame
-  pub closes : (window_in sc m me st).first ≤ (window_in sc m me st).last  -- the window is not an empty tail
+  pub in_frame : m.window < windows_in sc.sizes  -- the frame does not end here
+  pub closes : (window_in sc m me st).first ≤ (window_in sc m me st).last  -- not an empty tail
   pub evidence : has_evidence st.far (expects_in sc m me st) (sense_in sc m me i st) j ≡ true
 
 -- In a run.
 
 -- direct evidence is a triple: the accuser, which is node i of kind me; the accused, which is node
--- j of the other kind; and the frame. It is found in one of the first n steps of a run
+-- j of the other kind; and the frame. This one is found in one of the first n steps of a run
 pub record Evidence (sc : Scenario) (hands : List HandIn) (n : ℕ) (me : Side) (i j frame : ℕ) : Type 0 where
   pub k : ℕ
   pub earlier : k < n
@@ -65,7 +65,9 @@ pub record KnowsNewest (s : Standing) (frame j : ℕ) (IsOf : ℕ → Type 0) : 
   pub stands : StandsForNewest s frame j f
 
 -- in this frame the standing is what the evidence makes of it; `Against j f` says that there is
--- evidence against source j of frame f
+-- evidence of frame f against source j. A source is accused directly if and only if evidence
+-- against it has not lapsed, and it is in `fresh` if and only if there is evidence of this frame.
+-- Evidence of this frame is against trusted sources alone
 pub record FollowsEvidence (probation frame : ℕ) (s : Standing) (Against : ℕ → ℕ → Type 0) : Type 0 where
   pub direct : (j : ℕ) → j < 16 → (has s.direct j ≡ true) ↔ HasNotLapsed probation frame (Against j)
   pub fresh : (j : ℕ) → j < 16 → (has s.fresh j ≡ true) ↔ Against j frame
@@ -73,7 +75,7 @@ pub record FollowsEvidence (probation frame : ℕ) (s : Standing) (Against : ℕ
   pub trusted : (j : ℕ) → Against j frame → has s.trusted j ≡ true
 
 -- in each moment of the run of a lawful scenario, with any hand-ins, the standing of each good node
--- is what the evidence that it found until then makes of it
+-- is what the evidence that it has found makes of it. This holds after a breach too
 abbrev pub AccusationsFollowEvidence : Type 0
 AccusationsFollowEvidence =
     (sc : Scenario) (hands : List HandIn) → IsLawful sc

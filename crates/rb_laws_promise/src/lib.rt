@@ -49,11 +49,11 @@ pub fn strategies_gain_nothing()
     ensures { StrategiesGainNothing }
 {}
 
-/// In each moment of the run of a lawful scenario each good node accuses directly exactly those
-/// sources against which it found direct evidence that has not lapsed: evidence of frame `f` lapses
-/// as frame `f + q + 1` begins, with a probation of `q` frames, and never if `q` is 0. Its `fresh`
-/// is exactly those with evidence of this frame, and for those that it accuses its `calm` counts
-/// the frames since the newest.
+/// In each moment of the run of a lawful scenario, after a breach too, each good node accuses
+/// directly exactly those sources against which it has found direct evidence that has not lapsed:
+/// with a probation of `q` frames evidence of frame `f` lapses as frame `f + q + 1` begins, and if
+/// `q` is 0, none lapses. The sources in `fresh` are those with evidence of this frame, and for
+/// each source that is accused `calm` counts the frames since its newest evidence.
 pub fn accusations_follow_evidence()
     ensures { AccusationsFollowEvidence }
 {}

@@ -1,13 +1,15 @@
 -- Several frames, and buses by their number.
-use Rattle.std.specs.Prelude.{List, [], ◌∷◌, ◌++◌, replicate, Some, None}
+use Rattle.std.specs.Prelude.{ℕ, List, [], ◌∷◌, ◌++◌, replicate, Option, Some, None, option_map, slice_get}
+use Rattle.rb_base.specs.Nodes.Side.{Rmu}
 use Rattle.rb_rules.specs.declared.cause.Cause.TheVariants.{FewGoodRmu}
 use Rattle.rb_rules.specs.declared.link.Pattern.TheVariants.{One, AllBiu, AllRmu}
 use Rattle.rb_rules.specs.declared.message.Version.TheVariants as version
 use Rattle.rb_rules.specs.declared.say.Content.TheVariants.{Word, Fault, Sync}
-use Rattle.rb_rules.specs.Book.{Record}
+use Rattle.rb_rules.specs.Book.{Record, of_kind}
 use Rattle.rb_rules.specs.Book.Record.{Ended, Breach}
 use Rattle.rb_rules.specs.Goodness.{Scenario}
 use Rattle.rb_rules.specs.Ports.{HandIn}
+use Rattle.rb_rules.specs.Rounds.{moment}
 use Rattle.rb_test_rules.specs.Buses.{b, r, plan, steady, says, listing, raw}
 use Rattle.rb_test_rules.specs.Told.{word, none, at, all_begin, everybody, all_but, port, usual_ports, silent, delivered, usual_words}
 use Rattle.rb_test_rules.specs.Ordinary.{ordinary_use}
@@ -91,6 +93,10 @@ probation_passed_records =
     ++ all_begin 3 2616 26160000 0 0 (b 0 ∷ b 2 ∷ b 3 ∷ r 0 ∷ r 1 ∷ []) (port 0 10 1 ∷ port 2 30 1 ∷ port 3 40 1 ∷ [])
     ∷ Ended
     ∷ []
+
+-- the BIUs that RMU 0 accuses directly after n steps of that run
+abbrev pub accused_after : ℕ → Option ℕ
+accused_after n = option_map (λ st. st.far.direct) (slice_get (of_kind Rmu (moment probation_passed [] n).nodes) 0)
 
 -- the ordinary use without a probation
 abbrev pub no_probation : Scenario

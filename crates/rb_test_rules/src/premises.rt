@@ -15,6 +15,7 @@ ghost use Rattle.rb_laws_synchrony.specs.OneFrame.{IsFrame, KeepsPremise as Meet
 ghost use Rattle.rb_laws_synchrony.specs.OneStage.{HearNear, middle_kept};
 ghost use Rattle.rb_laws_events.specs.OwnMoments.{IsBeforeTheBreak};
 ghost use Rattle.rb_laws_sweeps.specs.Laws.{NeedsEvent};
+ghost use Rattle.rb_laws_promise.specs.Evidence.{Evidence};
 ghost use Rattle.rb_laws_letters.specs.Laws.{AreFirst};
 ghost use Rattle.rb_laws_letters.specs.Offers.{IsGoodThrough, offered_by};
 ghost use Rattle.rb_laws_letters.specs.Sent.{IsFirstPart, IsLetter, without_zeros, words_of};
@@ -23,6 +24,7 @@ ghost use Rattle.rb_laws_listener_learns.specs.Onsets.{BeginsBeside};
 ghost use Rattle.rb_laws_listener_near.specs.Calls.{AreMostGood, SawTheTimes, TakesTheCalls};
 ghost use Rattle.rb_laws_listener_near.specs.Judged.{verdict_with};
 ghost use Rattle.rb_test_rules.specs.Buses.{steady};
+ghost use Rattle.rb_test_rules.specs.Frames.{accused_after, probation_passed};
 ghost use Rattle.rb_test_rules.specs.Letters.{letter_records, letter_sent, one_sender, second_word};
 ghost use Rattle.rb_test_rules.specs.Lies.{silent_rmu};
 ghost use Rattle.rb_test_rules.specs.OneFrame.{early_call};
@@ -145,4 +147,13 @@ pub fn a_letter_over_the_bus()
     ensures letters { All IsLetter letter_sent.taken }
     ensures bytes { All (λ letter. All (λ byte. byte < 256) letter) letter_sent.taken }
     ensures words { IsFirstPart (without_zeros letter_sent.words) (words_of letter_sent.taken) }
+{}
+
+/// An RMU does not hear a BIU in the first stage of slot 5 of frame 0, and finds evidence. With a
+/// probation of one frame it still accuses the BIU at the end of frame 1, and no more in frame 2.
+pub fn evidence_that_lapses()
+    ensures lawful { IsLawful probation_passed }
+    ensures evidence { Evidence probation_passed [] 16 Rmu 0 1 0 }
+    ensures accused { map accused_after (15 ∷ 16 ∷ 117 ∷ 118 ∷ [])
+        ≡ (Some 0 ∷ Some 2 ∷ Some 2 ∷ Some 0 ∷ []) }
 {}
