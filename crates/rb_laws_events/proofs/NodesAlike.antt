@@ -58,7 +58,7 @@ kept-same f same sizes me i st slot stage word = by ((stage == 1) && is_some (sa
     by true = same st (says sizes me i st slot stage word)
     by false = refl
 
-of-state : {X : Type 0} (f : NodeState → X) → ((st : NodeState) (o : Option Heard) → f (record st { sent = o }) ≡ f st)
+pub of-state : {X : Type 0} (f : NodeState → X) → ((st : NodeState) (o : Option Heard) → f (record st { sent = o }) ≡ f st)
     → (sc : Scenario) (m : Moment) (me : Side) (i : ℕ) (st now : NodeState) → IsStateOf sc m me i st now → f now ≡ f st
 of-state f same sc m me i st now (inl is) = ap f is
 of-state f same sc m me i st now (inr kept) = ap f kept ∙ kept-same f same sc.sizes me i st _ _ _
@@ -76,7 +76,7 @@ next-epoch-same plan Rmu st o = refl
 -- One node in a slot.
 
 -- the node is good in the rounds before its stage, where its state has the epoch, the schedule, the
--- votes, the trusted and accused nodes and the next epoch of its core
+-- votes, the trusted nodes and the next epoch of its core
 pub record IsIn {w : World} {me : Side} (sc : Scenario) (frame slot : ℕ) (node : RunningNode w me) : Type 0 where
   pub st : NodeState
   pub there : IsGoodIn sc (before_stage sc w.hands frame slot (window_of sc node).stage) me node.index st
@@ -88,7 +88,6 @@ pub record IsIn {w : World} {me : Side} (sc : Scenario) (frame slot : ℕ) (node
   pub epoch : (state_of sc node).epoch ≡ st.epoch
   pub owners : (state_of sc node).owners ≡ st.owners
   pub votes : (state_of sc node).votes ≡ st.votes
-  pub far : (state_of sc node).far ≡ st.far
   pub trusted : (kind : Side) → trusted_of kind me (state_of sc node) ≡ trusted_of kind me st
   pub next_epoch : new_epoch_of sc.plan me (state_of sc node) ≡ new_epoch_of sc.plan me st
 
@@ -140,7 +139,6 @@ is-in {w} {me} sc lawful frame slot node follow at running =
       epoch = of-state (λ (st : NodeState). st.epoch) (λ st o. refl) sc own me node.index h.st (state_of sc node) h.state;
       owners = of-state (λ (st : NodeState). st.owners) (λ st o. refl) sc own me node.index h.st (state_of sc node) h.state;
       votes = of-state (λ (st : NodeState). st.votes) (λ st o. refl) sc own me node.index h.st (state_of sc node) h.state;
-      far = of-state (λ (st : NodeState). st.far) (λ st o. refl) sc own me node.index h.st (state_of sc node) h.state;
       trusted = λ kind. of-state (trusted_of kind me) (trusted-same kind me) sc own me node.index h.st (state_of sc node) h.state;
       next_epoch = of-state (new_epoch_of sc.plan me) (next-epoch-same sc.plan me) sc own me node.index h.st (state_of sc node) h.state;
     }
@@ -175,7 +173,7 @@ is-in {w} {me} sc lawful frame slot node follow at running =
         ∙ window-place sc.sizes sc.plan me h.st own.window inside
 
 -- the run goes on before its stage
-pub runs-there : {w : World} {me : Side} (sc : Scenario) → IsLawful sc → (frame slot : ℕ) (node : RunningNode w me) → StandsInSlot sc frame slot node
+runs-there : {w : World} {me : Side} (sc : Scenario) → IsLawful sc → (frame slot : ℕ) (node : RunningNode w me) → StandsInSlot sc frame slot node
     → IsRunning (before_stage sc w.hands frame slot (window_of sc node).stage)
 runs-there {w} {me} sc lawful frame slot node at = by at.settled
   where

@@ -1,12 +1,13 @@
 -- For the law that running nodes are the abstract bus: what a node holds in its slot it held when
 -- the slot began, and each run of the bus for which the rounds stand holds the same.
-use Rattle.std.proofs.Common.{◌≡◌, ℕ, zero, suc, ◌+◌, ◌-◌, ◌*◌, ◌<◌, ◌≤◌, ◌⊎◌, ◌/◌, max, min, true, ap, sym, ◌∙◌, subst, arith, inl, inr, List, [], ◌∷◌, slice_get, get_or}
+use Rattle.std.proofs.Common.{◌≡◌, ℕ, zero, suc, ◌+◌, ◌-◌, ◌*◌, ◌<◌, ◌≤◌, ◌⊎◌, ◌/◌, max, min, true, refl, ap, sym, ◌∙◌, subst, arith, inl, inr, List, [], ◌∷◌, slice_get, get_or}
 use Rattle.std.proofs.Math.ListN.{get_or-append}
 use Rattle.std.proofs.lemmas.Bool.{cases_lt}
 use Rattle.rb_base.specs.Nodes.{Side, has, other}
 use Rattle.rb_base.specs.Nodes.Side.{Biu, Rmu}
 use Rattle.rb_base.specs.Sizes.{sync_slot_of}
 use Rattle.rb_base.specs.declared.values.Heard.TheVariants.{Fault}
+use Rattle.rb_rules.specs.declared.plan.Window.{Window}
 use Rattle.rb_rules.specs.AbstractBus.{AbstractBus}
 use Rattle.rb_rules.specs.Book.{of_kind}
 use Rattle.rb_rules.specs.Clock.{time_of}
@@ -23,6 +24,7 @@ use Rattle.rb_rules.specs.WorldStep.{Choice, World, world_after}
 use Rattle.rb_laws_agreement.specs.BusValues.{bus_before, bus_in_rounds, bus_then, value_in_rounds}
 use Rattle.rb_laws_agreement.specs.Times.{KeepsTime}
 use Rattle.rb_laws_agreement.specs.Values.{vote_on}
+use Rattle.rb_laws_agreement.proofs.Agreement.{IsAgreed, agreement}
 use Rattle.rb_laws_agreement.proofs.BusLaws.{bus-slot-step}
 use Rattle.rb_laws_agreement.proofs.BusRuns.{IsHeld, as_placed, bus-over-slot, held_at}
 use Rattle.rb_laws_agreement.proofs.Goodnesses.{good_earlier}
@@ -33,10 +35,11 @@ use Rattle.rb_laws_agreement.proofs.Settings.{good_state}
 use Rattle.rb_laws_agreement.proofs.Skews.{rounds_stand}
 use Rattle.rb_laws_agreement.proofs.Tests.{Present}
 use Rattle.rb_laws_synchrony.proofs.SyncLaws.{epochs_near}
-use Rattle.rb_laws_events.specs.OwnMoments.{FollowsTheRounds, RunningNode}
+use Rattle.rb_laws_events.specs.OwnMoments.{FollowsTheRounds, HoldsTheState, RunningNode, moment_of}
 use Rattle.rb_laws_events.specs.RunningNodes.{NodesAccuseNoGoodNode, NodesHoldTheBus, NodesKnowTheNextFrame, NodesVoteAsTheBus, RunningNodesAreTheBus, state_of, StandsInSlot, window_of}
 use Rattle.rb_laws_events.proofs.CoresPast.{cores-follow}
-use Rattle.rb_laws_events.proofs.NodesAlike.{HasBegun, HoldsShared, IsIn, before-is, begins-first, has-begun, holds-shared, in-slot, runs-there, settled-slot, votes-shared}
+use Rattle.rb_laws_events.proofs.NodesAlike.{HasBegun, HoldsShared, IsIn, before-is, begins-first, has-begun, holds-shared, in-slot, of-state, settled-slot, votes-shared}
+use Rattle.rb_laws_events.proofs.RoundNodes.{slot-is}
 use Rattle.rb_laws_events.proofs.SlotShared.{SharedAt, SharedIn, shared-in}
 
 -- The rounds stand for a run of the bus, since good nodes keep time.
@@ -103,7 +106,7 @@ agrees sc hands machine frame slot le (inl complete) = (machine.slots frame slot
 agrees sc hands machine frame zero le (inr begins) = (machine.frames frame begins).good_nodes
 agrees sc hands machine frame (suc slot) le (inr begins) = absurd begins
 
--- and so with one that holds the same
+-- the bus agrees with any state that has the epoch, the trusted nodes and the owners of such a one
 agrees-then : (sc : Scenario) (bus : AbstractBus) (me : Side) (i : ℕ) (st now : NodeState) → now.epoch ≡ st.epoch → ((kind : Side) → trusted_of kind me now ≡ trusted_of kind me st)
     → now.owners ≡ st.owners → AgreesBefore sc bus me i st → AgreesBefore sc bus me i now
 agrees-then sc bus me i st now epoch trusted owners a =
@@ -201,38 +204,30 @@ votes-it sc hands lawful machine frame slot le complete me i st before voted lt 
 -- Whom the node accuses.
 
 accuse-no-good-node : {w : World} (sc : Scenario) → IsLawful sc → FollowsTheRounds sc w → NodesAccuseNoGoodNode sc w
-accuse-no-good-node {w} sc lawful follow frame slot me node at j good =
-    (ap (λ (far : Standing). has far.direct j) a.far ∙ holds.spares.direct j now, ap (λ (far : Standing). has far.mismatch j) a.far ∙ holds.spares.mismatch j now)
+accuse-no-good-node {w} sc lawful follow me node running j good = (
+  ap (λ (far : Standing). has far.direct j) same ∙ holds.spares.direct j (now (other me) j good),
+  ap (λ (far : Standing). has far.mismatch j) same ∙ holds.spares.mismatch j (now (other me) j good),
+)
   where
-    stage : ℕ
-    stage = (window_of sc node).stage
+    own : Moment
+    own = moment_of sc node
 
-    m : Moment
-    m = before_stage sc w.hands frame slot stage
+    h : HoldsTheState sc own me node.index node.site.core
+    h = follow.cores me node running
 
-    a : IsIn sc frame slot node
-    a = in-slot sc lawful frame slot node follow at
+    same : (state_of sc node).far ≡ h.st.far
+    same = of-state (λ (st : NodeState). st.far) (λ st o. refl) sc own me node.index h.st (state_of sc node) h.state
 
-    p : IsPlaced sc w.hands frame slot stage
-    p = placed sc w.hands lawful frame slot stage a.within a.some at.stage (runs-there sc lawful frame slot node at)
+    now : (kind : Side) (i : ℕ) → is_good sc kind i (state_of sc node).frame (window_of sc node).slot ≡ true → is_good_now sc own kind i ≡ true
+    now kind i here =
+        ap (λ f. is_good sc kind i f (slot_numbered sc.sizes own.window)) (sym h.frame)
+        ∙ ap (is_good sc kind i (state_of sc node).frame) (sym (ap (λ (w : Window). w.slot) h.window ∙ slot-is sc.sizes sc.plan me h.st own.window)) ∙ here
 
-    here : (window sync : ℕ) → slot ≤ sync → 1 ≤ stage → stage ≤ 4 → (stage ≡ 4 → slot ≡ sync) → window ≡ 3 * slot + (stage - 1) → min (window / 3) sync ≡ slot
-    here window sync le some most last e =
-        elim (cases_lt stage 4) [
-          | inl lt ↦ omega (arith, le, some, lt, e)
-          | inr ge ↦
-              let four : stage ≡ 4 = omega (arith, most, ge) in
-              let same : slot ≡ sync = last four in
-              omega (arith, four, same, e)
-        ]
+    a : IsAgreed sc w.hands ((state_of sc node).frame * (windows_in sc.sizes + 1) + 3 * (window_of sc node).slot + (window_of sc node).stage - 1)
+    a = agreement sc w.hands lawful _ running
 
-    now : is_good_now sc m (other me) j ≡ true
-    now =
-        ap (λ f. is_good sc (other me) j f (slot_numbered sc.sizes m.window)) p.frame_is
-        ∙ ap (is_good sc (other me) j frame) (here m.window (sync_slot_of sc.sizes) a.within a.some at.stage a.last p.window_is) ∙ good
-
-    holds : Holds sc m p.shared me a.st
-    holds = p.agree.nodes me node.index a.st (record { there = a.there.0; good = a.now })
+    holds : Holds sc own a.shared me h.st
+    holds = a.agree.nodes me node.index h.st (record { there = h.there; good = now me node.index (ap (λ f. is_good sc me node.index f (window_of sc node).slot) h.frame ∙ h.good) })
 
 -- The law.
 

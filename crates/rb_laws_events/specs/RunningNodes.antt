@@ -154,20 +154,22 @@ NodesHoldTheBus sc w machine =
     (frame slot : ℕ) (me : Side) (node : RunningNode w me) → StandsInSlot sc frame slot node
     → AgreesBefore sc (machine.bus (steps_to sc.sizes frame slot)) me node.index (state_of sc node)
 
--- on each earlier slot of the frame on which its kind votes, its vote is the value of the bus
+-- a running node's vote on each earlier slot of the frame on which its kind votes is the value that
+-- the bus gave the slot
 abbrev pub NodesVoteAsTheBus : (sc : Scenario) (w : World) → StandsFor sc w.hands → Type 0
 NodesVoteAsTheBus sc w machine =
     (frame slot : ℕ) (me : Side) (node : RunningNode w me) → StandsInSlot sc frame slot node
     → (voted : ℕ) → voted < slot
     → HoldsVote sc voted (machine.bus (steps_to sc.sizes frame voted + 1)) me (state_of sc node)
 
--- no running node accuses a node that is good in the slot
+-- no running node accuses a node that is good in its slot, unless the run has ended by the node's
+-- own moment
 abbrev pub NodesAccuseNoGoodNode : Scenario → World → Type 0
 NodesAccuseNoGoodNode sc w =
-    (frame slot : ℕ) (me : Side) (node : RunningNode w me) → StandsInSlot sc frame slot node
-    → SparesAllGood sc frame slot me (state_of sc node)
+    (me : Side) (node : RunningNode w me) → IsRunning (moment_of sc node)
+    → SparesAllGood sc (state_of sc node).frame (window_of sc node).slot me (state_of sc node)
 
--- in the tail of a frame each running node knows when its next frame begins, which is in the bounds
+-- in the tail each running node knows the tick of its next epoch, which is within the bounds
 abbrev pub NodesKnowTheNextFrame : Scenario → World → Type 0
 NodesKnowTheNextFrame sc w =
     (frame slot : ℕ) (me : Side) (node : RunningNode w me) → StandsInSlot sc frame slot node
