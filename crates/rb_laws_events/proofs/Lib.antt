@@ -120,5 +120,6 @@ pub mod CoresPast
 pub mod SlotShared
 pub mod PortsBetween
 pub mod NodesAlike
+pub mod NodesAreTheBus
 pub mod PortsAlike
 pub mod NodesPromise

@@ -8,6 +8,7 @@ use Rattle.rb_base.specs.Sizes.{Sizes, sync_slot_of}
 use Rattle.rb_base.specs.declared.values.Heard.{Heard}
 use Rattle.rb_base.specs.declared.values.Heard.TheVariants.{Fault}
 use Rattle.rb_base.proofs.Sets.{has-set_of}
+use Rattle.rb_rules.specs.declared.plan.Plan.{Plan}
 use Rattle.rb_rules.specs.declared.plan.Window.{Window}
 use Rattle.rb_rules.specs.Book.{of_kind}
 use Rattle.rb_rules.specs.Clock.{time_of}
@@ -16,12 +17,13 @@ use Rattle.rb_rules.specs.Goodness.{Scenario, clock_of, is_good}
 use Rattle.rb_rules.specs.Headline.{stated_skew}
 use Rattle.rb_rules.specs.Lawful.{IsLawful}
 use Rattle.rb_rules.specs.Moments.{BeginsFrame, IsComplete, IsGoodBefore, IsRunning, IsSettled, before_slot, before_stage, time_in_frame}
-use Rattle.rb_rules.specs.NodeState.{NodeState}
+use Rattle.rb_rules.specs.NodeState.{NodeState, trusted_of}
 use Rattle.rb_rules.specs.NodeSteps.{convicted_of}
 use Rattle.rb_rules.specs.Ports.{HandIn}
 use Rattle.rb_rules.specs.Rounds.{IsGoodIn, Moment, step, windows_in}
 use Rattle.rb_rules.specs.Slots.{count_of}
 use Rattle.rb_rules.specs.StandsFor.{votes_on}
+use Rattle.rb_rules.specs.SyncStage.{new_epoch_of}
 use Rattle.rb_rules.specs.WorldStep.{Choice, World, world_after}
 use Rattle.rb_laws_agreement.specs.Values.{vote_on}
 use Rattle.rb_laws_agreement.proofs.Agreement.{running_before}
@@ -46,7 +48,7 @@ use Rattle.rb_laws_events.proofs.MomentBooks.{number-of}
 use Rattle.rb_laws_events.proofs.RoundNodes.{moments-stand, slot-is}
 use Rattle.rb_laws_events.proofs.SlotShared.{SharedAt, SharedIn, shared-in}
 
--- What a sender keeps of its own value is no part of its schedule, nor of whom it holds convicted.
+-- What a sender keeps of its own value is no part of its schedule, nor of whom it trusts.
 
 kept-same : {X : Type 0} (f : NodeState → X) → ((st : NodeState) (o : Option Heard) → f (record st { sent = o }) ≡ f st)
     → (sizes : Sizes) (me : Side) (i : ℕ) (st : NodeState) (slot stage word : ℕ) → f (keep_sent sizes me i st slot stage word) ≡ f st
@@ -56,33 +58,50 @@ kept-same f same sizes me i st slot stage word = by ((stage == 1) && is_some (sa
     by true = same st (says sizes me i st slot stage word)
     by false = refl
 
-of-state : {X : Type 0} (f : NodeState → X) → ((st : NodeState) (o : Option Heard) → f (record st { sent = o }) ≡ f st)
+pub of-state : {X : Type 0} (f : NodeState → X) → ((st : NodeState) (o : Option Heard) → f (record st { sent = o }) ≡ f st)
     → (sc : Scenario) (m : Moment) (me : Side) (i : ℕ) (st now : NodeState) → IsStateOf sc m me i st now → f now ≡ f st
 of-state f same sc m me i st now (inl is) = ap f is
 of-state f same sc m me i st now (inr kept) = ap f kept ∙ kept-same f same sc.sizes me i st _ _ _
 
-convicted-same : (sizes : Sizes) (kind me : Side) (st : NodeState) (o : Option Heard) → convicted_of sizes kind me (record st { sent = o }) ≡ convicted_of sizes kind me st
-convicted-same sizes Biu Biu st o = refl
-convicted-same sizes Biu Rmu st o = refl
-convicted-same sizes Rmu Biu st o = refl
-convicted-same sizes Rmu Rmu st o = refl
+trusted-same : (kind me : Side) (st : NodeState) (o : Option Heard) → trusted_of kind me (record st { sent = o }) ≡ trusted_of kind me st
+trusted-same Biu Biu st o = refl
+trusted-same Biu Rmu st o = refl
+trusted-same Rmu Biu st o = refl
+trusted-same Rmu Rmu st o = refl
+
+next-epoch-same : (plan : Plan) (me : Side) (st : NodeState) (o : Option Heard) → new_epoch_of plan me (record st { sent = o }) ≡ new_epoch_of plan me st
+next-epoch-same plan Biu st o = refl
+next-epoch-same plan Rmu st o = refl
 
 -- One node in a slot.
 
 -- the node is good in the rounds before its stage, where its state has the epoch, the schedule, the
--- convicted nodes and the votes of its core
-record IsIn {w : World} {me : Side} (sc : Scenario) (frame slot : ℕ) (node : RunningNode w me) : Type 0 where
-  st : NodeState
-  there : IsGoodIn sc (before_stage sc w.hands frame slot (window_of sc node).stage) me node.index st
-  now : is_good_now sc (before_stage sc w.hands frame slot (window_of sc node).stage) me node.index ≡ true
-  good : is_good sc me node.index frame slot ≡ true
-  within : slot ≤ sync_slot_of sc.sizes
-  some : 1 ≤ (window_of sc node).stage
-  last : (window_of sc node).stage ≡ 4 → slot ≡ sync_slot_of sc.sizes
-  epoch : (state_of sc node).epoch ≡ st.epoch
-  owners : (state_of sc node).owners ≡ st.owners
-  votes : (state_of sc node).votes ≡ st.votes
-  convicted : (kind : Side) → convicted_by sc kind node ≡ convicted_of sc.sizes kind me st
+-- votes, the trusted nodes and the next epoch of its core
+pub record IsIn {w : World} {me : Side} (sc : Scenario) (frame slot : ℕ) (node : RunningNode w me) : Type 0 where
+  pub st : NodeState
+  pub there : IsGoodIn sc (before_stage sc w.hands frame slot (window_of sc node).stage) me node.index st
+  pub now : is_good_now sc (before_stage sc w.hands frame slot (window_of sc node).stage) me node.index ≡ true
+  pub good : is_good sc me node.index frame slot ≡ true
+  pub within : slot ≤ sync_slot_of sc.sizes
+  pub some : 1 ≤ (window_of sc node).stage
+  pub last : (window_of sc node).stage ≡ 4 → slot ≡ sync_slot_of sc.sizes
+  pub epoch : (state_of sc node).epoch ≡ st.epoch
+  pub owners : (state_of sc node).owners ≡ st.owners
+  pub votes : (state_of sc node).votes ≡ st.votes
+  pub trusted : (kind : Side) → trusted_of kind me (state_of sc node) ≡ trusted_of kind me st
+  pub next_epoch : new_epoch_of sc.plan me (state_of sc node) ≡ new_epoch_of sc.plan me st
+
+-- the nodes convicted, by those that are trusted
+abbrev convicted_by_trusted : Sizes → Side → ℕ → ℕ
+convicted_by_trusted sizes kind trusted = set_of (λ j. nat_lt j (count_of kind sizes) && not (has trusted j))
+
+convicts-others : (sizes : Sizes) (kind me : Side) (st : NodeState) → convicted_of sizes kind me st ≡ convicted_by_trusted sizes kind (trusted_of kind me st)
+convicts-others sizes kind me st = ap (convicted_by_trusted sizes kind) (trusted-either me kind st)
+
+convicts-in : {w : World} {me : Side} (sc : Scenario) (frame slot : ℕ) (node : RunningNode w me) (a : IsIn sc frame slot node) (kind : Side)
+    → convicted_by sc kind node ≡ convicted_of sc.sizes kind me a.st
+convicts-in {w} {me} sc frame slot node a kind =
+    convicts-others sc.sizes kind me (state_of sc node) ∙ ap (convicted_by_trusted sc.sizes kind) (a.trusted kind) ∙ sym (convicts-others sc.sizes kind me a.st)
 
 own-is : {w : World} {me : Side} (sc : Scenario) (frame slot : ℕ) (node : RunningNode w me) → StandsInSlot sc frame slot node
     → moment_of sc node ≡ before_stage sc w.hands frame slot (window_of sc node).stage
@@ -120,7 +139,8 @@ is-in {w} {me} sc lawful frame slot node follow at running =
       epoch = of-state (λ (st : NodeState). st.epoch) (λ st o. refl) sc own me node.index h.st (state_of sc node) h.state;
       owners = of-state (λ (st : NodeState). st.owners) (λ st o. refl) sc own me node.index h.st (state_of sc node) h.state;
       votes = of-state (λ (st : NodeState). st.votes) (λ st o. refl) sc own me node.index h.st (state_of sc node) h.state;
-      convicted = λ kind. of-state (convicted_of sc.sizes kind me) (convicted-same sc.sizes kind me) sc own me node.index h.st (state_of sc node) h.state;
+      trusted = λ kind. of-state (trusted_of kind me) (trusted-same kind me) sc own me node.index h.st (state_of sc node) h.state;
+      next_epoch = of-state (new_epoch_of sc.plan me) (next-epoch-same sc.plan me) sc own me node.index h.st (state_of sc node) h.state;
     }
   where
     own : Moment
@@ -161,11 +181,11 @@ runs-there {w} {me} sc lawful frame slot node at = by at.settled
     by (inl complete) = complete_before sc w.hands frame slot (window_of sc node).stage at.stage complete
     by (inr begin) = ap (λ stage. (before_stage sc w.hands frame slot stage).book.ended) begin.1 ∙ settled_before sc w.hands lawful frame slot (inr begin.0)
 
-in-slot : {w : World} {me : Side} (sc : Scenario) → IsLawful sc → (frame slot : ℕ) (node : RunningNode w me) → FollowsTheRounds sc w → StandsInSlot sc frame slot node
+pub in-slot : {w : World} {me : Side} (sc : Scenario) → IsLawful sc → (frame slot : ℕ) (node : RunningNode w me) → FollowsTheRounds sc w → StandsInSlot sc frame slot node
     → IsIn sc frame slot node
 in-slot sc lawful frame slot node follow at = is-in sc lawful frame slot node follow at (runs-there sc lawful frame slot node at)
 
-settled-slot : {w : World} {me : Side} (sc : Scenario) (frame slot : ℕ) (node : RunningNode w me) → StandsInSlot sc frame slot node → IsSettled sc w.hands frame slot
+pub settled-slot : {w : World} {me : Side} (sc : Scenario) (frame slot : ℕ) (node : RunningNode w me) → StandsInSlot sc frame slot node → IsSettled sc w.hands frame slot
 settled-slot {w} {me} sc frame slot node at = by at.settled
   where
     by : IsComplete sc w.hands frame slot ⊎ (BeginsFrame sc w.hands frame slot × ((window_of sc node).stage ≡ 1)) → IsSettled sc w.hands frame slot
@@ -203,12 +223,12 @@ was-there sc hands lawful frame slot le me i (suc k) stage e small running st go
     record { st = first.st; there = first.there; epoch_is = before.epoch_is ∙ first.epoch_is }
 
 -- the node was good before the slot, with the epoch of its core
-record HasBegun {w : World} {me : Side} (sc : Scenario) (frame slot : ℕ) (node : RunningNode w me) : Type 0 where
-  st : NodeState
-  is : IsGoodBefore sc w.hands frame slot me node.index st
-  epoch : (state_of sc node).epoch ≡ st.epoch
+pub record HasBegun {w : World} {me : Side} (sc : Scenario) (frame slot : ℕ) (node : RunningNode w me) : Type 0 where
+  pub st : NodeState
+  pub is : IsGoodBefore sc w.hands frame slot me node.index st
+  pub epoch : (state_of sc node).epoch ≡ st.epoch
 
-has-begun : {w : World} {me : Side} (sc : Scenario) → IsLawful sc → (frame slot : ℕ) (node : RunningNode w me) → StandsInSlot sc frame slot node → IsIn sc frame slot node
+pub has-begun : {w : World} {me : Side} (sc : Scenario) → IsLawful sc → (frame slot : ℕ) (node : RunningNode w me) → StandsInSlot sc frame slot node → IsIn sc frame slot node
     → HasBegun sc frame slot node
 has-begun {w} {me} sc lawful frame slot node at a =
     let stage : ℕ = (window_of sc node).stage in
@@ -234,19 +254,19 @@ begin-near {w} sc lawful follow frame slot me you mine yours at there =
 -- In a slot that is complete.
 
 -- the node holds what all good nodes hold before its stage
-record HoldsShared {w : World} {me : Side} (sc : Scenario) (frame slot : ℕ) (s : Shared) (node : RunningNode w me) : Type 0 where
-  steps : ℕ
-  m : Moment
-  agree : Agree sc w.hands steps m s
-  window : 3 * slot ≤ m.window
-  holder : NodeState
-  good : IsGoodNode sc m me node.index holder
-  holds : Holds sc m s me holder
-  owners : (state_of sc node).owners ≡ holder.owners
-  votes : (state_of sc node).votes ≡ holder.votes
-  convicted : (kind : Side) → convicted_by sc kind node ≡ convicted_of sc.sizes kind me holder
+pub record HoldsShared {w : World} {me : Side} (sc : Scenario) (frame slot : ℕ) (s : Shared) (node : RunningNode w me) : Type 0 where
+  pub steps : ℕ
+  pub m : Moment
+  pub agree : Agree sc w.hands steps m s
+  pub window : 3 * slot ≤ m.window
+  pub holder : NodeState
+  pub good : IsGoodNode sc m me node.index holder
+  pub holds : Holds sc m s me holder
+  pub owners : (state_of sc node).owners ≡ holder.owners
+  pub votes : (state_of sc node).votes ≡ holder.votes
+  pub trusted : (kind : Side) → trusted_of kind me (state_of sc node) ≡ trusted_of kind me holder
 
-holds-shared : {w : World} {me : Side} (sc : Scenario) → IsLawful sc → (frame slot : ℕ) (node : RunningNode w me) → FollowsTheRounds sc w → StandsInSlot sc frame slot node
+pub holds-shared : {w : World} {me : Side} (sc : Scenario) → IsLawful sc → (frame slot : ℕ) (node : RunningNode w me) → FollowsTheRounds sc w → StandsInSlot sc frame slot node
     → (r : SharedIn sc w.hands frame slot) → HoldsShared sc frame slot r.shared node
 holds-shared {w} {me} sc lawful frame slot node follow at r =
     record {
@@ -259,7 +279,7 @@ holds-shared {w} {me} sc lawful frame slot node follow at r =
       holds = here.agree.nodes me node.index a.st good;
       owners = a.owners;
       votes = a.votes;
-      convicted = a.convicted;
+      trusted = a.trusted;
     }
   where
     stage : ℕ
@@ -292,7 +312,7 @@ holds-shared {w} {me} sc lawful frame slot node follow at r =
     ]
 
 -- a node at the start of the slot has the state of the rounds there
-before-is : {w : World} {me : Side} (sc : Scenario) (frame slot : ℕ) (node : RunningNode w me) → (window_of sc node).stage ≡ 1 → (a : IsIn sc frame slot node)
+pub before-is : {w : World} {me : Side} (sc : Scenario) (frame slot : ℕ) (node : RunningNode w me) → (window_of sc node).stage ≡ 1 → (a : IsIn sc frame slot node)
     → IsGoodBefore sc w.hands frame slot me node.index a.st
 before-is {w} {me} sc frame slot node first a = record {
   good = a.good;
@@ -316,19 +336,15 @@ complete-or-begins {w} sc frame slot mine yours at there = by at.settled there.s
     by (inr begin) (inl complete) = inl complete
     by (inr begin) (inr too) = inr (record { begins = begin.0; mine_first = begin.1; yours_first = too.1 })
 
-begins-first : (sc : Scenario) (hands : List HandIn) (frame slot : ℕ) → BeginsFrame sc hands frame slot → slot ≡ 0
+pub begins-first : (sc : Scenario) (hands : List HandIn) (frame slot : ℕ) → BeginsFrame sc hands frame slot → slot ≡ 0
 begins-first sc hands frame zero begin = refl
 begins-first sc hands frame (suc slot) begin = absurd begin
 
--- the convicted nodes, which are those that are not trusted
-abbrev convicted_by_trusted : Sizes → Side → ℕ → ℕ
-convicted_by_trusted sizes kind trusted = set_of (λ j. nat_lt j (count_of kind sizes) && not (has trusted j))
-
 convicts-shared : {w : World} {me : Side} (sc : Scenario) (frame slot : ℕ) (s : Shared) (node : RunningNode w me) → HoldsShared sc frame slot s node → (kind : Side)
     → convicted_by sc kind node ≡ convicted_by_trusted sc.sizes kind (s.trusted kind)
-convicts-shared {w} {me} sc frame slot s node h kind = h.convicted kind ∙ ap (convicted_by_trusted sc.sizes kind) (trusted-either me kind h.holder ∙ h.holds.trusted kind)
+convicts-shared {w} {me} sc frame slot s node h kind = convicts-others sc.sizes kind me (state_of sc node) ∙ ap (convicted_by_trusted sc.sizes kind) (h.trusted kind ∙ h.holds.trusted kind)
 
-votes-shared : {w : World} {me : Side} (sc : Scenario) (frame slot : ℕ) (s : Shared) (node : RunningNode w me) → HoldsShared sc frame slot s node → slot ≤ sync_slot_of sc.sizes
+pub votes-shared : {w : World} {me : Side} (sc : Scenario) (frame slot : ℕ) (s : Shared) (node : RunningNode w me) → HoldsShared sc frame slot s node → slot ≤ sync_slot_of sc.sizes
     → (voted : ℕ) → voted < slot → votes_on sc.sizes voted me ≡ true → vote_on (state_of sc node) voted ≡ s.values voted
 votes-shared {w} {me} sc frame slot s node h le voted before votes =
     let window = h.window in
@@ -362,10 +378,10 @@ convict-the-same {w} sc lawful follow frame slot me you mine yours at there kind
           ∙ sym (convicts-shared sc frame slot r.shared yours (holds-shared sc lawful frame slot yours follow there r) kind)
       | inr begin ↦
           let b : IsIn sc frame slot yours = in-slot sc lawful frame slot yours follow there in
-          a.convicted kind
+          convicts-in sc frame slot mine a kind
           ∙ convict-alike sc w.hands lawful frame slot a.within (inr begin.begins) me you mine.index yours.index a.st b.st
           (before-is sc frame slot mine begin.mine_first a) (before-is sc frame slot yours begin.yours_first b) kind
-          ∙ sym (b.convicted kind)
+          ∙ sym (convicts-in sc frame slot yours b kind)
     ]
 
 trusted-stays : (sc : Scenario) → IsLawful sc → (kind : Side) (j frame slot trusted : ℕ) → is_good sc kind j frame slot ≡ true → has trusted j ≡ true
@@ -391,7 +407,7 @@ convict-no-good-node {w} sc lawful follow frame slot me node at kind j good =
           ap (λ set. has set j) (convicts-shared sc frame slot r.shared node (holds-shared sc lawful frame slot node follow at r) kind)
           ∙ trusted-stays sc lawful kind j frame slot (r.shared.trusted kind) good trusted
       | inr begin ↦
-          ap (λ set. has set j) (a.convicted kind)
+          ap (λ set. has set j) (convicts-in sc frame slot node a kind)
           ∙ none_convicted sc w.hands lawful frame slot a.within (inr begin.begins) me node.index a.st (before-is sc frame slot node begin.mine_first a) kind j good
     ]
 
@@ -408,7 +424,7 @@ convict-whom-all-accused {w} sc lawful follow frame complete accused j count all
     convicts st before = accused_by_all sc hands lawful frame complete accused j count all me node.index st before
 
     by : IsComplete sc hands (frame + 1) 0 ⊎ (BeginsFrame sc hands (frame + 1) 0 × ((window_of sc node).stage ≡ 1)) → has (convicted_by sc accused node) j ≡ true
-    by (inr begin) = ap (λ set. has set j) (a.convicted accused) ∙ convicts a.st (before-is sc (frame + 1) 0 node begin.1 a)
+    by (inr begin) = ap (λ set. has set j) (convicts-in sc (frame + 1) 0 node a accused) ∙ convicts a.st (before-is sc (frame + 1) 0 node begin.1 a)
     by (inl whole) =
         let r : SharedIn sc hands (frame + 1) 0 = shared-in sc hands lawful (frame + 1) 0 a.within whole in
         let x : HasBegun sc (frame + 1) 0 node = has-begun sc lawful (frame + 1) 0 node at a in
@@ -419,7 +435,7 @@ convict-whom-all-accused {w} sc lawful follow frame complete accused j count all
         let holds = (r.at 1 (omega arith) (omega arith)).agree.nodes me node.index x.st good in
         ap (λ set. has set j)
         (convicts-shared sc (frame + 1) 0 r.shared node (holds-shared sc lawful (frame + 1) 0 node follow at r) accused
-        ∙ ap (convicted_by_trusted sc.sizes accused) (sym (trusted-either me accused x.st ∙ holds.trusted accused)))
+        ∙ ap (convicted_by_trusted sc.sizes accused) (sym (holds.trusted accused)) ∙ sym (convicts-others sc.sizes accused me x.st))
         ∙ convicts x.st x.is
 
 vote-the-same : {w : World} (sc : Scenario) → IsLawful sc → FollowsTheRounds sc w → NodesVoteAlike sc w

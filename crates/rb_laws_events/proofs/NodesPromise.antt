@@ -12,6 +12,7 @@ use Rattle.rb_laws_events.specs.Promise.{RoundsKeepThePromise, RunningNodesKeepT
 use Rattle.rb_laws_events.proofs.CoresHold.{cores-hold}
 use Rattle.rb_laws_events.proofs.CoresPast.{cores-follow}
 use Rattle.rb_laws_events.proofs.NodesAlike.{nodes-agree, nodes-convict}
+use Rattle.rb_laws_events.proofs.NodesAreTheBus.{nodes-are-the-bus}
 use Rattle.rb_laws_events.proofs.PortsAlike.{ports-agree, ports-follow-the-bus}
 
 rounds-keep : (sc : Scenario) → IsLawful sc → (hands : List HandIn) → RoundsKeepThePromise sc hands
@@ -29,6 +30,7 @@ keep-the-promise sc lawful = record {
     cores = cores-hold sc lawful choices;
     follow = cores-follow sc lawful choices;
     agree = nodes-agree sc lawful choices;
+    machine = nodes-are-the-bus sc lawful choices;
     ports = ports-agree sc lawful choices;
     bus = ports-follow-the-bus sc lawful choices;
     accused = nodes-convict sc lawful choices;

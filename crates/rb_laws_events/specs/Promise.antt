@@ -7,7 +7,7 @@ use Rattle.rb_rules.specs.WorldStep.{Choice, World, world_after}
 use Rattle.rb_laws_agreement.specs.Laws.{ConvictWhomAllAccuse, GiveUnheardNodesNoVector, GoodPortsAgree, GoodPortsFollowTheBus}
 use Rattle.rb_laws_synchrony.specs.Laws.{EachWindowIsTimely}
 use Rattle.rb_laws_events.specs.OwnMoments.{FollowsTheRounds, HoldsTheRounds, IsBeforeTheBreak}
-use Rattle.rb_laws_events.specs.RunningNodes.{NodesConvictWhomAllAccused, RunningNodesAgree, RunningPortsAgree, RunningPortsFollowTheBus}
+use Rattle.rb_laws_events.specs.RunningNodes.{NodesConvictWhomAllAccused, RunningNodesAgree, RunningNodesAreTheBus, RunningPortsAgree, RunningPortsFollowTheBus}
 
 -- what the rounds with these hand-ins keep beside the headline
 pub record RoundsKeepThePromise (sc : Scenario) (hands : List HandIn) : Type 0 where
@@ -22,6 +22,7 @@ pub record NodesKeepThePromise (sc : Scenario) (w : World) : Type 0 where
   pub cores : IsBeforeTheBreak sc w → HoldsTheRounds sc w  -- before the breaking stage all that the rounds hold at their own moments
   pub follow : FollowsTheRounds sc w  -- the state and the port of the rounds, until the run has ended there
   pub agree : RunningNodesAgree sc w  -- in one slot the same as each other
+  pub machine : RunningNodesAreTheBus sc w  -- what the abstract bus holds
   pub ports : RunningPortsAgree sc w  -- after one slot equal ports
   pub bus : RunningPortsFollowTheBus sc w  -- the ports that the bus's values make
   pub accused : NodesConvictWhomAllAccused sc w  -- a node that all accused is convicted in the first slot of the next frame

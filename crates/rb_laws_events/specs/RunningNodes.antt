@@ -1,5 +1,5 @@
 -- What running nodes of one world have in common: when they begin a slot, their schedule, whom they
--- hold convicted, their votes and ports.
+-- hold convicted, their votes and ports; and that they hold what the abstract bus holds.
 use Rattle.std.specs.Prelude.{ℕ, suc, ◌≡◌, ◌+◌, ◌*◌, ◌<◌, ◌≤◌, ◌⊎◌, true, false, List}
 use Rattle.rb_base.specs.Nodes.{Side, has}
 use Rattle.rb_base.specs.Nodes.Side.{Biu}
@@ -13,7 +13,7 @@ use Rattle.rb_rules.specs.Moments.{BeginsFrame, IsComplete, IsReached, IsRunning
 use Rattle.rb_rules.specs.NodeState.{NodeState}
 use Rattle.rb_rules.specs.NodeSteps.{convicted_of}
 use Rattle.rb_rules.specs.Slots.{count_of}
-use Rattle.rb_rules.specs.StandsFor.{votes_on}
+use Rattle.rb_rules.specs.StandsFor.{AgreesBefore, FrameTakes, HoldsVote, SparesAllGood, StandsFor, steps_to, votes_on}
 use Rattle.rb_rules.specs.WorldStep.{Choice, World, world_after}
 use Rattle.rb_laws_agreement.specs.Histories.{AreAlike, port_begun, port_through}
 use Rattle.rb_laws_agreement.specs.Laws.{IsAccusedByAll}
@@ -145,6 +145,45 @@ pub record RunningPortsFollowTheBus (sc : Scenario) (w : World) : Type 0 where
       → port_at sc w.ports node.index ≡ port_begun sc w.hands node.index frame
   pub after : (frame slot : ℕ) (node : RunningNode w Biu) → StandsAfterSlot sc frame slot node
       → port_at sc w.ports node.index ≡ port_through sc w.hands frame (suc slot) (port_begun sc w.hands node.index frame)
+
+-- The abstract bus.
+
+-- a running node holds what the bus does before the node's slot: it began the slot in the band of
+-- the bus, trusts the nodes that the bus trusts, and from the first data slot on has its owners
+abbrev pub NodesHoldTheBus : (sc : Scenario) (w : World) → StandsFor sc w.hands → Type 0
+NodesHoldTheBus sc w machine =
+    (frame slot : ℕ) (me : Side) (node : RunningNode w me) → StandsInSlot sc frame slot node
+    → AgreesBefore sc (machine.bus (steps_to sc.sizes frame slot)) me node.index (state_of sc node)
+
+-- a running node's vote on each earlier slot of the frame on which its kind votes is the value that
+-- the bus gave the slot
+abbrev pub NodesVoteAsTheBus : (sc : Scenario) (w : World) → StandsFor sc w.hands → Type 0
+NodesVoteAsTheBus sc w machine =
+    (frame slot : ℕ) (me : Side) (node : RunningNode w me) → StandsInSlot sc frame slot node
+    → (voted : ℕ) → voted < slot
+    → HoldsVote sc voted (machine.bus (steps_to sc.sizes frame voted + 1)) me (state_of sc node)
+
+-- no running node accuses a node that is good in its slot, unless the run has ended by the node's
+-- own moment
+abbrev pub NodesAccuseNoGoodNode : Scenario → World → Type 0
+NodesAccuseNoGoodNode sc w =
+    (me : Side) (node : RunningNode w me) → IsRunning (moment_of sc node)
+    → SparesAllGood sc (state_of sc node).frame (window_of sc node).slot me (state_of sc node)
+
+-- in the tail each running node knows the tick of its next epoch, which is within the bounds
+abbrev pub NodesKnowTheNextFrame : Scenario → World → Type 0
+NodesKnowTheNextFrame sc w =
+    (frame slot : ℕ) (me : Side) (node : RunningNode w me) → StandsInSlot sc frame slot node
+    → (window_of sc node).stage ≡ 4 → FrameTakes sc.sizes sc.plan me (state_of sc node)
+
+-- the rounds with what has been handed in stand for a run of the abstract bus, and whichever such
+-- run is taken, the running nodes hold what that bus holds
+pub record RunningNodesAreTheBus (sc : Scenario) (w : World) : Type 0 where
+  pub stands : StandsFor sc w.hands
+  pub before : (machine : StandsFor sc w.hands) → NodesHoldTheBus sc w machine
+  pub votes : (machine : StandsFor sc w.hands) → NodesVoteAsTheBus sc w machine
+  pub accusations : NodesAccuseNoGoodNode sc w
+  pub next_frames : NodesKnowTheNextFrame sc w
 
 -- The laws.
 

@@ -130,7 +130,11 @@ pub fn running_ports_agree()
 /// convicted when the frame has ended. Running nodes hold such a node convicted in the first slot
 /// of the next frame. Whom no good node heard in a frame has no valid vector in it. The port of a
 /// good BIU is what the bus's values and the hand-ins make of it: in the rounds after each complete
-/// slot, and at a running BIU as a frame begins and after each complete slot.
+/// slot, and at a running BIU as a frame begins and after each complete slot. The rounds stand for
+/// a run of the abstract bus, and each running node holds what that bus holds in the node's slot:
+/// the trusted nodes, the owners and the values. It began the slot in the band of the bus. No
+/// running node accuses a node that is good in its slot, unless the run has ended by the node's own
+/// moment.
 pub fn running_nodes_keep_the_promise()
     ensures { RunningNodesKeepThePromiseInLawful }
 {}

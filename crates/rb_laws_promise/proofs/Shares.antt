@@ -25,10 +25,10 @@ use Rattle.rb_rules.specs.Slots.Sender.{Nobody, Node}
 use Rattle.rb_rules.specs.StandsFor.{StandsFor, steps_to}
 use Rattle.rb_rules.proofs.Slots.{schedule_role}
 use Rattle.rb_laws_agreement.proofs.Goodnesses.{good_counts, good_earlier}
+use Rattle.rb_laws_events.proofs.NodesAreTheBus.{stands-for}
 use Rattle.rb_laws_groups.proofs.Frames.{slot-earlier}
 use Rattle.rb_laws_promise.specs.Shares.{GoodBiusGetTheirShare, share_of, slots_of}
 use Rattle.rb_laws_promise.proofs.Passes.{owners-share}
-use Rattle.rb_laws_promise.proofs.Promise.{stands}
 
 -- Where the bus is.
 
@@ -208,7 +208,7 @@ share-at sc hands law s frame last le complete i good (suc slot) below =
 
 pub shares-kept : GoodBiusGetTheirShare
 shares-kept sc hands law frame slot late le complete me j st before i good =
-    let s : StandsFor sc hands = stands sc hands law in
+    let s : StandsFor sc hands = stands-for sc hands law in
     let n : ℕ = steps_to sc.sizes frame slot in
     let run : IsRun sc (offered_in sc hands) (n + 1) s.bus = s.run_to_slot frame slot le complete in
     let here : IsHere frame slot (s.bus n) = here-at sc frame slot (s.bus n) le (at-each sc (offered_in sc hands) (n + 1) s.bus run n (omega arith)) in
