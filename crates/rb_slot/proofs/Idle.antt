@@ -1,11 +1,11 @@
 -- The close of a stage in which the node does not listen.
-use Rattle.std.proofs.Common.{◌≡◌, ℕ, zero, suc, Bool, true, false, ◌==◌, ◌&&◌, not, if◌then◌else◌, Option, Some, None, get_or, map, replicate, refl, sym, ◌∙◌, ap, arith}
+use Rattle.std.proofs.Common.{◌≡◌, ℕ, zero, suc, Bool, true, false, ◌==◌, ◌&&◌, not, if◌then◌else◌, Option, Some, None, get_or, map, replicate, refl, sym, ◌∙◌, ap}
 use Rattle.std.specs.Prelude.{slice_set}
-use Rattle.rb_base.specs.Nodes.{Side, has, set_of}
+use Rattle.rb_base.specs.Nodes.{Side, has}
 use Rattle.rb_base.specs.declared.values.Delivery.{Delivery}
 use Rattle.rb_base.specs.declared.values.Heard.{Heard}
 use Rattle.rb_base.proofs.Plain.{and-false}
-use Rattle.rb_base.proofs.Sets.{has_none, is_set_of}
+use Rattle.rb_base.proofs.Sets.{has_none}
 use Rattle.rb_rules.specs.declared.closing.Closed.{Closed}
 use Rattle.rb_rules.specs.declared.closing.Closing.{Closing}
 use Rattle.rb_rules.specs.declared.role.Role.{Role}
@@ -14,19 +14,14 @@ use Rattle.rb_rules.specs.declared.sense.Sense.{Sense}
 use Rattle.rb_rules.specs.ExactStage.{close_exact, closing_of, compare_with, delivery_of, is_sender, owners_after, reference_value, see_value, taken_of_sender}
 use Rattle.rb_rules.specs.NodeState.{NodeState, sender_at}
 use Rattle.rb_rules.specs.Sense.{value_in}
-use Rattle.rb_rules.specs.Slots.{Sender, expects, expects_of, listens, role_of, same_side, sender_kind}
+use Rattle.rb_rules.specs.Slots.{Sender, expects, listens, role_of, same_side, sender_kind}
 use Rattle.rb_rules.specs.Slots.Sender.{Nobody, Node, EachTrusted}
 use Rattle.rb_rules.specs.Standing.{Standing, has_evidence, taken_of, with_evidence}
 use Rattle.rb_rules.proofs.ExactStages.{same_each_node}
 use Rattle.rb_rules.proofs.Standings.{unexpected_not_taken}
 use Rattle.rb_slot.specs.Engines.{Seated}
+use Rattle.rb_slot.proofs.Masks.{unheard_is}
 use Rattle.rb_slot.proofs.Stages.{Steps, closing_in, evidence_in, shows_so}
-
--- a node that does not listen expects nobody
-idle_set : (me : Side) (role : Role) (sender : Sender) (trusted stage : ℕ) → listens me role stage ≡ false
-    → 0 ≡ set_of (expects me role sender trusted stage)
-idle_set me role sender trusted stage idle =
-    is_set_of 0 (expects me role sender trusted stage) (omega arith) (λ j below. has_none j ∙ sym (ap (λ b. b && expects_of sender trusted stage j) idle))
 
 -- every place of an empty row is empty
 none_at : (n i : ℕ) → ◌≡◌ {A = Option Heard} (get_or (replicate n None) i None) None
@@ -90,7 +85,7 @@ idle_steps me slot stage c sense v0 v1 v2 idle closed taken passed =
     let sender : Sender = sender_at v0.sizes me v0.state slot in
     let far : Standing = v0.state.far in
     let p : ℕ → Bool = expects me role sender far.trusted stage in
-    let nobody = idle_set me role sender far.trusted stage idle in
+    let nobody = unheard_is me role sender far.trusted stage idle in
     let nothing : None ≡ taken_of_sender sender c = sym (ap (taken_of_sender sender) closed ∙ idle_taken far sense sender) in
     record {
       role_is = refl;
