@@ -1,19 +1,22 @@
 -- A document that fits two lawful buses says a bridge.
-use Rattle.std.proofs.Common.{◌≡◌, ℕ, pos, negsuc, ◌<◌, ◌≤◌, ◌==◌, ◌&&◌, ◌||◌, nat_le, All, Bool, true, false, not, List, [], ◌∷◌, length, map, get_or, eqb, Option, Some, None, refl, arith}
+use Rattle.std.proofs.Common.{◌≡◌, ℕ, pos, negsuc, ◌<◌, ◌≤◌, ◌==◌, ◌&&◌, ◌||◌, nat_le, All, Bool, true, false, not, List, [], ◌∷◌, length, map, get_or, eqb, Option, Some, None, refl, sym, ap, ◌∙◌, arith}
 use Rattle.std.specs.List.{AllByRecursion, IsDistinct, list_any}
-use Rattle.std.proofs.lemmas.Bool.{and_parts, leb-true, ltb-true, eqb-true}
+use Rattle.std.proofs.lemmas.Bool.{and_from, and_parts, eq-eqb, eqb-true, leb-true, ltb-true}
 use Rattle.std.proofs.lemmas.List.Elements.{All-cons, All-nil}
+use Rattle.std.proofs.lemmas.Option.{same_Some}
 use Rattle.toml.specs.Data.{Data, string, integer, float, boolean, datetime, array, table, Items, no_items, item, Members, at, get_member}
+use Rattle.rb_rules.specs.Entries.{IsListed}
 use Rattle.rb_rules.specs.Goodness.{Scenario}
 use Rattle.rb_rules.specs.Lawful.{IsLawful}
 use Rattle.rb_scenario_document.specs.Forms.{has_unknown, has_wrong, lacks}
-use Rattle.rb_scenario_document.specs.Values.{number_or}
+use Rattle.rb_scenario_document.specs.Values.{number_at, number_or}
 use Rattle.rb_scenario_document.specs.Walk.{every_item, length_of}
 use Rattle.rb_rules_bridge.specs.declared.bank.Bank.{Bank}
 use Rattle.rb_rules_bridge.specs.declared.bank.Bank.TheVariants.{Left, Right}
 use Rattle.rb_rules_bridge.specs.declared.bank.Pair.{Pair}
 use Rattle.rb_rules_bridge.specs.Bridges.{Bridge, IsBridge, IsHead, biu_on, bus_on, slot_on}
-use Rattle.rb_bridge_document.specs.Documents.{are_apart, bridge_fields, bridge_of, has_bridge_form, has_slot, is_below, is_head, is_in_range, joins, pair_in, pair_items, pairs_in, slot_key}
+use Rattle.rb_bridge_document.specs.Acceptance.{AreListed}
+use Rattle.rb_bridge_document.specs.Documents.{are_apart, bridge_fields, bridge_of, has_bridge_form, has_slot, is_below, is_head, is_in_range, joins, pair_in, pair_items, pairs_in, slot_key, when}
 
 number-below : (count : ℕ) (o : Option Data) → is_below count o ≡ true → number_or 0 o < count
 number-below count None h = cc
@@ -107,6 +110,28 @@ says-bridge left right t lawful_left lawful_right some most range =
     slots : has_slot Left left t ≡ true → has_slot Right right t ≡ true → (bank : Bank) → slot_on bridge bank < (bus_on bridge bank).sizes.data_slots
     slots l r Left = number-below left.sizes.data_slots (get_member (slot_key Left) t) l
     slots l r Right = number-below right.sizes.data_slots (get_member (slot_key Right) t) r
+
+pub are-listed : (left right : Scenario) (t : Members) → IsListed left → IsListed right → AreListed (bridge_of left right t)
+are-listed left right t listed_left listed_right Left = listed_left
+are-listed left right t listed_left listed_right Right = listed_right
+
+when-some : {X : Type 0} (b : Bool) (x y : X) → when b x ≡ Some y → (b ≡ true) × (x ≡ y)
+when-some true x y e = (refl, same_Some x y e)
+when-some false x y e = cc
+
+-- two buses that are joined fit, and make the bridge that the document says
+pub joined : (left right : Scenario) (t : Members) (pairs : List Pair) (l r : ℕ) → when (every_item (joins left right) (pair_items t)) (pairs_in (pair_items t)) ≡ Some pairs
+    → are_apart Left pairs ≡ true → are_apart Right pairs ≡ true → when (has_slot Left left t) (number_at (slot_key Left) 0 t) ≡ Some l
+    → when (has_slot Right right t) (number_at (slot_key Right) 0 t) ≡ Some r → left.frames ≡ right.frames
+    → (is_in_range left right t ≡ true) × (record { left = left; right = right; pairs = pairs; left_slot = l; right_slot = r } ≡ bridge_of left right t)
+joined left right t pairs l r all apart_left apart_right slot_left slot_right frames =
+    let p = when-some (every_item (joins left right) (pair_items t)) (pairs_in (pair_items t)) pairs all in
+    let s = when-some (has_slot Left left t) (number_at (slot_key Left) 0 t) l slot_left in
+    let u = when-some (has_slot Right right t) (number_at (slot_key Right) 0 t) r slot_right in (
+      and_from _ _ (and_from _ _ (and_from _ _ p.0 (and_from _ _ (ap (are_apart Left) p.1 ∙ apart_left) (ap (are_apart Right) p.1 ∙ apart_right))) (and_from _ _ s.0 u.0))
+          (eq-eqb left.frames right.frames frames),
+      λ i. record { left = left; right = right; pairs = sym p.1 i; left_slot = sym s.1 i; right_slot = sym u.1 i },
+    )
 
 -- a document of the right form has few pairs
 pub few-pairs : (t : Members) → has_bridge_form t ≡ true → (1 ≤ length_of (pair_items t)) × (length_of (pair_items t) ≤ 16)

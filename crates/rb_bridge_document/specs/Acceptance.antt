@@ -1,11 +1,13 @@
 -- Which texts say a bridge, and why one is refused: by the first rule that it breaks.
 use Rattle.std.specs.Prelude.{⊤, ℕ, ◌≡◌, ◌≢◌, true, false, List, codes}
 use Rattle.toml.specs.Data.{Members}
+use Rattle.rb_rules.specs.Entries.{IsListed}
 use Rattle.rb_scenario_entries.specs.declared.refusal.Refusal.{Refusal}
 use Rattle.rb_scenario_entries.specs.declared.refusal.Refusal.TheVariants as scenario
 use Rattle.rb_scenario.specs.declared.scenario.Scenario.{Scenario as Accepted}
 use Rattle.rb_scenario.specs.Acceptance.{IsAccepted, IsDocument, IsRefused, as_scenario}
-use Rattle.rb_rules_bridge.specs.Bridges.{Bridge}
+use Rattle.rb_rules_bridge.specs.declared.bank.Bank.{Bank}
+use Rattle.rb_rules_bridge.specs.Bridges.{Bridge, bus_on}
 use Rattle.rb_bridge_document.specs.declared.bridge.Bridge.{Bridge as Kept}
 use Rattle.rb_bridge_document.specs.declared.refusal.BridgeRefusal.{BridgeRefusal}
 use Rattle.rb_bridge_document.specs.declared.refusal.BridgeRefusal.TheVariants.{BridgeToml, BridgeForm, LeftRefused, RightRefused, BridgeRange, OutOfMemory}
@@ -40,6 +42,10 @@ abbrev pub IsBridgeRefused : List ℕ → BridgeRefusal → Type 0
 IsBridgeRefused bytes BridgeToml = (t : Members) → ¬ IsDocument bytes t
 IsBridgeRefused bytes OutOfMemory = ⊤
 IsBridgeRefused bytes why = IsBridgeBroken bytes why
+
+-- on both buses faulty nodes do what the entries of a document list
+abbrev pub AreListed : Bridge → Type 0
+AreListed b = (bank : Bank) → IsListed (bus_on b bank)
 
 -- the bridge of the definitions that bridge b of the code stands for
 abbrev pub as_bridge : Kept → Bridge

@@ -1,6 +1,7 @@
 //! Reading a bridge.
 ghost use Rattle.std.specs.Prelude.{◌≡◌, ◌≤◌, ◌⊎◌, false, true, IfErr, IfOk, IfSome, None, option_map};
 ghost use Rattle.toml.specs.View.{table_view, view};
+ghost use Rattle.rb_rules.specs.Entries.{IsListed};
 ghost use Rattle.rb_rules.specs.Lawful.{IsLawful};
 ghost use Rattle.rb_scenario_document.specs.Values.{number_at, number_or};
 ghost use Rattle.rb_scenario_document.specs.Walk.{every_item, length_of};
@@ -8,7 +9,7 @@ ghost use Rattle.rb_scenario_entries.specs.declared.refusal.Refusal.{Refusal};
 ghost use Rattle.rb_scenario.specs.Acceptance.{IsAccepted, IsRefused, as_scenario};
 ghost use Rattle.rb_rules_bridge.specs.Bridges.{IsBridge};
 ghost use Rattle.rb_bridge_document.specs.declared.refusal.BridgeRefusal.{BridgeRefusal};
-ghost use Rattle.rb_bridge_document.specs.Acceptance.{IsBridgeAccepted, IsBridgeRefused, IsFirstBroken, SaysBridge, as_bridge, left_refusal, right_refusal};
+ghost use Rattle.rb_bridge_document.specs.Acceptance.{AreListed, IsBridgeAccepted, IsBridgeRefused, IsFirstBroken, SaysBridge, as_bridge, left_refusal, right_refusal};
 ghost use Rattle.rb_bridge_document.specs.Documents.{bridge_of, has_bridge_form, has_slot, is_below, is_in_range, joins, pair_items, pairs_in, slot_key, text_at, when};
 
 use crate::bridge::Bridge;
@@ -111,6 +112,7 @@ fn join(left: Scenario, right: Scenario, table: &Table) -> Option<Bridge>
 fn bus_at(alloc: Global, table: &Table, key: &str) -> Result<Scenario, Refusal>
     ensures accepted { IfOk result (IsAccepted (text_at key.now (table_view table.now))) }
     ensures lawful { IfOk result (λ s. IsLawful (as_scenario s)) }
+    ensures listed { IfOk result (λ s. IsListed (as_scenario s)) }
     ensures refused { IfErr result (IsRefused (text_at key.now (table_view table.now))) }
 {
     read(alloc, text_at(table, key).as_bytes())
@@ -138,6 +140,7 @@ fn right_refused(why: Refusal) -> BridgeRefusal
 fn read_table(alloc: Global, table: &Table) -> Result<Bridge, BridgeRefusal>
     ensures says { IfOk result (λ b. SaysBridge (table_view table.now) (as_bridge b)) }
     ensures bridge { IfOk result (λ b. IsBridge (as_bridge b)) }
+    ensures listed { IfOk result (λ b. AreListed (as_bridge b)) }
     ensures refused { IfErr result (λ e. (e ≡ BridgeRefusal.OutOfMemory)
         ⊎ IsFirstBroken (table_view table.now) e) }
 {
@@ -165,6 +168,7 @@ fn read_table(alloc: Global, table: &Table) -> Result<Bridge, BridgeRefusal>
 pub fn read_bridge(alloc: Global, bytes: &[u8]) -> Result<Bridge, BridgeRefusal>
     ensures accepted { IfOk result (λ b. IsBridgeAccepted bytes.now (as_bridge b)) }
     ensures bridge { IfOk result (λ b. IsBridge (as_bridge b)) }
+    ensures listed { IfOk result (λ b. AreListed (as_bridge b)) }
     ensures refused { IfErr result (IsBridgeRefused bytes.now) }
 {
     let table = match toml::table_from_slice(alloc, bytes) {

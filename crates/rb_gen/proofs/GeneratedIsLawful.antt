@@ -1,4 +1,4 @@
--- The generated scenario is lawful.
+-- The generated scenario is lawful, and its faulty nodes do what its entries list.
 use Rattle.std.proofs.Common.{◌≡◌, ℕ, suc, ◌+◌, ◌-◌, ◌/◌, ◌%◌, ◌^◌, ◌<◌, ◌≤◌, ◌&&◌, ◌||◌, ◌==◌, nat_le, nat_lt, Bool, true, false, cond, List, ◌∷◌, ◌++◌, map, replicate, get_or, Some, None, refl, inl, arith}
 use Rattle.std.specs.Prelude.{All}
 use Rattle.std.proofs.Math.Nat.{mod-lt}
@@ -11,6 +11,7 @@ use Rattle.rb_base.specs.Sizes.{IsShape}
 use Rattle.rb_base.specs.declared.node.NodeName.TheVariants.{Biu, Rmu}
 use Rattle.rb_base.proofs.Plain.{and-false}
 use Rattle.rb_rules.specs.Clock.{IsClock}
+use Rattle.rb_rules.specs.Entries.{IsListed}
 use Rattle.rb_rules.specs.Lawful.{IsLawful, IsNodeOf, IsOnsetOf, IsRuleOf, IsSayOf, kind_of}
 use Rattle.rb_rules.specs.Plan.{IsFeasible, IsPlan}
 use Rattle.rb_rules.proofs.Feasibility.{feasible_exactly}
@@ -144,8 +145,14 @@ generated_is_lawful drawn frames some most = record {
   rules = each_of (IsRuleOf (scenario_of drawn frames)) (rule_of drawn frames) 80 (λ i lt. rule_is drawn frames i lt);
   biu_onsets = record { enough = omega arith; each = onsets_are drawn frames 7 8 (biu_onset frames) (omega (arith, some)) (omega arith) };
   rmu_onsets = record { enough = omega arith; each = onsets_are drawn frames 4 11 (rmu_onset drawn frames) (mod-lt (get_or drawn 0 0) some) (omega arith) };
-  says = each_of (IsSayOf (scenario_of drawn frames)) (say_to frames) 4 (λ i lt. say_is drawn frames i some lt);
-  few_says = omega (arith, length-map-range_with_len (say_to frames) 0 4);
   few_rules = omega (arith, length-map-range_with_len (rule_of drawn frames) 0 80);
   few_segments = omega arith;
+}
+
+pub generated_is_listed : (drawn : List ℕ) (frames : ℕ) → 1 ≤ frames → IsListed (scenario_of drawn frames)
+unfolding scenario_of plan
+generated_is_listed drawn frames some = record {
+  behavior = λ me i span j. refl;
+  says = each_of (IsSayOf (scenario_of drawn frames)) (say_to frames) 4 (λ i lt. say_is drawn frames i some lt);
+  few = omega (arith, length-map-range_with_len (say_to frames) 0 4);
 }

@@ -5,7 +5,8 @@ use Rattle.rb_base.specs.Nodes.Side.{Biu, Rmu}
 use Rattle.rb_rules.specs.declared.link.Rule.{Rule}
 use Rattle.rb_rules.specs.declared.say.Say.{Say}
 use Rattle.rb_rules.specs.Clock.{Timeline}
-use Rattle.rb_rules.specs.Goodness.{Scenario}
+use Rattle.rb_rules.specs.Entries.{listed}
+use Rattle.rb_rules.specs.Goodness.{Scenario, clock_among}
 use Rattle.rb_scenario_document.specs.Names.{named}
 use Rattle.rb_scenario_entries.specs.declared.bus.Bus.{Bus}
 use Rattle.rb_scenario_entries.specs.Bus.{bus_of, plan_of, sizes_of, version_of}
@@ -71,6 +72,7 @@ of_parts frames requests words apps clocks rules biu rmu says = record {
   delays = record { base = 10000; rules = rules };
   biu_onsets = biu;
   rmu_onsets = rmu;
+  behavior = listed plan.version (clock_among sizes clocks) says;
   says = says;
 }
 

@@ -13,7 +13,8 @@ use Rattle.rb_rules.specs.declared.plan.Plan.{Plan}
 use Rattle.rb_rules.specs.declared.say.Content.TheVariants.{Word}
 use Rattle.rb_rules.specs.declared.say.Say.{Say}
 use Rattle.rb_rules.specs.Clock.{Timeline}
-use Rattle.rb_rules.specs.Goodness.{Scenario}
+use Rattle.rb_rules.specs.Entries.{listed}
+use Rattle.rb_rules.specs.Goodness.{Scenario, clock_among}
 use Rattle.rb_gen.specs.Draws.{numbers_drawn}
 
 -- The bus.
@@ -124,6 +125,7 @@ scenario_of drawn frames = record {
   delays = record { base = 10000; rules = map (rule_of drawn frames) (numbers 80) };
   biu_onsets = replicate 7 None ++ Some (biu_onset frames) ∷ replicate 8 None;
   rmu_onsets = replicate 4 None ++ Some (rmu_onset drawn frames) ∷ replicate 11 None;
+  behavior = listed plan.version (clock_among sizes (map (clock_of drawn) (numbers 13))) (map (say_to frames) (numbers 4));
   says = map (say_to frames) (numbers 4);
 }
 

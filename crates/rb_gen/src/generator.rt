@@ -1,6 +1,7 @@
 //! From a seed to a scenario.
 ghost use Rattle.std.specs.Prelude.{◌≡◌, ◌≤◌, ◌<◌, ◌∷◌, [], ◌++◌, map, IfOk};
 ghost use Rattle.rb_base.specs.Counting.{numbers};
+ghost use Rattle.rb_rules.specs.Entries.{IsListed};
 ghost use Rattle.rb_rules.specs.Lawful.{IsLawful};
 ghost use Rattle.rb_scenario.specs.Acceptance.{Says, as_scenario};
 ghost use Rattle.rb_gen.specs.Table.{table_of};
@@ -211,6 +212,7 @@ pub fn generate(alloc: Global, seed: u64, frames: u32) -> Result<Scenario, OutOf
     requires most { frames ≤ 4096 }
     ensures scenario { IfOk result (λ s. as_scenario s ≡ generated seed frames) }
     ensures lawful { IfOk result (λ s. IsLawful (as_scenario s)) }
+    ensures listed { IfOk result (λ s. IsListed (as_scenario s)) }
     ensures said { IfOk result (λ s. Says (table_of (as_scenario s)) s) }
 {
     let drawn = drawn_from(seed);

@@ -1,4 +1,4 @@
--- Every scenario that is accepted is lawful.
+-- Every scenario that is accepted is lawful, and its faulty nodes do what its entries list.
 use Rattle.std.proofs.Common.{◌≡◌, ◌+◌, ◌-◌, ◌^◌, ◌<◌, ◌≤◌, ℕ, List, Bool, true, false, not, nat_le, nat_lt, cond, All, length, get_or, map, codes, Option, Some, None, Result, Ok, Err, IfOk, refl, sym, ap, ◌∙◌, subst, arith, length-append}
 use Rattle.std.proofs.lemmas.Bool.{and_parts, leb-true, not-true}
 use Rattle.std.proofs.lemmas.List.Elements.{All-append, All-map}
@@ -14,6 +14,7 @@ use Rattle.rb_base.specs.Nodes.Side.{Biu, Rmu}
 use Rattle.rb_base.specs.Sizes.{sync_slot_of}
 use Rattle.rb_base.specs.declared.node.NodeName.{NodeName}
 use Rattle.rb_rules.specs.Clock.{IsClock, Timeline}
+use Rattle.rb_rules.specs.Entries.{IsListed}
 use Rattle.rb_rules.specs.Goodness.{Scenario}
 use Rattle.rb_rules.specs.Links.{name_of}
 use Rattle.rb_rules.specs.Plan.{IsFeasible, longest_of, shortest_of}
@@ -192,9 +193,7 @@ lawful bus t is fits kept =
     let few2 = and_parts _ _ kept.few in
     let few1 = and_parts _ _ few2.0 in
     let feasible : IsFeasible sc.sizes sc.plan = (feasible_exactly sc.sizes sc.plan).0 kept.plan in
-    let inside = sends_inside_all sc.sizes sc.plan is.plan feasible in
     let ruled : All (LinkLaw bus) sc.delays.rules = all_read (LinkLaw bus) (is_link bus) (rule_of bus) (entries_at (codes "link") t) (link_law bus) parts.links in
-    let said : All (SayLaw bus) sc.says = all_read (SayLaw bus) (is_say bus) (say_of bus) (entries_at (codes "say") t) (say_law bus is.plan inside) parts.says in
     record {
       sizes = is.shape;
       plan = is.plan;
@@ -222,6 +221,19 @@ lawful bus t is fits kept =
           };
       biu_onsets = onsets_in Biu bus.shape.bius bus t sc is.shape.most_bius refl refl is.frames.0 parts.faults;
       rmu_onsets = onsets_in Rmu bus.shape.rmus bus t sc is.shape.most_rmus refl refl is.frames.0 parts.faults;
+      few_rules = leb-true (length sc.delays.rules) 4096 few1.1;
+      few_segments = leb-true (segments_of_all sc.clocks) 4096 few2.1;
+    }
+
+-- what faulty nodes do is what the entries list
+pub are_listed : (bus : Bus) (t : Members) → IsBus bus → fits_bus bus t ≡ true → AllKept (scenario_on bus t) → IsListed (scenario_on bus t)
+are_listed bus t is fits kept =
+    let sc = scenario_on bus t in
+    let parts = fit_parts bus t fits in
+    let inside = sends_inside_all sc.sizes sc.plan is.plan ((feasible_exactly sc.sizes sc.plan).0 kept.plan) in
+    let said : All (SayLaw bus) sc.says = all_read (SayLaw bus) (is_say bus) (say_of bus) (entries_at (codes "say") t) (say_law bus is.plan inside) parts.says in
+    record {
+      behavior = λ me i span j. refl;
       says = λ k d lt.
           let law = said k d lt in
           let faulty = AllPass-from_list_all (λ say. not (is_node_good sc say.from say.frames.0 say.slots.0)) sc.says kept.says k d lt in
@@ -239,13 +251,13 @@ lawful bus t is fits kept =
             early_in_sync = law.early_in_sync;
             content = law.content;
           };
-      few_says = leb-true (length sc.says) 1024 few1.0;
-      few_rules = leb-true (length sc.delays.rules) 4096 few1.1;
-      few_segments = leb-true (segments_of_all sc.clocks) 4096 few2.1;
+      few = leb-true (length sc.says) 1024 (and_parts _ _ (and_parts _ _ kept.few).0).0;
     }
 
 pub lawful_result : {X E : Type 0} (as_scenario : X → Scenario) (bus : Bus) (t : Members) (r : Result X E) → IsBus bus → fits_bus bus t ≡ true
-    → IfOk r (λ s. as_scenario s ≡ scenario_on bus t) → IfOk r (λ _. broken_by (scenario_on bus t) ≡ None) → IfOk r (λ s. IsLawful (as_scenario s))
-lawful_result as_scenario bus t (Err e) is fits same unbroken = unbroken
+    → IfOk r (λ s. as_scenario s ≡ scenario_on bus t) → IfOk r (λ _. broken_by (scenario_on bus t) ≡ None)
+    → IfOk r (λ s. IsLawful (as_scenario s)) × IfOk r (λ s. IsListed (as_scenario s))
+lawful_result as_scenario bus t (Err e) is fits same unbroken = (unbroken, unbroken)
 lawful_result as_scenario bus t (Ok s) is fits same unbroken =
-    subst IsLawful (sym same) (lawful bus t is fits (kept_from_none (scenario_on bus t) unbroken))
+    let kept = kept_from_none (scenario_on bus t) unbroken in
+    (subst IsLawful (sym same) (lawful bus t is fits kept), subst IsListed (sym same) (are_listed bus t is fits kept))

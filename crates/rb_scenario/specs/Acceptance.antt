@@ -2,7 +2,8 @@
 use Rattle.std.specs.Prelude.{ℕ, ◌≡◌, ◌⊎◌, Bool, true, false, not, List, Option, Some, None, length, IsUtf8, ⊤}
 use Rattle.toml.specs.Data.{Members}
 use Rattle.toml.specs.Parse.{parse_document}
-use Rattle.rb_rules.specs.Goodness.{Scenario}
+use Rattle.rb_rules.specs.Entries.{listed}
+use Rattle.rb_rules.specs.Goodness.{Scenario, clock_among}
 use Rattle.rb_rules.specs.Plan.{first_failing}
 use Rattle.rb_scenario_document.specs.Forms.{has_unknown_key, has_wrong_form, lacks_key}
 use Rattle.rb_scenario_entries.specs.declared.refusal.Refusal.{Refusal}
@@ -61,6 +62,7 @@ as_scenario a = record {
   delays = a.delays;
   biu_onsets = a.biu_onset;
   rmu_onsets = a.rmu_onset;
+  behavior = listed a.plan.plan.version (clock_among a.plan.sizes a.clocks) a.says;
   says = a.says;
 }
 

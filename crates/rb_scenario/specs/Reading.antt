@@ -3,7 +3,8 @@ use Rattle.std.specs.Prelude.{ℕ, ◌+◌, ◌/◌, Bool, ◌&&◌, codes}
 use Rattle.std.specs.List.{list_all}
 use Rattle.toml.specs.Data.{Members}
 use Rattle.rb_base.specs.Nodes.Side.{Biu, Rmu}
-use Rattle.rb_rules.specs.Goodness.{Scenario}
+use Rattle.rb_rules.specs.Entries.{listed}
+use Rattle.rb_rules.specs.Goodness.{Scenario, clock_among}
 use Rattle.rb_rules.specs.Links.{DelayRules}
 use Rattle.rb_rules.specs.declared.plan.Plan.{Plan}
 use Rattle.rb_scenario_document.specs.Values.{may_have_number, number_at}
@@ -48,6 +49,7 @@ scenario_on bus t = record {
   delays = delays_on bus t;
   biu_onsets = onsets_of Biu bus t;
   rmu_onsets = onsets_of Rmu bus t;
+  behavior = listed bus.plan.version (clock_among bus.shape (clocks_of bus t)) (says_of bus t);
   says = says_of bus t;
 }
 

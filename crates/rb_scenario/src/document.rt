@@ -3,6 +3,7 @@ ghost use Rattle.std.specs.Prelude.{◌≡◌, ◌⊎◌, Some, None, true, IfEr
 ghost use Rattle.toml.specs.View.{table_view};
 ghost use Rattle.rb_scenario.specs.Acceptance.{IsAccepted, IsBrokenBy, IsRefused, Says, broken_by, first_broken, as_scenario};
 ghost use Rattle.rb_scenario_entries.specs.Bus.{IsBus, bus_of};
+ghost use Rattle.rb_rules.specs.Entries.{IsListed};
 ghost use Rattle.rb_rules.specs.Lawful.{IsLawful};
 ghost use Rattle.rb_scenario.specs.Reading.{fits_bus, scenario_of, scenario_on};
 
@@ -107,6 +108,7 @@ fn bus_for(table: &Table) -> Result<Bus, Refusal>
 fn read_table(alloc: Global, table: &Table) -> Result<Scenario, Refusal>
     ensures says { IfOk result (Says (table_view table.now)) }
     ensures lawful { IfOk result (λ s. IsLawful (as_scenario s)) }
+    ensures listed { IfOk result (λ s. IsListed (as_scenario s)) }
     ensures refused { IfErr result (λ e. (e ≡ Refusal.OutOfMemory)
         ⊎ (first_broken (table_view table.now) ≡ Some e)) }
 {
@@ -122,6 +124,7 @@ fn read_table(alloc: Global, table: &Table) -> Result<Scenario, Refusal>
 pub fn read(alloc: Global, bytes: &[u8]) -> Result<Scenario, Refusal>
     ensures accepted { IfOk result (IsAccepted bytes.now) }
     ensures lawful { IfOk result (λ s. IsLawful (as_scenario s)) }
+    ensures listed { IfOk result (λ s. IsListed (as_scenario s)) }
     ensures refused { IfErr result (IsRefused bytes.now) }
 {
     let table = match toml::table_from_slice(alloc, bytes) {

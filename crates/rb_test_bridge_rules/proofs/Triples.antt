@@ -108,8 +108,6 @@ lawful first second third onset small_first small_second small_third inside =
       rules = All-nil _;
       biu_onsets = record { enough = lit≤ tt; each = all_three (IsOnsetOf sc) None None onset tt tt inside };
       rmu_onsets = record { enough = lit≤ tt; each = all_same (IsOnsetOf sc) None 1 tt };
-      says = All-nil _;
-      few_says = lit≤ tt;
       few_rules = lit≤ tt;
       few_segments = lit≤ tt;
     }

@@ -46,6 +46,7 @@ bus sizes frames words onsets = record {
   delays = record { base = 10000; rules = [] };
   biu_onsets = onsets;
   rmu_onsets = replicate sizes.rmus None;
+  behavior = λ me i span j. [];
   says = [];
 }
 

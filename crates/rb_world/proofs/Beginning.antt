@@ -9,6 +9,7 @@ use Rattle.rb_base.specs.Nodes.{Side, other}
 use Rattle.rb_base.specs.Nodes.Side.{Biu, Rmu}
 use Rattle.rb_base.proofs.Plain.{none_not_some}
 use Rattle.rb_rules.specs.Core.{state_at, window_here}
+use Rattle.rb_rules.specs.Entries.{IsListed}
 use Rattle.rb_rules.specs.Goodness.{Scenario}
 use Rattle.rb_rules.specs.Hearing.{Coming, Span, span_of}
 use Rattle.rb_rules.specs.Lawful.{IsLawful}
@@ -76,14 +77,15 @@ pub apart : (me : Side) (n i : ℕ) → (i ≡ n → ⊥) → is_node me n me i 
 apart Biu n i ne = grind (arith, nat_tests, ne)
 apart Rmu n i ne = grind (arith, nat_tests, ne)
 
-pub may-proceed : (sc : Scenario) (me : Side) (n : ℕ) (kept : List KeptSite) (k : KeptSite) (scene : Scene) (w : World) → IsLawful sc → n < count_of me sc.sizes
+pub may-proceed : (sc : Scenario) (me : Side) (n : ℕ) (kept : List KeptSite) (k : KeptSite) (scene : Scene) (w : World) → IsLawful sc → IsListed sc → n < count_of me sc.sizes
     → slice_get kept n ≡ Some k → HaveBegun sc me n kept scene w → MayProceed sc me n k scene (with_begun sc me n w) (fresh_site sc.sizes me)
-may-proceed sc me n kept k scene w lawful below found is =
+may-proceed sc me n kept k scene w lawful listed below found is =
     let fresh = is.fresh n k (omega arith) found in
     let there = is.rest n (omega arith) below in
     record {
       at = record {
         lawful = lawful;
+        listed = listed;
         within = below;
         there = there;
         number = fresh.number;
@@ -145,26 +147,26 @@ at-place sc me n from kept k scene w below same value is =
     let many = is.many in
     slice_get_read kept (length kept) n k refl (omega (arith, many, below)) (value ∙ ap (λ i. get_or kept i k) same)
 
-by-number : (sc : Scenario) (me : Side) (n : ℕ) (kept : List KeptSite) (k : KeptSite) (scene : Scene) (w : World) → IsLawful sc → n < count_of me sc.sizes
+by-number : (sc : Scenario) (me : Side) (n : ℕ) (kept : List KeptSite) (k : KeptSite) (scene : Scene) (w : World) → IsLawful sc → IsListed sc → n < count_of me sc.sizes
     → slice_get kept n ≡ Some k → HaveBegun sc me n kept scene w → MayProceed sc me (number_of k) k scene (with_begun sc me n w) (fresh_site sc.sizes me)
-by-number sc me n kept k scene w lawful below found is =
+by-number sc me n kept k scene w lawful listed below found is =
     subst (λ i. MayProceed sc me i k scene (with_begun sc me n w) (fresh_site sc.sizes me)) (sym (is.fresh n k (omega arith) found).number)
-    (may-proceed sc me n kept k scene w lawful below found is)
+    (may-proceed sc me n kept k scene w lawful listed below found is)
 
-pub ready : (sc : Scenario) (me : Side) (n from : ℕ) (kept : List KeptSite) (k : KeptSite) (scene : Scene) → IsLawful sc → n < count_of me sc.sizes → from ≡ n
+pub ready : (sc : Scenario) (me : Side) (n from : ℕ) (kept : List KeptSite) (k : KeptSite) (scene : Scene) → IsLawful sc → IsListed sc → n < count_of me sc.sizes → from ≡ n
     → k ≡ get_or kept from k → ((w : World) × HaveBegun sc me n kept scene w) → (w : World) × (s : Site) × MayProceed sc me (number_of k) k scene w s
-ready sc me n from kept k scene lawful below same value some =
-    (with_begun sc me n some.0, fresh_site sc.sizes me, by-number sc me n kept k scene some.0 lawful below (at-place sc me n from kept k scene some.0 below same value some.1) some.1)
+ready sc me n from kept k scene lawful listed below same value some =
+    (with_begun sc me n some.0, fresh_site sc.sizes me, by-number sc me n kept k scene some.0 lawful listed below (at-place sc me n from kept k scene some.0 below same value some.1) some.1)
 
-pub begun-next : (sc : Scenario) (me : Side) (n from : ℕ) (kept : List KeptSite) (k new : KeptSite) (scene after : Scene) → IsLawful sc → n < count_of me sc.sizes → from ≡ n
+pub begun-next : (sc : Scenario) (me : Side) (n from : ℕ) (kept : List KeptSite) (k new : KeptSite) (scene after : Scene) → IsLawful sc → IsListed sc → n < count_of me sc.sizes → from ≡ n
     → k ≡ get_or kept from k → ((w : World) (s : Site) → MayProceed sc me (number_of k) k scene w s → Proceeds sc me (number_of k) new scene after w s)
     → (w : World) → HaveBegun sc me n kept scene w → HaveBegun sc me (n + 1) (slice_set kept from new) after w
-begun-next sc me n from kept k new scene after lawful below same value goes w is =
+begun-next sc me n from kept k new scene after lawful listed below same value goes w is =
     let found = at-place sc me n from kept k scene w below same value is in
     let number : number_of k ≡ n = (is.fresh n k (omega arith) found).number in
     one-more sc me n kept (slice_set kept from new) new scene after w is (ap (λ i. slice_set kept i new) same)
     (subst (λ i. Proceeds sc me i new scene after (with_begun sc me n w) (fresh_site sc.sizes me)) number
-    (goes (with_begun sc me n w) (fresh_site sc.sizes me) (by-number sc me n kept k scene w lawful below found is)))
+    (goes (with_begun sc me n w) (fresh_site sc.sizes me) (by-number sc me n kept k scene w lawful listed below found is)))
 
 pub at-end : (sc : Scenario) (me : Side) (n count : ℕ) (kept : List KeptSite) (scene : Scene) (w : World) → count ≤ n → n ≤ count → HaveBegun sc me n kept scene w
     → HaveBegun sc me count kept scene w

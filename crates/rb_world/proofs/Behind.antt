@@ -91,7 +91,7 @@ stopped sc kept scene until w v h me i s there stops =
 
 pub few : (sc : Scenario) (kept : Each KeptSite) (scene : Scene) (until : Side → ℕ → ℕ) (w v : World) → Trails sc kept scene until w v → (me : Side) (i : ℕ) (s : Site)
     → slice_get (of_kind me v.sites) i ≡ Some s → length (times_of s) ≤ most_pending sc me
-few sc kept scene until w v h = behind-few sc h.lawful h.reached.choices until v (is-ahead sc kept scene until w v h) (stopped sc kept scene until w v h)
+few sc kept scene until w v h = behind-few sc h.lawful h.listed h.reached.choices until v (is-ahead sc kept scene until w v h) (stopped sc kept scene until w v h)
 
 -- The node is swept up to it.
 
@@ -102,6 +102,7 @@ may-sweep-own sc kept scene until w v me i a h n =
     let time = its.time in
     record {
       lawful = h.trails.lawful;
+      listed = h.trails.listed;
       within = n.within;
       there = h.first.there;
       node = n.node;
@@ -199,6 +200,7 @@ may-tick-behind sc kept scene until w v me i a site lanes h sweeps =
     subst (λ (y : World). MayTick sc me i a.tick site after y (bare sc me i a s)) (sym same) (record {
       at = record {
         lawful = h.trails.lawful;
+        listed = h.trails.listed;
         within = n.within;
         there = there;
         number = sweeps.node.number;

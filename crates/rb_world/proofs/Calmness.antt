@@ -9,13 +9,18 @@ use Rattle.rb_base.specs.Nodes.Side.{Biu, Rmu}
 use Rattle.rb_base.specs.Sizes.{Sizes}
 use Rattle.rb_base.specs.declared.node.NodeName.{NodeName}
 use Rattle.rb_base.specs.declared.values.Place.{Place}
+use Rattle.rb_node.specs.Acts.{span_in}
+use Rattle.rb_node.specs.declared.act.Span.{Span as Stretch}
+use Rattle.rb_queue.specs.Waiting.{Held}
 use Rattle.rb_world_onset.specs.Faults.{Faults, faults_of}
 use Rattle.rb_plan.specs.Timetable.{Timetable}
 use Rattle.rb_rules.specs.declared.plan.Plan.{Plan}
 use Rattle.rb_rules.specs.declared.say.Say.{Say}
+use Rattle.rb_rules.specs.Book.{Each}
 use Rattle.rb_rules.specs.Clock.{Timeline}
 use Rattle.rb_rules.specs.Conviction.{turn}
 use Rattle.rb_rules.specs.Core.{is_tick, state_at, window_here}
+use Rattle.rb_rules.specs.Entries.{IsListed}
 use Rattle.rb_rules.specs.Goodness.{Scenario, clock_of, is_before, is_good, onsets_of}
 use Rattle.rb_rules.specs.Hearing.{Span, span_of}
 use Rattle.rb_rules.specs.Lawful.{IsLawful, kind_of}
@@ -26,12 +31,12 @@ use Rattle.rb_rules.specs.Slots.{count_of}
 use Rattle.rb_rules.specs.SyncStage.{new_epoch_of}
 use Rattle.rb_rules.specs.WorldStep.{Site, await, proceed, says_in, span_from}
 use Rattle.rb_world_traffic.specs.Arriving.{number_of}
-use Rattle.rb_world_traffic.specs.Saying.{KeptSayings, entries_for, first_frame, is_for, kept_of, last_frame}
+use Rattle.rb_world_traffic.specs.Saying.{KeptSayings, SaysTo, entries_for, first_frame, is_for, kept_of, last_frame}
 use Rattle.rb_world_traffic.proofs.Says.{none-after, none-before, none-for, number-of, says-are}
-use Rattle.rb_world.specs.Buses.{IsBus, scenario_of}
+use Rattle.rb_world.specs.Buses.{HasSaid, IsBus, bus_of, scenario_of, with_said}
 use Rattle.rb_world.specs.Calm.{AreRestless, first_restless, is_calm, is_outside, last_restless}
 use Rattle.rb_world.specs.declared.calm.Restless.{Restless}
-use Rattle.rb_world.proofs.Lanes.{kind-named}
+use Rattle.rb_world.proofs.Lanes.{kind-named, node-named}
 use Rattle.rb_world.proofs.Onward.{goes-in, goes-on}
 
 -- The frame of a window.
@@ -122,28 +127,28 @@ calm-good sc me i span frame calm within small is =
     ap (λ b. b && is_before o span.place.frame span.place.slot) (lt-ltb i (count_of me sc.sizes) within)
     ∙ good-out o (first_frame says) (last_frame says) span.place.frame span.place.slot few out
 
-pub calm-unsaid : (sc : Scenario) (me : Side) (i : ℕ) (span : Span) (frame : ℕ) → is_calm sc me i frame ≡ true → frame < 4294967296
+pub calm-unsaid : (sc : Scenario) → IsLawful sc → IsListed sc → (me : Side) (i : ℕ) (span : Span) (frame : ℕ) → is_calm sc me i frame ≡ true → i < count_of me sc.sizes → frame < 4294967296
     → (span.place.frame ≡ frame) ⊎ (span.place.frame ≡ frame + 1) → says_in sc me i span ≡ []
-calm-unsaid sc me i span frame calm small is =
+calm-unsaid sc lawful listed me i span frame calm within small is =
     let to : NodeName = name_of me i in
     let o = get_or (onsets_of me sc) i None in
     let says : List Say = entries_for (kept_of sc) to in
     let few : span.place.frame < 4294967297 = elim is [ inl e ↦ omega (arith, e, small) | inr e ↦ omega (arith, e, small) ] in
     let out = out-of (first_restless o (first_frame says)) (last_restless o (last_frame says)) frame span.place.frame calm is in
     sym (ap (λ k. says_in sc k (number_of to) span) (kind-named me i) ∙ ap (λ n. says_in sc me n span) (number-of me i))
-    ∙ says-are sc to span
+    ∙ says-are sc lawful listed to (node-named sc me i within) span
     ∙ none-for sc (clock_of sc (kind_of to) (number_of to)) span says (unsaid-out o says span.place few out)
 
-pub calm-awaits : (sc : Scenario) (me : Side) (i : ℕ) (s : Site) → is_calm sc me i s.core.state.frame ≡ true → i < count_of me sc.sizes → s.core.state.frame < 4294967296
+pub calm-awaits : (sc : Scenario) → IsLawful sc → IsListed sc → (me : Side) (i : ℕ) (s : Site) → is_calm sc me i s.core.state.frame ≡ true → i < count_of me sc.sizes → s.core.state.frame < 4294967296
     → proceed sc me i s ≡ await sc me i [] s
-calm-awaits sc me i s calm within small =
+calm-awaits sc lawful listed me i s calm within small =
     let go : (o : Option Span) → span_from sc.sizes sc.plan me s.core.state s.core.had ≡ o → proceed sc me i s ≡ await sc me i [] s =
     λ o. elim o as (λ o. span_from sc.sizes sc.plan me s.core.state s.core.had ≡ o → proceed sc me i s ≡ await sc me i [] s) [
       | None ↦ λ e. goes-on sc me i s e
       | Some span ↦ λ e.
           let frame = span-frame sc.sizes sc.plan me s.core.state s.core.had span e in
           goes-in sc me i span s e (calm-good sc me i span s.core.state.frame calm within small frame)
-          ∙ ap (λ more. await sc me i more s) (calm-unsaid sc me i span s.core.state.frame calm small frame)
+          ∙ ap (λ more. await sc me i more s) (calm-unsaid sc lawful listed me i span s.core.state.frame calm within small frame)
     ] in
     go (span_from sc.sizes sc.plan me s.core.state s.core.had) refl
 
@@ -157,11 +162,21 @@ found-restless sc me count nodes sayings many kept are =
 
 -- What is kept of a lawful scenario is kept of the bus.
 pub keeps-bus : (sc : Scenario) (plan : Timetable) (frames : ℕ) (requests words apps : List ℕ) (clocks : List Timeline) (delays : DelayRules) (onsets : Faults) (sayings : KeptSayings) (count : ℕ)
-    (bius rmus : List Restless) → IsLawful sc → scenario_of plan frames requests words apps clocks delays (faults_of sc) (kept_of sc) ≡ sc → onsets ≡ faults_of sc → sayings ≡ kept_of sc
+    (bius rmus : List Restless) → IsLawful sc → IsListed sc → scenario_of (bus_of plan frames requests words apps clocks delays (faults_of sc) (kept_of sc)) ≡ sc → onsets ≡ faults_of sc → sayings ≡ kept_of sc
     → count ≡ length sc.says → AreRestless sc.biu_onsets (kept_of sc) Biu sc.sizes.bius bius → AreRestless sc.rmu_onsets (kept_of sc) Rmu sc.sizes.rmus rmus
-    → IsBus count (scenario_of plan frames requests words apps clocks delays onsets sayings) onsets sayings bius rmus
-keeps-bus sc plan frames requests words apps clocks delays onsets sayings count bius rmus lawful whole faults kept many of_bius of_rmus =
-    let same : scenario_of plan frames requests words apps clocks delays onsets sayings ≡ sc =
-    ap (λ o. scenario_of plan frames requests words apps clocks delays o sayings) faults ∙ ap (scenario_of plan frames requests words apps clocks delays (faults_of sc)) kept ∙ whole in
+    → IsBus count (scenario_of (bus_of plan frames requests words apps clocks delays onsets sayings)) onsets sayings bius rmus
+keeps-bus sc plan frames requests words apps clocks delays onsets sayings count bius rmus lawful listed whole faults kept many of_bius of_rmus =
+    let same : scenario_of (bus_of plan frames requests words apps clocks delays onsets sayings) ≡ sc =
+    ap (λ o. scenario_of (bus_of plan frames requests words apps clocks delays o sayings)) faults
+    ∙ ap (λ k. scenario_of (bus_of plan frames requests words apps clocks delays (faults_of sc) k)) kept ∙ whole in
     subst (λ w. IsBus count w onsets sayings bius rmus) (sym same)
-    (record { lawful = lawful; onsets_are = faults; sayings_are = kept; many = many; restless_bius = of_bius; restless_rmus = of_rmus })
+    (record { lawful = lawful; listed = listed; onsets_are = faults; sayings_are = kept; many = many; restless_bius = of_bius; restless_rmus = of_rmus })
+
+-- what the bus says to a node in a window is what the scenario does
+pub says-so : (count : ℕ) (sc bus : Scenario) (onsets : Faults) (sayings : KeptSayings) (bius rmus : List Restless) (clock : Timeline) (node : NodeName) (span : Stretch) (before after : Each Held)
+    → IsBus count sc onsets sayings bius rmus → sc ≡ bus → clock ≡ clock_of bus (kind_of node) (number_of node) → SaysTo sayings clock node (span_in span) before after
+    → (after ≡ with_said bus node span before) × HasSaid bus node span before after
+says-so count sc bus onsets sayings bius rmus clock node span before after is same =
+    subst (λ b. clock ≡ clock_of b (kind_of node) (number_of node) → SaysTo sayings clock node (span_in span) before after
+    → (after ≡ with_said b node span before) × HasSaid b node span before after) same
+    (λ at says. (says.lanes sc is.lawful is.listed is.sayings_are at, λ sites holds. says.world sc sites is.lawful is.listed is.sayings_are at holds))

@@ -164,6 +164,7 @@ next-of sc until me n first begun kept lanes sites may is inside =
       there = s.is;
       may = record {
         lawful = may.lawful;
+        listed = may.listed;
         within = omega (arith, inside, many);
         there = first-rest sc until me n n sites (omega arith) ∙ s.is;
         node = is.rest n k.item s.item (omega arith) k.is s.is;
@@ -312,6 +313,7 @@ pub may-all : (sc : Scenario) (kept : Each KeptSite) (scene : Scene) (until : Si
     → MayCatchUp sc until me (of_kind me kept) scene.agenda v.sites
 may-all sc kept scene until w v me h = record {
   lawful = h.lawful;
+  listed = h.listed;
   counts = h.surrounds.counts me;
   lanes_are = λ side i below. has-lane sc scene v (name_of side i) h.surrounds (node-named sc side i below);
   nodes = h.nodes me;
@@ -327,6 +329,7 @@ may-others sc kept scene until w v n bius lanes h is =
     let far : of_kind Rmu (swept_first sc until Biu n v.sites) ≡ of_kind Rmu v.sites = first-far sc until Biu n v.sites in
     record {
       lawful = h.lawful;
+      listed = h.listed;
       counts = ap length far ∙ h.surrounds.counts Rmu;
       lanes_are = is.lanes_are;
       nodes = subst (AreNodes sc Rmu kept.rmus) (sym far) (h.nodes Rmu);

@@ -41,6 +41,7 @@ may-happen k w i name event lanes is below takes due =
       due.due,
       record {
         lawful = is.lawful;
+        listed = is.listed;
         reached = is.reached;
         found = ap (λ (l : List Due). slice_get l i) (due-is-now k.bus w (due-busy k w i is below)) ∙ due.found;
         node = due.named;

@@ -7,6 +7,7 @@ use Rattle.rb_base.specs.Nodes.Side.{Biu, Rmu}
 use Rattle.rb_base.specs.declared.node.NodeName.{NodeName}
 use Rattle.rb_rules.specs.Book.{Each, of_kind}
 use Rattle.rb_rules.specs.Core.{Core}
+use Rattle.rb_rules.specs.Entries.{IsListed}
 use Rattle.rb_rules.specs.Goodness.{Scenario, is_good}
 use Rattle.rb_rules.specs.Hearing.{Coming, Span}
 use Rattle.rb_rules.specs.Lawful.{is_node_good, kind_of}
@@ -104,15 +105,15 @@ await-named sc Biu i w = refl
 await-named sc Rmu i w = refl
 
 -- after the entries of the span the lane has room for the next tick
-pub spare-said : (sc : Scenario) (lanes after : Each Held) (name : NodeName) (span : Span) → HasLane lanes name
+pub spare-said : (sc : Scenario) → IsListed sc → (lanes after : Each Held) (name : NodeName) (span : Span) → HasLane lanes name
     → after ≡ with_lane name (with_arrivals (says_in sc (kind_of name) (number_of name) span) (lane_of lanes name)) lanes
     → length sc.says + 1 ≤ spare_of (lane_of lanes name) → 1 ≤ spare_of (lane_of after name)
-spare-said sc lanes after name span there is spare =
+spare-said sc listed lanes after name span there is spare =
     let more : List Coming = says_in sc (kind_of name) (number_of name) span in
     let lane : Held = lane_of lanes name in
     let now : lane_of after name ≡ with_arrivals more lane = ap (λ ls. lane_of ls name) is ∙ lane-with lanes name (with_arrivals more lane) there in
     let many : length (lane.arrivals ++ more) ≡ length lane.arrivals + length more = length-append lane.arrivals more in
-    let few : length more ≤ length sc.says = says-few sc (kind_of name) (number_of name) span in
+    let few : length more ≤ length sc.says = says-few sc listed (kind_of name) (number_of name) span in
     let left : 1 ≤ spare_of (with_arrivals more lane) = omega (arith, many, few, spare) in
     subst (λ l. 1 ≤ spare_of l) (sym now) left
 
@@ -176,6 +177,6 @@ after-calm sc me i name site before after w s frame named at is small calm await
     let here : is_calm sc me i s.core.state.frame ≡ true =
     sym (ap (is_calm sc me i) same) ∙ sym (ap (λ k. is_calm sc k (number_of name) frame) kind ∙ ap (λ n. is_calm sc me n frame) number) ∙ calm in
     let few : s.core.state.frame < 4294967296 = subst (λ f. f < 4294967296) same small in
-    proceeds-on sc me i site before after w s [] at (calm-awaits sc me i s here at.within few)
+    proceeds-on sc me i site before after w s [] at (calm-awaits sc at.lawful at.listed me i s here at.within few)
     (subst (Surrounds sc after) (await-named sc me i w) (does w s.core (core-at sc me i site before w s at) at.surrounds))
     (subst (λ k. OthersStay k before after) kind others)

@@ -12,6 +12,7 @@ use Rattle.rb_base.specs.Sizes.{IsShape, Sizes}
 use Rattle.rb_base.proofs.Plain.{none_not_some}
 use Rattle.rb_base.proofs.Sets.{has-set_of, has_above, set_of-lt}
 use Rattle.rb_rules.specs.Book.{each_of, of_kind}
+use Rattle.rb_rules.specs.Entries.{IsListed}
 use Rattle.rb_rules.specs.Goodness.{Scenario}
 use Rattle.rb_rules.specs.Hearing.{Coming, Span, port_at}
 use Rattle.rb_rules.specs.Lawful.{IsLawful}
@@ -28,7 +29,7 @@ use Rattle.rb_laws_events.specs.PendingEvents.{most_pending}
 use Rattle.rb_queue.specs.Waiting.{empty_lane}
 use Rattle.rb_world.specs.Sites.{KeptSite}
 use Rattle.rb_world_traffic.specs.Arriving.{AreRunning}
-use Rattle.rb_world.specs.Buses.{HasRoom, HaveRooms}
+use Rattle.rb_world.specs.Buses.{HasRoom, HaveRooms, listed_by}
 use Rattle.rb_world.specs.declared.last.Last.TheVariants as last
 use Rattle.rb_world.specs.declared.scene.Scene.{Scene}
 use Rattle.rb_world.specs.declared.ties.Seeding.{Seeding}
@@ -212,12 +213,12 @@ both-begun sc =
     ∙ ap (λ (rs : List Site). record (first_world sc) { sites = record { bius = (first_world sc).sites.bius; rmus = rs } }) rmus
 
 -- the BIUs may begin
-pub bius-may : (sc : Scenario) (scene : Scene) → IsLawful sc → Surrounds sc scene (before_all sc) → MayBegin sc Biu scene (before_all sc)
-bius-may sc scene lawful is = record { lawful = lawful; surrounds = is; fresh = get-made sc.sizes (λ me i. fresh_site sc.sizes me) Biu }
+pub bius-may : (sc : Scenario) (scene : Scene) → IsLawful sc → IsListed sc → Surrounds sc scene (before_all sc) → MayBegin sc Biu scene (before_all sc)
+bius-may sc scene lawful listed is = record { lawful = lawful; listed = listed; surrounds = is; fresh = get-made sc.sizes (λ me i. fresh_site sc.sizes me) Biu }
 
-pub rmus-may : (sc : Scenario) (kept : List KeptSite) (scene : Scene) (n : ℕ) → IsLawful sc → HaveBegun sc Biu n kept scene (before_all sc) → MayBegin sc Rmu scene (with_begun sc Biu n (before_all sc))
-rmus-may sc kept scene n lawful is =
-    record { lawful = lawful; surrounds = is.surrounds; fresh = λ i below. begun-other sc Biu n i (before_all sc) ∙ get-made sc.sizes (λ me i. fresh_site sc.sizes me) Rmu i below }
+pub rmus-may : (sc : Scenario) (kept : List KeptSite) (scene : Scene) (n : ℕ) → IsLawful sc → IsListed sc → HaveBegun sc Biu n kept scene (before_all sc) → MayBegin sc Rmu scene (with_begun sc Biu n (before_all sc))
+rmus-may sc kept scene n lawful listed is =
+    record { lawful = lawful; listed = listed; surrounds = is.surrounds; fresh = λ i below. begun-other sc Biu n i (before_all sc) ∙ get-made sc.sizes (λ me i. fresh_site sc.sizes me) Rmu i below }
 
 begun-nodes : (sc : Scenario) (me : Side) (kept : List KeptSite) (scene : Scene) (w : World) → HaveBegun sc me (count_of me sc.sizes) kept scene w → AreNodes sc me kept (of_kind me (first_world sc).sites)
 unfolding first_world
@@ -230,12 +231,13 @@ begun-nodes sc me kept scene w is = record {
       subst (IsNode sc me i k) (same_Some (proceed sc me i (fresh_site sc.sizes me)) s (sym (get-made sc.sizes (λ me i. proceed sc me i (fresh_site sc.sizes me)) me i within) ∙ there)) (is.begun i k within here);
 }
 
-pub first-stands : (sc : Scenario) (bius rmus : List KeptSite) (between scene : Scene) (draws : Seeding) → IsLawful sc → HaveBegun sc Biu sc.sizes.bius bius between (before_all sc)
+pub first-stands : (sc : Scenario) (lists : listed_by sc ≡ sc.behavior) (bius rmus : List KeptSite) (between scene : Scene) (draws : Seeding) → IsLawful sc → IsListed sc → HaveBegun sc Biu sc.sizes.bius bius between (before_all sc)
     → HaveBegun sc Rmu sc.sizes.rmus rmus scene (with_begun sc Biu sc.sizes.bius (before_all sc))
-    → Stands (record { bus = sc; nodes = record { bius = bius; rmus = rmus }; scene = scene; seeding = draws; last = last.Quiet }) (first_world sc)
+    → Stands (record { bus = sc; lists = lists; nodes = record { bius = bius; rmus = rmus }; scene = scene; seeding = draws; last = last.Quiet }) (first_world sc)
 unfolding first_world
-first-stands sc bius rmus between scene draws lawful one two = record {
+first-stands sc lists bius rmus between scene draws lawful listed one two = record {
   lawful = lawful;
+  listed = listed;
   reached = record { choices = []; is = refl };
   nodes = nodes;
   scene = subst (Surrounds sc scene) (both-begun sc) two.surrounds;
@@ -248,14 +250,14 @@ first-stands sc bius rmus between scene draws lawful one two = record {
 
 -- The steps, as they are taken.
 
-pub rmus-next : (sc : Scenario) (kept : List KeptSite) (scene : Scene) (n : ℕ) → IsLawful sc → HaveBegun sc Biu n kept scene (before_all sc) → (w : World) × MayBegin sc Rmu scene w
-rmus-next sc kept scene n lawful is = (with_begun sc Biu n (before_all sc), rmus-may sc kept scene n lawful is)
+pub rmus-next : (sc : Scenario) (kept : List KeptSite) (scene : Scene) (n : ℕ) → IsLawful sc → IsListed sc → HaveBegun sc Biu n kept scene (before_all sc) → (w : World) × MayBegin sc Rmu scene w
+rmus-next sc kept scene n lawful listed is = (with_begun sc Biu n (before_all sc), rmus-may sc kept scene n lawful listed is)
 
-pub opened : (sc : Scenario) (bius rmus : List KeptSite) (between scene : Scene) (draws : Seeding) (n m : ℕ) → IsLawful sc → n ≡ sc.sizes.bius → m ≡ sc.sizes.rmus
+pub opened : (sc : Scenario) (lists : listed_by sc ≡ sc.behavior) (bius rmus : List KeptSite) (between scene : Scene) (draws : Seeding) (n m : ℕ) → IsLawful sc → IsListed sc → n ≡ sc.sizes.bius → m ≡ sc.sizes.rmus
     → HaveBegun sc Biu n bius between (before_all sc) → ((w : World) → MayBegin sc Rmu between w → HaveBegun sc Rmu m rmus scene w)
-    → Stands (record { bus = sc; nodes = record { bius = bius; rmus = rmus }; scene = scene; seeding = draws; last = last.Quiet }) (first_world sc)
-opened sc bius rmus between scene draws n m lawful all_bius all_rmus one two =
+    → Stands (record { bus = sc; lists = lists; nodes = record { bius = bius; rmus = rmus }; scene = scene; seeding = draws; last = last.Quiet }) (first_world sc)
+opened sc lists bius rmus between scene draws n m lawful listed all_bius all_rmus one two =
     let first : HaveBegun sc Biu sc.sizes.bius bius between (before_all sc) = subst (λ n. HaveBegun sc Biu n bius between (before_all sc)) all_bius one in
     let w : World = with_begun sc Biu sc.sizes.bius (before_all sc) in
-    first-stands sc bius rmus between scene draws lawful first
-    (subst (λ m. HaveBegun sc Rmu m rmus scene w) all_rmus (two w (rmus-may sc bius between sc.sizes.bius lawful first)))
+    first-stands sc lists bius rmus between scene draws lawful listed first
+    (subst (λ m. HaveBegun sc Rmu m rmus scene w) all_rmus (two w (rmus-may sc bius between sc.sizes.bius lawful listed first)))

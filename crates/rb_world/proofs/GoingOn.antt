@@ -23,6 +23,6 @@ pub ended-gives : (k : KeptWorld) (w : World) (turn : Turn) → Stands k w → w
 ended-gives k w turn is ended same = subst (Gives k turn) (sym (ended-stays k.bus w ended)) (record { stands = is; turn_is = same })
 
 pub going-gives : (k : KeptWorld) (w : World) (book : KeptBook) (turn : Turn) (last : Last) → Stands k w → w.book.ended ≡ false → Settles k.bus ByItself w book turn
-    → last ≡ last_of (record_of turn) → Gives (record { bus = k.bus; nodes = k.nodes; scene = record k.scene { book = book }; seeding = k.seeding; last = last }) turn (go_on k.bus w)
+    → last ≡ last_of (record_of turn) → Gives (record { bus = k.bus; lists = k.lists; nodes = k.nodes; scene = record k.scene { book = book }; seeding = k.seeding; last = last }) turn (go_on k.bus w)
 going-gives k w book turn last is going settles kept =
-    gives k.bus ByItself w w (go_on k.bus w) GoOn k.nodes k.scene k.seeding book turn last is.lawful is.reached refl (go-on-is k.bus w going) is.nodes is.scene settles kept
+    gives k.bus k.lists ByItself w w (go_on k.bus w) GoOn k.nodes k.scene k.seeding book turn last is.lawful is.listed is.reached refl (go-on-is k.bus w going) is.nodes is.scene settles kept

@@ -29,6 +29,7 @@ use Rattle.rb_world.proofs.Behind.{behind-tick, goes-on}
 pub trails-first : (k : KeptWorld) (w : World) → Stands k w → Trails k.bus k.nodes k.scene (λ side j. 0) w w
 trails-first k w is = record {
   lawful = is.lawful;
+  listed = is.listed;
   reached = is.reached;
   ahead = sym (nobody-is-ahead k.bus w);
   nodes = is.nodes;
@@ -57,6 +58,7 @@ goes-to-tick sc kept new scene after until w v me i a name time book turn h happ
       goes = goes;
       trails = record {
         lawful = h.trails.lawful;
+        listed = h.trails.listed;
         reached = record { choices = goes.choices; is = sym goes.reached };
         ahead = refl;
         nodes = λ side. subst (λ xs. AreNodes sc side (of_kind side new) (of_kind side xs)) (sym (settle-sites sc ByAnEvent 2 x)) (happened.nodes side);
@@ -85,6 +87,7 @@ trails-by-itself sc kept scene until w v book turn h going settles =
     let sites : (go_on sc v).sites ≡ v.sites = ap (λ (x : World). x.sites) is ∙ settle-sites sc ByItself 2 v in
     record {
       lawful = h.lawful;
+      listed = h.listed;
       reached = reached-more sc w GoOn h.reached;
       ahead = ap (go_on sc) h.ahead ∙ go-on-passes sc until v;
       nodes = λ side. subst (λ xs. AreNodes sc side (of_kind side kept) (of_kind side xs)) (sym sites) (h.nodes side);

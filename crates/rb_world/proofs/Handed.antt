@@ -99,6 +99,7 @@ handed-stands : (k : KeptWorld) (scene : Scene) (w x : World) → Stands k w →
     → Surrounds k.bus scene x → Stands (record k { scene = scene }) x
 handed-stands k scene w x is reached sites book turn around = record {
   lawful = is.lawful;
+  listed = is.listed;
   reached = reached;
   nodes = λ me. subst (λ all. AreNodes k.bus me (of_kind me k.nodes) (of_kind me all)) (sym sites) (is.nodes me);
   scene = around;

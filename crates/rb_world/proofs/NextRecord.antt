@@ -102,12 +102,12 @@ some-record (shown.Breach place cause) no_record = refl
 
 -- n steps that give no record are fewer than 2^63
 pub not-so-many : (n : ℕ) (ties : Ties) (s0 s1 : ℕ) (before mid : KeptWorld) (w : World) → Stands before w → TakesSteps n ties s0 s1 before mid w → n < 2 ^ 63
-not-so-many n ties s0 s1 before mid w stands is = few-steps before.bus ties n (record { world = w; draws = s0 }) stands.lawful stands.reached is.quiet
+not-so-many n ties s0 s1 before mid w stands is = few-steps before.bus ties n (record { world = w; draws = s0 }) stands.lawful stands.listed stands.reached is.quiet
 
 -- The draws.
 
 pub with-seeding : (k : KeptWorld) (w : World) (s : Seeding) → Stands k w → Stands (record k { seeding = s }) w
-with-seeding k w s is = record { lawful = is.lawful; reached = is.reached; nodes = is.nodes; scene = is.scene; last = is.last }
+with-seeding k w s is = record { lawful = is.lawful; listed = is.listed; reached = is.reached; nodes = is.nodes; scene = is.scene; last = is.last }
 
 unfoldable pub goes-on : (ties : Ties) (b after : Seeding) (before mid : KeptWorld) (turn : Turn) (w : World) → b ≡ begun_with ties before.seeding → after.seed ≡ b.seed
     → RunsOn ties b.draws.state after.draws.state before mid turn w

@@ -114,7 +114,7 @@ tick-ready sc kept scene time name event w place d me i word wanted may shown na
     let node = (may.nodes me).each i found.item s found.is due.there in
     let a : Timed = due.ready.0 in
     let runs = next-due sc me i k.tick s a node.awaits due.ready.1.0 due.ready.1.1.0 in
-    let room = fits-reached sc w may.lawful may.reached in
+    let room = fits-reached sc w may.lawful may.listed may.reached in
     let there : slice_get (of_kind me w1.sites) i ≡ Some (record s { ahead = None }) = changed-there me i (without_waiting (Tick k.tick)) w s due.there in
     let after : IsNext sc.sizes sc.plan me i s.core.state s.core.had k.tick = next-had sc me i k.tick s runs.1 in
     record {
@@ -129,6 +129,7 @@ tick-ready sc kept scene time name event w place d me i word wanted may shown na
       may = record {
         at = record {
           lawful = may.lawful;
+          listed = may.listed;
           within = within;
           there = there;
           number = node.number;

@@ -4,6 +4,7 @@ use Rattle.std.proofs.Common.{◌≡◌, ℕ, ◌+◌, ◌^◌, ◌<◌, ◌≤�
 use Rattle.std.proofs.lemmas.Option.{same_Some}
 use Rattle.rb_base.specs.Nodes.{Side}
 use Rattle.rb_rules.specs.Core.{Act, pass_to}
+use Rattle.rb_rules.specs.Entries.{IsListed}
 use Rattle.rb_rules.specs.Goodness.{Scenario}
 use Rattle.rb_rules.specs.Lawful.{IsLawful}
 use Rattle.rb_rules.specs.WorldStep.{Choice, Due, Site, World, pass_and_tick, world_after}
@@ -22,11 +23,11 @@ use Rattle.rb_world.proofs.Spans.{spans-by}
 use Rattle.rb_world.specs.Steps.{SpansFit}
 use Rattle.rb_world.specs.Worlds.{IsReached}
 
-pub fits : (sc : Scenario) → IsLawful sc → (choices : List Choice) → EventsFit sc (world_after sc choices)
+pub fits : (sc : Scenario) → IsLawful sc → IsListed sc → (choices : List Choice) → EventsFit sc (world_after sc choices)
 fits = pending-few
 
-pub fits-reached : (sc : Scenario) (w : World) → IsLawful sc → IsReached sc w → EventsFit sc w
-fits-reached sc w lawful reached = subst (EventsFit sc) (sym reached.is) (fits sc lawful reached.choices)
+pub fits-reached : (sc : Scenario) (w : World) → IsLawful sc → IsListed sc → IsReached sc w → EventsFit sc w
+fits-reached sc w lawful listed reached = subst (EventsFit sc) (sym reached.is) (fits sc lawful listed reached.choices)
 
 -- The tick after one that is taken.
 

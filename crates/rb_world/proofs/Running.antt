@@ -6,6 +6,7 @@ use Rattle.rb_base.specs.Sizes.{Sizes}
 use Rattle.rb_base.specs.declared.node.NodeName.{NodeName}
 use Rattle.rb_base.specs.declared.node.NodeName.TheVariants as node
 use Rattle.rb_rules.specs.Book.{Each, Record, of_kind}
+use Rattle.rb_rules.specs.Entries.{IsListed}
 use Rattle.rb_rules.specs.Goodness.{Scenario}
 use Rattle.rb_rules.specs.Lawful.{IsLawful, kind_of}
 use Rattle.rb_rules.specs.Links.{name_of}
@@ -181,9 +182,9 @@ comes-to sc kept new scene after until n w d turn it some caught = record {
 }
 
 -- fewer than 2^63 steps in a row give no record
-pub few-along : (sc : Scenario) (kept : Each KeptSite) (scene : Scene) (until : Side → ℕ → ℕ) (n : ℕ) (w : World) (d : ℕ) → IsLawful sc → IsReached sc w → (on : Along sc kept scene until n w d) → n < 2 ^ 63
-few-along sc kept scene until n w d lawful reached on =
-    let few = few-steps sc First on.steps (record { world = w; draws = d }) lawful reached on.quiet in
+pub few-along : (sc : Scenario) (kept : Each KeptSite) (scene : Scene) (until : Side → ℕ → ℕ) (n : ℕ) (w : World) (d : ℕ) → IsLawful sc → IsListed sc → IsReached sc w → (on : Along sc kept scene until n w d) → n < 2 ^ 63
+few-along sc kept scene until n w d lawful listed reached on =
+    let few = few-steps sc First on.steps (record { world = w; draws = d }) lawful listed reached on.quiet in
     let many = on.many in
     omega (arith, few, many)
 
@@ -191,12 +192,12 @@ pub may-run : (k : KeptWorld) (w : World) → Stands k w → w.book.ended ≡ fa
 may-run k w is going = record { trails = trails-first k w is; going = going }
 
 unfoldable pub run-to : (k : KeptWorld) (w : World) (nodes : Each KeptSite) (scene : Scene) (turn : Turn) (last : Last) (d : ℕ) → Stands k w → ComesToRecord k.bus nodes scene turn w d
-    → last ≡ last_of (record_of turn) → RunsOn First d d k (record { bus = k.bus; nodes = nodes; scene = scene; seeding = k.seeding; last = last }) turn w
+    → last ≡ last_of (record_of turn) → RunsOn First d d k (record { bus = k.bus; lists = k.lists; nodes = nodes; scene = scene; seeding = k.seeding; last = last }) turn w
 run-to k w nodes scene turn last d is comes kept = record {
   next = comes.next;
   is = comes.is;
   gives = record {
-    stands = record { lawful = is.lawful; reached = comes.reached; nodes = comes.stands.nodes; scene = comes.stands.surrounds; last = kept ∙ ap last_of (sym comes.turn_is) };
+    stands = record { lawful = is.lawful; listed = is.listed; reached = comes.reached; nodes = comes.stands.nodes; scene = comes.stands.surrounds; last = kept ∙ ap last_of (sym comes.turn_is) };
     turn_is = comes.turn_is;
   };
 }

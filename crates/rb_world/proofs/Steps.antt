@@ -4,6 +4,7 @@ use Rattle.std.proofs.lemmas.Nat.{mod_below, mul-le}
 use Rattle.rb_laws_events.proofs.EventsHold.{due-holds, ends-hold}
 use Rattle.rb_laws_events.proofs.RoundNodes.{item-at}
 use Rattle.rb_rules.specs.Book.{Record}
+use Rattle.rb_rules.specs.Entries.{IsListed}
 use Rattle.rb_rules.specs.Goodness.{Scenario}
 use Rattle.rb_rules.specs.Lawful.{IsLawful}
 use Rattle.rb_rules.specs.WorldStep.{Choice, World, due_of, first_world, go_on, needs_no_event, take, world_after}
@@ -25,7 +26,7 @@ use Rattle.rb_world.proofs.LastTurn.{reached-ends}
 something-due : (sc : Scenario) → IsLawful sc → SomethingIsDue sc
 something-due = due-holds
 
-run-ends : (sc : Scenario) → IsLawful sc → EveryRunEnds sc
+run-ends : (sc : Scenario) → IsLawful sc → IsListed sc → EveryRunEnds sc
 run-ends = ends-hold
 
 -- If no record comes, an event was due.
@@ -110,10 +111,10 @@ steps-count sc ties (suc n) s lawful reached quiet =
 
 -- Numbers.
 
-pub few-takes : (sc : Scenario) → IsLawful sc → most_takes sc < 2 ^ 63
-few-takes sc lawful =
+pub few-takes : (sc : Scenario) → IsLawful sc → IsListed sc → most_takes sc < 2 ^ 63
+few-takes sc lawful listed =
     let nodes : nodes_of sc.sizes ≤ 32 = let b = lawful.sizes.most_bius in let r = lawful.sizes.most_rmus in omega (arith, b, r) in
-    let says = lawful.few_says in
+    let says = listed.few in
     let up : nodes_of sc.sizes * length sc.says ≤ 32 * 1024 = mul-le (nodes_of sc.sizes) (length sc.says) 32 1024 nodes says in
     let once : most_at_once sc ≤ 32800 = omega (arith, nodes, up) in
     let all : 2 ^ 31 * (most_at_once sc + 1) + most_at_once sc ≤ 2 ^ 31 * 32801 + 32800 = omega (arith, once) in
@@ -121,11 +122,11 @@ few-takes sc lawful =
     omega (arith, product)
 
 -- fewer than 2^63 steps in a row give no record
-pub few-steps : (sc : Scenario) (ties : Ties) (n : ℕ) (s : Standing) → IsLawful sc → IsReached sc s.world
+pub few-steps : (sc : Scenario) (ties : Ties) (n : ℕ) (s : Standing) → IsLawful sc → IsListed sc → IsReached sc s.world
     → ((m : ℕ) → 1 ≤ m → m ≤ n → (after_steps sc ties m s).world.turn ≡ None) → n < 2 ^ 63
-few-steps sc ties n s lawful reached quiet =
+few-steps sc ties n s lawful listed reached quiet =
     let is = steps-count sc ties n s lawful reached quiet in
     let many = is.many in
-    let few = (run-ends sc lawful).few is.choices in
-    let most = few-takes sc lawful in
+    let few = (run-ends sc lawful listed).few is.choices in
+    let most = few-takes sc lawful listed in
     omega (arith, many, few, most)

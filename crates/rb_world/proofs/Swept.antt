@@ -10,6 +10,7 @@ use Rattle.rb_base.specs.declared.node.NodeName.{NodeName}
 use Rattle.rb_rules.specs.Book.{Each, of_kind}
 use Rattle.rb_rules.specs.Clock.{ComesBy, stamp_of, time_of}
 use Rattle.rb_rules.specs.Core.{Core, arrive, next_tick, pass_to}
+use Rattle.rb_rules.specs.Entries.{IsListed}
 use Rattle.rb_rules.specs.Goodness.{Scenario, clock_of}
 use Rattle.rb_rules.specs.Hearing.{Coming}
 use Rattle.rb_rules.specs.Lawful.{IsLawful, kind_of}
@@ -41,6 +42,7 @@ use Rattle.rb_world.specs.Trailing.{IsReachable, MaySweep, NoneBefore, Sweeps, T
 -- the first arrival at a node that runs
 pub record MayCome (sc : Scenario) (me : Side) (i until place : ℕ) (site : KeptSite) (s : Site) (c : Coming) : Type 0 where
   pub lawful : IsLawful sc
+  pub listed : IsListed sc
   pub within : i < count_of me sc.sizes
   pub node : IsNode sc me i site s
   pub is : first_of s.coming ≡ Some (record { place = place; coming = c })
@@ -143,6 +145,7 @@ pub may-come : (sc : Scenario) (me : Side) (i until : ℕ) (site : KeptSite) (la
     → (takes : TakesArrival sc.sizes me i until new (at_node me i (λ _. on.now) sites) on.now c) → MayCome sc me i until takes.place site on.now c
 may-come sc me i until site lanes new sites s c on takes = record {
   lawful = on.may.lawful;
+  listed = on.may.listed;
   within = on.may.within;
   node = on.may.node;
   is = takes.is;
@@ -184,6 +187,7 @@ sweep-goes sc me i until site after lanes new sites s c on takes lane rooms numb
       ahead = keeps.0 ∙ on.ahead;
       may = record {
         lawful = on.may.lawful;
+        listed = on.may.listed;
         within = on.may.within;
         there = there-now sc me i sites s y on.there;
         node = come-node sc me i until takes.place site after z c (may-come sc me i until site lanes new sites s c on takes) number stands;

@@ -240,7 +240,7 @@ told-ended S step name a k w turn d is ended same = record {
 
 pub told-runs : (S : Type 0) (step : S → Told → S → Type 0) (name : NodeName) (a b : S) (k : KeptWorld) (w : World) (nodes : Each KeptSite) (scene : Scene) (turn : Turn) (last : Last) (d : ℕ) → Stands k w
     → ToldToRecord S step name a b k.bus nodes scene turn w d → last ≡ last_of (record_of turn)
-    → RunsTold S step name a b d k (record { bus = k.bus; nodes = nodes; scene = scene; seeding = k.seeding; last = last }) turn w
+    → RunsTold S step name a b d k (record { bus = k.bus; lists = k.lists; nodes = nodes; scene = scene; seeding = k.seeding; last = last }) turn w
 unfolding run-to
 told-runs S step name a b k w nodes scene turn last d is it kept = record { runs = run-to k w nodes scene turn last d is it.comes kept; told = it.told }
 

@@ -3,6 +3,7 @@ use Rattle.std.proofs.Common.{◌≡◌, ℕ, ◌<◌, ◌||◌, true, false, So
 use Rattle.rb_base.specs.Nodes.{Side, has}
 use Rattle.rb_base.specs.Nodes.Side.{Biu, Rmu}
 use Rattle.rb_rules.specs.Book.{Each, of_kind}
+use Rattle.rb_rules.specs.Entries.{IsListed}
 use Rattle.rb_rules.specs.Goodness.{Scenario}
 use Rattle.rb_rules.specs.Lawful.{IsLawful}
 use Rattle.rb_rules.specs.Slots.{count_of}
@@ -25,6 +26,7 @@ use Rattle.rb_world.specs.declared.scene.Scene.{Scene}
 use Rattle.rb_world.specs.declared.ties.Seeding.{Seeding}
 use Rattle.rb_world.specs.Steps.{Happens}
 use Rattle.rb_world.specs.Turning.{Gives}
+use Rattle.rb_world.specs.Buses.{listed_by}
 use Rattle.rb_world.specs.Worlds.{AreNodes, HoldsPorts, IsReached, Surrounds, last_of, running_of}
 
 -- a world with one more choice is reached
@@ -58,14 +60,15 @@ surrounds-settled sc way v scene book turn is settles =
     running Rmu = subst (AreRunning Rmu scene.running_rmu) (sym (settle-sites sc way 2 v)) (is.running Rmu)
 
 -- A choice that settles what is due leads to a world for which what is kept stands.
-pub gives : (sc : Scenario) (way : Way) (w v z : World) (c : Choice) (nodes : Each KeptSite) (scene : Scene) (draws : Seeding) (book : KeptBook) (turn : Turn) (last : Last) → IsLawful sc
+pub gives : (sc : Scenario) (lists : listed_by sc ≡ sc.behavior) (way : Way) (w v z : World) (c : Choice) (nodes : Each KeptSite) (scene : Scene) (draws : Seeding) (book : KeptBook) (turn : Turn) (last : Last) → IsLawful sc → IsListed sc
     → IsReached sc w → z ≡ choose sc w c → z ≡ settle sc way 2 v → ((me : Side) → AreNodes sc me (of_kind me nodes) (of_kind me v.sites)) → Surrounds sc scene v
     → Settles sc way v book turn → last ≡ last_of (record_of turn)
-    → Gives (record { bus = sc; nodes = nodes; scene = record scene { book = book }; seeding = draws; last = last }) turn z
-gives sc way w v z c nodes scene draws book turn last lawful reached chosen settled are is settles kept =
-    subst (λ x. Gives (record { bus = sc; nodes = nodes; scene = record scene { book = book }; seeding = draws; last = last }) turn x) (sym settled) (record {
+    → Gives (record { bus = sc; lists = lists; nodes = nodes; scene = record scene { book = book }; seeding = draws; last = last }) turn z
+gives sc lists way w v z c nodes scene draws book turn last lawful listed reached chosen settled are is settles kept =
+    subst (λ x. Gives (record { bus = sc; lists = lists; nodes = nodes; scene = record scene { book = book }; seeding = draws; last = last }) turn x) (sym settled) (record {
       stands = record {
         lawful = lawful;
+        listed = listed;
         reached = subst (IsReached sc) (sym chosen ∙ settled) (reached-more sc w c reached);
         nodes = λ me. subst (λ xs. AreNodes sc me (of_kind me nodes) (of_kind me xs)) (sym (settle-sites sc way 2 v)) (are me);
         scene = surrounds-settled sc way v scene book turn is settles;
@@ -74,12 +77,12 @@ gives sc way w v z c nodes scene draws book turn last lawful reached chosen sett
       turn_is = settles.turn_is;
     })
 
-pub taken : (sc : Scenario) (w : World) (i : ℕ) (d : Due) (nodes : Each KeptSite) (scene : Scene) (draws : Seeding) (book : KeptBook) (turn : Turn) (last : Last) → IsLawful sc
+pub taken : (sc : Scenario) (lists : listed_by sc ≡ sc.behavior) (w : World) (i : ℕ) (d : Due) (nodes : Each KeptSite) (scene : Scene) (draws : Seeding) (book : KeptBook) (turn : Turn) (last : Last) → IsLawful sc → IsListed sc
     → IsReached sc w → slice_get (due_of sc w) i ≡ Some d → Happens sc nodes scene w d → Settles sc Way.ByAnEvent (happens sc w d) book turn
-    → last ≡ last_of (record_of turn) → Gives (record { bus = sc; nodes = nodes; scene = record scene { book = book }; seeding = draws; last = last }) turn (take sc w i)
+    → last ≡ last_of (record_of turn) → Gives (record { bus = sc; lists = lists; nodes = nodes; scene = record scene { book = book }; seeding = draws; last = last }) turn (take sc w i)
 unfolding take
-taken sc w i d nodes scene draws book turn last lawful reached found happened settles kept =
-    gives sc Way.ByAnEvent w (happens sc w d) (take sc w i) (Take i) nodes scene draws book turn last lawful reached refl (ap (take_if_due sc w) found) happened.nodes
+taken sc lists w i d nodes scene draws book turn last lawful listed reached found happened settles kept =
+    gives sc lists Way.ByAnEvent w (happens sc w d) (take sc w i) (Take i) nodes scene draws book turn last lawful listed reached refl (ap (take_if_due sc w) found) happened.nodes
     happened.surrounds settles kept
 
 -- if the run goes on and its next record needs an event, what is due is what is due now

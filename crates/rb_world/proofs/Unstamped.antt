@@ -86,6 +86,7 @@ may-tick-with sc kept scene until w v me i a core site lanes h r =
     record {
       at = record {
         lawful = h.trails.lawful;
+        listed = h.trails.listed;
         within = n.within;
         there = there;
         number = r.number;

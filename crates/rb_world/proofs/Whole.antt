@@ -184,6 +184,7 @@ may-then sc me k site after before scene w s step same may ticked agenda told =
     record {
       at = record {
         lawful = may.at.lawful;
+        listed = may.at.listed;
         within = may.at.within;
         there = changed-there me i (after_tick sc w.ports me i x) w s may.at.there;
         number = same;

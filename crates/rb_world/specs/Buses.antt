@@ -1,10 +1,15 @@
 -- Nodes of a bus by their names, and how much may be pending at them.
-use Rattle.std.specs.Prelude.{ℕ, ◌≡◌, ◌+◌, ◌≤◌, All, List, length}
+use Rattle.std.specs.Prelude.{ℕ, ◌≡◌, ◌+◌, ◌≤◌, All, List, Option, length}
 use Rattle.rb_base.specs.Nodes.{Side}
 use Rattle.rb_base.specs.Nodes.Side.{Biu, Rmu}
+use Rattle.rb_base.specs.Sizes.{Sizes}
 use Rattle.rb_base.specs.declared.node.NodeName.{NodeName}
+use Rattle.rb_rules.specs.declared.plan.Plan.{Plan}
+use Rattle.rb_rules.specs.declared.say.Say.{Say}
+use Rattle.rb_rules.specs.Behavior.{Behavior}
 use Rattle.rb_rules.specs.Book.{Each}
-use Rattle.rb_rules.specs.Goodness.{Scenario}
+use Rattle.rb_rules.specs.Entries.{IsListed, listed}
+use Rattle.rb_rules.specs.Goodness.{Scenario, clock_among}
 use Rattle.rb_rules.specs.Clock.{Timeline}
 use Rattle.rb_rules.specs.Lawful.{IsLawful, kind_of}
 use Rattle.rb_rules.specs.Links.{DelayRules}
@@ -21,9 +26,22 @@ use Rattle.rb_queue.specs.Waiting.{Held, lane_of, with_lane}
 use Rattle.rb_world.specs.Calm.{AreRestless}
 use Rattle.rb_world.specs.declared.calm.Restless.{Restless}
 
--- the scenario of a bus, by what is kept of it
-abbrev pub scenario_of : Timetable → ℕ → List ℕ → List ℕ → List ℕ → List Timeline → DelayRules → Faults → KeptSayings → Scenario
-scenario_of plan frames requests words apps clocks delays onsets sayings = record {
+-- what is kept of a scenario: all but what faulty nodes do, which is what the entries list
+pub record KeptBus : Type 0 where
+  pub sizes : Sizes
+  pub plan : Plan
+  pub frames : ℕ
+  pub requests : List ℕ
+  pub words : List ℕ
+  pub apps : List ℕ
+  pub clocks : List Timeline
+  pub delays : DelayRules
+  pub biu_onsets : List (Option (ℕ × ℕ))
+  pub rmu_onsets : List (Option (ℕ × ℕ))
+  pub says : List Say
+
+abbrev pub bus_of : Timetable → ℕ → List ℕ → List ℕ → List ℕ → List Timeline → DelayRules → Faults → KeptSayings → KeptBus
+bus_of plan frames requests words apps clocks delays onsets sayings = record {
   sizes = plan.sizes;
   plan = plan.plan;
   frames = frames;
@@ -37,10 +55,33 @@ scenario_of plan frames requests words apps clocks delays onsets sayings = recor
   says = sayings.says;
 }
 
--- the scenario is lawful, and this is kept of who is good, of what is said, which are `count`
--- entries, and of the frames in which a node may not be good or may be told something
+-- the behavior that the entries of a scenario list
+abbrev pub listed_by : Scenario → Behavior
+listed_by sc = listed sc.plan.version (clock_among sc.sizes sc.clocks) sc.says
+
+-- the scenario of which this is kept
+abbrev pub scenario_of : KeptBus → Scenario
+scenario_of b = record {
+  sizes = b.sizes;
+  plan = b.plan;
+  frames = b.frames;
+  requests = b.requests;
+  words = b.words;
+  apps = b.apps;
+  clocks = b.clocks;
+  delays = b.delays;
+  biu_onsets = b.biu_onsets;
+  rmu_onsets = b.rmu_onsets;
+  behavior = listed b.plan.version (clock_among b.sizes b.clocks) b.says;
+  says = b.says;
+}
+
+-- the scenario is lawful, its faulty nodes do what its entries list, and this is kept of who is
+-- good, of what is said, which are `count` entries, and of the frames in which a node may not be
+-- good or may be told something
 pub record IsBus (count : ℕ) (sc : Scenario) (onsets : Faults) (sayings : KeptSayings) (bius rmus : List Restless) : Type 0 where
   pub lawful : IsLawful sc
+  pub listed : IsListed sc
   pub onsets_are : onsets ≡ faults_of sc
   pub sayings_are : sayings ≡ kept_of sc
   pub many : count ≡ length sc.says

@@ -2,6 +2,7 @@
 use Rattle.std.specs.Prelude.{ℕ, zero, suc, ◌≡◌, ◌<◌, ◌≤◌, Some, List, length, slice_get}
 use Rattle.rb_base.specs.Nodes.{Side}
 use Rattle.rb_rules.specs.Book.{each_of, of_kind}
+use Rattle.rb_rules.specs.Entries.{IsListed}
 use Rattle.rb_rules.specs.Goodness.{Scenario}
 use Rattle.rb_rules.specs.Lawful.{IsLawful}
 use Rattle.rb_rules.specs.Slots.{count_of}
@@ -33,6 +34,7 @@ with_begun sc me (suc n) w = moved me n (proceed sc me n) (with_begun sc me n w)
 -- no node of kind me has begun in this world, and this is kept of what surrounds the nodes
 pub record MayBegin (sc : Scenario) (me : Side) (scene : Scene) (w : World) : Type 0 where
   pub lawful : IsLawful sc
+  pub listed : IsListed sc
   pub surrounds : Surrounds sc scene w
   pub fresh : (i : ℕ) → i < count_of me sc.sizes → slice_get (of_kind me w.sites) i ≡ Some (fresh_site sc.sizes me)
 

@@ -12,6 +12,7 @@ use Rattle.rb_base.specs.declared.node.NodeName.{NodeName}
 use Rattle.rb_rules.specs.Book.{Each, Row, of_kind}
 use Rattle.rb_rules.specs.Clock.{ComesBy}
 use Rattle.rb_rules.specs.Core.{Act, Core, next_tick, pass_to}
+use Rattle.rb_rules.specs.Entries.{IsListed}
 use Rattle.rb_rules.specs.Goodness.{Scenario, clock_of}
 use Rattle.rb_rules.specs.Hearing.{Coming, Span}
 use Rattle.rb_rules.specs.Lawful.{IsLawful, kind_of}
@@ -40,6 +41,7 @@ moved me i change w = record w { sites = at_node me i change w.sites }
 -- a window
 pub record IsAt (sc : Scenario) (me : Side) (i : ℕ) (site : KeptSite) (scene : Scene) (w : World) (s : Site) : Type 0 where
   pub lawful : IsLawful sc
+  pub listed : IsListed sc
   pub within : i < count_of me sc.sizes
   pub there : slice_get (of_kind me w.sites) i ≡ Some s
   pub number : number_of site ≡ i
@@ -189,6 +191,7 @@ word_at sc w me i k s = word_of sc w.ports i (wants_in sc me i (pass_to k s.core
 -- without it
 pub record MayHappen (sc : Scenario) (kept : Each KeptSite) (scene : Scene) (time : ℕ) (name : NodeName) (event : Event) (w : World) (i : ℕ) (d : Due) : Type 0 where
   pub lawful : IsLawful sc
+  pub listed : IsListed sc
   pub reached : IsReached sc w
   pub found : slice_get (due_of sc w) i ≡ Some d
   pub node : name ≡ name_of d.side d.node

@@ -5,6 +5,7 @@ use Rattle.rb_base.specs.Nodes.{Side, other}
 use Rattle.rb_base.specs.Sizes.{Sizes}
 use Rattle.rb_rules.specs.Book.{Each, of_kind}
 use Rattle.rb_rules.specs.Clock.{time_of}
+use Rattle.rb_rules.specs.Entries.{IsListed}
 use Rattle.rb_rules.specs.Goodness.{Scenario, clock_of}
 use Rattle.rb_rules.specs.Hearing.{Coming}
 use Rattle.rb_base.specs.declared.node.NodeName.{NodeName}
@@ -66,6 +67,7 @@ pub record IsReachable (sc : Scenario) (me : Side) (i until : ℕ) (s : Site) : 
 -- the node may be swept up to this time: this is kept of it, and of what is pending
 pub record MaySweep (sc : Scenario) (me : Side) (i until : ℕ) (site : KeptSite) (lanes : Each Held) (sites : Each Site) (s : Site) : Type 0 where
   pub lawful : IsLawful sc
+  pub listed : IsListed sc
   pub within : i < count_of me sc.sizes
   pub there : slice_get (of_kind me sites) i ≡ Some s
   pub node : IsNode sc me i site s
@@ -106,6 +108,7 @@ pub record IsBehind (sc : Scenario) (me : Side) (i until : ℕ) (s : Site) : Typ
 -- left, and no others
 pub record Trails (sc : Scenario) (kept : Each KeptSite) (scene : Scene) (until : Side → ℕ → ℕ) (w v : World) : Type 0 where
   pub lawful : IsLawful sc
+  pub listed : IsListed sc
   pub reached : IsReached sc w
   pub ahead : w ≡ ahead_of sc until v
   pub nodes : (me : Side) → AreNodes sc me (of_kind me kept) (of_kind me v.sites)
@@ -169,6 +172,7 @@ swept_first sc until me (suc n) sites = at_node me n (swept sc me n (until me n)
 -- nodes of kind me may be swept
 pub record MayCatchUp (sc : Scenario) (until : Side → ℕ → ℕ) (me : Side) (kept : List KeptSite) (lanes : Each Held) (sites : Each Site) : Type 0 where
   pub lawful : IsLawful sc
+  pub listed : IsListed sc
   pub counts : length (of_kind me sites) ≡ count_of me sc.sizes
   pub lanes_are : (side : Side) (i : ℕ) → i < count_of side sc.sizes → HasLane lanes (name_of side i)
   pub nodes : AreNodes sc me kept (of_kind me sites)

@@ -5,6 +5,7 @@ use Rattle.rb_base.specs.Nodes.Side.{Biu, Rmu}
 use Rattle.rb_rules.specs.Book.{Each, Record, of_kind}
 use Rattle.rb_rules.specs.Clock.{time_of}
 use Rattle.rb_rules.specs.Core.{next_tick}
+use Rattle.rb_rules.specs.Entries.{IsListed}
 use Rattle.rb_rules.specs.Goodness.{Scenario, clock_of}
 use Rattle.rb_rules.specs.Lawful.{IsLawful}
 use Rattle.rb_rules.specs.Ports.{PortState}
@@ -21,12 +22,13 @@ use Rattle.rb_world.specs.declared.last.Last.{Last}
 use Rattle.rb_world.specs.declared.last.Last.TheVariants as last
 use Rattle.rb_world.specs.declared.scene.Scene.{Scene}
 use Rattle.rb_world.specs.declared.ties.Seeding.{Seeding}
-use Rattle.rb_world.specs.Buses.{HaveRooms}
+use Rattle.rb_world.specs.Buses.{HaveRooms, listed_by}
 
--- what is kept of a run: the bus, the nodes, what surrounds them, the draws among events that are
--- due, and which turn came last
+-- what is kept of a run: the bus, whose faulty nodes do what its entries list, the nodes, what
+-- surrounds them, the draws among events that are due, and which turn came last
 pub record KeptWorld : Type 0 where
   pub bus : Scenario
+  pub lists : listed_by bus ≡ bus.behavior
   pub nodes : Each KeptSite
   pub scene : Scene
   pub seeding : Seeding
@@ -96,6 +98,7 @@ last_of (Some (Record.Breach place cause)) = last.Breach place cause
 -- what is kept stands for a world of its bus that some choices lead to
 pub record Stands (k : KeptWorld) (w : World) : Type 0 where
   pub lawful : IsLawful k.bus
+  pub listed : IsListed k.bus
   pub reached : IsReached k.bus w
   pub nodes : (me : Side) → AreNodes k.bus me (of_kind me k.nodes) (of_kind me w.sites)
   pub scene : Surrounds k.bus k.scene w

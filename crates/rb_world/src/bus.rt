@@ -8,13 +8,14 @@ ghost use Rattle.rb_laws_events.specs.PendingEvents.{most_pending};
 ghost use Rattle.rb_node.specs.Acts.{IsSendable};
 ghost use Rattle.rb_queue.specs.Waiting.{HasLane, lane_of, spare_of};
 ghost use Rattle.rb_world_agenda.specs.Holding.{HoldsSites};
+ghost use Rattle.rb_rules.specs.Entries.{IsListed};
 ghost use Rattle.rb_rules.specs.Goodness.{clock_of};
 ghost use Rattle.rb_rules.specs.Lawful.{IsLawful, IsNodeOf, is_node_good, kind_of};
 ghost use Rattle.rb_world_book.specs.Holding.{Holds};
 ghost use Rattle.rb_scenario.specs.Acceptance.{as_scenario};
 ghost use Rattle.rb_world_traffic.specs.Arriving.{AreRunning, HaveRoom, number_of};
 ghost use Rattle.rb_world_traffic.specs.Departing.{with_sent};
-ghost use Rattle.rb_world.specs.Buses.{HasSaid, HaveRooms, with_said};
+ghost use Rattle.rb_world.specs.Buses.{HasSaid, HaveRooms, scenario_of, with_said};
 ghost use Rattle.rb_world.specs.Calm.{is_calm};
 
 use crate::calm::{Restless, is_outside, restless_nodes};
@@ -50,24 +51,24 @@ pub struct Bus {
 }
 
 impl Model for Bus {
-    ghost use Rattle.rb_rules.specs.Goodness.{Scenario};
-    ghost use Rattle.rb_world.specs.Buses.{IsBus, scenario_of};
+    ghost use Rattle.rb_world.specs.Buses.{IsBus, KeptBus, bus_of, scenario_of};
 
-    ghost Value = { Scenario };
+    ghost Value = { KeptBus };
 
-    ghost view = { λ b. scenario_of b.plan b.frames b.requests b.words b.apps b.clocks b.delays
-        b.onsets b.sayings };
+    ghost view = { λ b. bus_of b.plan b.frames b.requests b.words b.apps b.clocks b.delays b.onsets
+        b.sayings };
 
-    ghost invariant = { λ b. IsBus b.says
-        (scenario_of b.plan b.frames b.requests b.words b.apps b.clocks b.delays b.onsets b.sayings)
-        b.onsets b.sayings b.restless_biu b.restless_rmu };
+    ghost invariant = { λ b. IsBus b.says (scenario_of (bus_of b.plan b.frames b.requests b.words
+        b.apps b.clocks b.delays b.onsets b.sayings)) b.onsets b.sayings b.restless_biu
+        b.restless_rmu };
 }
 
 impl Bus {
     /// The bus of a scenario. All memory is taken here.
     pub fn new(alloc: Global, scenario: Scenario) -> Result<Bus, OutOfMemory>
-        requires { IsLawful (as_scenario scenario) }
-        ensures { IfOk result (λ b. b ≡ as_scenario scenario) }
+        requires lawful { IsLawful (as_scenario scenario) }
+        requires listed { IsListed (as_scenario scenario) }
+        ensures { IfOk result (λ b. scenario_of b ≡ as_scenario scenario) }
     {
         let shape = *scenario.plan.shape();
         let version = scenario.plan.plan().version;
@@ -132,7 +133,7 @@ impl Bus {
 
     /// The book of a run of the bus at its start.
     pub fn book(&self) -> Book
-        ensures { Holds self.now result (first_world self.now) }
+        ensures { Holds (scenario_of self.now) result (first_world (scenario_of self.now)) }
     {
         let plan = self.plan.plan();
         Book::new(
@@ -146,7 +147,7 @@ impl Bus {
     /// The clock of a node.
     pub fn clock(&self, node: NodeName) -> &Clock
         requires { IsNodeOf self.now.sizes node }
-        ensures { result.now ≡ clock_of self.now (kind_of node) (number_of node) }
+        ensures { result.now ≡ clock_of (scenario_of self.now) (kind_of node) (number_of node) }
     {
         match node {
             NodeName::Biu(i) => self.clocks.get(usize::from(i)),
@@ -158,7 +159,7 @@ impl Bus {
 
     /// Whether the node is good in a window.
     pub fn is_good(&self, node: NodeName, span: &Span) -> bool
-        ensures { result ≡ is_node_good self.now node span.now.place.frame span.now.place.slot }
+        ensures { result ≡ is_node_good (scenario_of self.now) node span.now.place.frame span.now.place.slot }
     {
         self.onsets.is_good(node, span.place.frame, span.place.slot)
     }
@@ -168,7 +169,7 @@ impl Bus {
     #[inline(always)]
     pub fn is_calm(&self, node: NodeName, frame: u32) -> bool
         requires { IsNodeOf self.now.sizes node }
-        ensures { result ≡ is_calm self.now (kind_of node) (number_of node) frame }
+        ensures { result ≡ is_calm (scenario_of self.now) (kind_of node) (number_of node) frame }
     {
         let restless = match node {
             NodeName::Biu(i) => self.restless_biu[usize::from(i)],
@@ -187,8 +188,8 @@ impl Bus {
 
     /// How much may be pending at a node at most, with what comes to it when an event is taken.
     pub fn room(&self) -> usize
-        ensures biu { most_pending self.now biu + length self.now.says + 1 ≤ result }
-        ensures rmu { most_pending self.now rmu + length self.now.says + 1 ≤ result }
+        ensures biu { most_pending (scenario_of self.now) biu + length self.now.says + 1 ≤ result }
+        ensures rmu { most_pending (scenario_of self.now) rmu + length self.now.says + 1 ≤ result }
         ensures most { result ≤ 65536 }
     {
         let nodes = self.plan.shape().biu().max(self.plan.shape().rmu());
@@ -203,8 +204,8 @@ impl Bus {
         requires spare { length self.now.says ≤ spare_of (lane_of agenda.old node) }
         requires stage { 1 ≤ span.now.place.stage }
         requires first { span.now.first ≤ 2 ^ 31 }
-        ensures lanes { agenda.new ≡ with_said self.now node span.now agenda.old }
-        ensures world { HasSaid self.now node span.now agenda.old agenda.new }
+        ensures lanes { agenda.new ≡ with_said (scenario_of self.now) node span.now agenda.old }
+        ensures world { HasSaid (scenario_of self.now) node span.now agenda.old agenda.new }
     {
         let span = rb_world_traffic::Span {
             place: span.place,
@@ -224,8 +225,9 @@ impl Bus {
         ensures world { (sites : Each Site)
             → AreRunning (other (kind_of departure.now.from)) running sites
             → HoldsSites self.now.sizes agenda.old sites
-            → HoldsSites self.now.sizes agenda.new (with_sent self.now departure.now sites) }
-        ensures rooms { HaveRooms self.now agenda.old → HaveRooms self.now agenda.new }
+            → HoldsSites self.now.sizes agenda.new (with_sent (scenario_of self.now) departure.now sites) }
+        ensures rooms { HaveRooms (scenario_of self.now) agenda.old
+            → HaveRooms (scenario_of self.now) agenda.new }
     {
         let clock = self.clock(departure.from);
         let version = self.plan.plan().version;

@@ -9,6 +9,7 @@ ghost use Rattle.rb_node.specs.Wants.{want_for};
 ghost use Rattle.rb_world.specs.Sites.{number_of};
 ghost use Rattle.rb_world.specs.Showing.{CanShow, CanShowTick, MayShow, MayShowArrival, MayShowTick};
 ghost use Rattle.rb_world.specs.Worlds.{NeedsEvent, Stands, due_in};
+ghost use Rattle.rb_world.specs.Buses.{scenario_of};
 
 use crate::Site;
 use crate::bus::Bus;
@@ -50,11 +51,13 @@ pub(crate) fn show_tick<K: Kind>(
     ports: &[Port],
     node: NodeName,
 ) -> Event
-    requires may { CanShowTick bus.now (side_of K.CODE) node site.now ports.now }
+    requires may { CanShowTick (scenario_of bus.now) (side_of K.CODE) node site.now ports.now }
     ensures { (k : ℕ) (states : List PortState) (s : WorldSite)
-        → MayShowTick bus.now (side_of K.CODE) (number_of site.now) k site.now ports.now
+        → MayShowTick (scenario_of bus.now) (side_of K.CODE) (number_of site.now) k site.now
+        ports.now
         node states s
-        → result ≡ event_of bus.now states (side_of K.CODE) (number_of site.now) s.core (Tick k) }
+        → result ≡ event_of (scenario_of bus.now) states (side_of K.CODE)
+        (number_of site.now) s.core (Tick k) }
 {
     let own = site.node();
     let had = own.had();
@@ -82,10 +85,13 @@ pub(crate) fn show_arrival<K: Kind>(
     bytes: &ArrayVec<u8, 32>,
 ) -> Event
     requires may { (s : WorldSite)
-        × MayShowArrival bus.now (side_of K.CODE) (number_of site.now) site.now time node s }
+        × MayShowArrival (scenario_of bus.now) (side_of K.CODE)
+        (number_of site.now) site.now time node s }
     ensures { (states : List PortState) (place : ℕ) (s : WorldSite)
-        → MayShowArrival bus.now (side_of K.CODE) (number_of site.now) site.now time node s
-        → result ≡ event_of bus.now states (side_of K.CODE) (number_of site.now) s.core
+        → MayShowArrival (scenario_of bus.now) (side_of K.CODE)
+        (number_of site.now) site.now time node s
+        → result ≡ event_of (scenario_of bus.now) states (side_of K.CODE)
+        (number_of site.now) s.core
         (Arrival place (record { time = time; from = from; bytes = bytes.now.items })) }
 {
     let had = site.node().had();
@@ -106,11 +112,13 @@ fn show<K: Kind>(
     time: u64,
     event: &Event,
 ) -> Event
-    requires may { CanShow bus.now (side_of K.CODE) site.now ports.now time event.now }
+    requires may { CanShow (scenario_of bus.now) (side_of K.CODE) site.now ports.now time event.now }
     ensures { (waits : Pending) (states : List PortState) (s : WorldSite)
-        → MayShow bus.now (side_of K.CODE) (number_of site.now) waits site.now ports.now time
+        → MayShow (scenario_of bus.now) (side_of K.CODE) (number_of site.now) waits site.now
+        ports.now time
         event.now states s
-        → result ≡ event_of bus.now states (side_of K.CODE) (number_of site.now) s.core waits }
+        → result ≡ event_of (scenario_of bus.now) states (side_of K.CODE)
+        (number_of site.now) s.core waits }
 {
     let node = site.name();
     match &event.kind {

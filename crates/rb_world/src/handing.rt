@@ -5,6 +5,7 @@ ghost use Rattle.rb_rules.specs.Goodness.{Scenario, is_good};
 ghost use Rattle.rb_rules.specs.Ports.{PortState, with_state};
 ghost use Rattle.rb_rules.specs.WorldStep.{World as RunWorld, hand};
 ghost use Rattle.rb_world.specs.Worlds.{HoldsPorts, Stands};
+ghost use Rattle.rb_world.specs.Buses.{scenario_of};
 
 use crate::bus::Bus;
 use crate::last::Last;
@@ -15,7 +16,7 @@ use rb_port::Port;
 
 // Whether a BIU is good at the start of a frame.
 fn is_good_at_begin(bus: &Bus, biu: u8, frame: u32) -> bool
-    ensures { result ≡ is_good bus.now Biu biu frame 0 }
+    ensures { result ≡ is_good (scenario_of bus.now) Biu biu frame 0 }
 {
     let place = Place {
         frame,

@@ -13,6 +13,7 @@ ghost use Rattle.rb_laws_sweeps.specs.Told.{Told, telling};
 ghost use Rattle.rb_world.specs.Showing.{CanShowTick, MayShowTick};
 ghost use Rattle.rb_world.specs.Steps.{CanHear, CanHearAt};
 ghost use Rattle.rb_world.specs.Observing.{TellsTickFor};
+ghost use Rattle.rb_world.specs.Buses.{scenario_of};
 
 use crate::Site;
 use crate::bus::Bus;
@@ -71,12 +72,15 @@ pub(crate) fn tell_arrival<K: Kind, T: Observer>(
     observer: &mut T,
 )
     requires name { node ≡ name_of (side_of K.CODE) (number_of site.now) }
-    requires stands { (s : WorldSite) × StandsFor bus.now (side_of K.CODE) site.now s }
-    requires may { CanHearAt bus.now (side_of K.CODE) node place site.now agenda.now }
+    requires stands { (s : WorldSite) × StandsFor (scenario_of bus.now)
+        (side_of K.CODE) site.now s }
+    requires may { CanHearAt (scenario_of bus.now) (side_of K.CODE) node place site.now agenda.now }
     ensures { (c : Coming) (at : ℕ) (s : WorldSite)
-        → CanHear bus.now (side_of K.CODE) (number_of site.now) node place site.now agenda.now c
-        → StandsFor bus.now (side_of K.CODE) site.now s → T.observes observer.old
-        (telling bus.now [] (side_of K.CODE) (number_of site.now) s (Arrival at c)) observer.new }
+        → CanHear (scenario_of bus.now) (side_of K.CODE) (number_of site.now) node place site.now
+        agenda.now c
+        → StandsFor (scenario_of bus.now) (side_of K.CODE) site.now s → T.observes observer.old
+        (telling (scenario_of bus.now) [] (side_of K.CODE) (number_of site.now) s
+        (Arrival at c)) observer.new }
 {
     let arrival = agenda.arrival(node, place);
     let time = arrival.time();
@@ -95,12 +99,14 @@ fn tell_tick<K: Kind, T: Observer>(
     node: NodeName,
     observer: &mut T,
 )
-    requires may { CanShowTick bus.now (side_of K.CODE) node site.now ports.now }
+    requires may { CanShowTick (scenario_of bus.now) (side_of K.CODE) node site.now ports.now }
     ensures { (k : ℕ) (states : List PortState) (s : WorldSite)
-        → MayShowTick bus.now (side_of K.CODE) (number_of site.now) k site.now ports.now
+        → MayShowTick (scenario_of bus.now) (side_of K.CODE) (number_of site.now) k site.now
+        ports.now
         node states s
         → T.observes observer.old
-        (telling bus.now states (side_of K.CODE) (number_of site.now) s (Tick k)) observer.new }
+        (telling (scenario_of bus.now) states (side_of K.CODE) (number_of site.now) s
+        (Tick k)) observer.new }
 {
     let event = show_tick(bus, apps, site, ports, node);
     observer.observe(frame_of(site), &event);
@@ -115,8 +121,10 @@ pub(crate) fn tell_tick_for<K: Kind, T: Observer>(
     node: NodeName,
     observer: &mut T,
 )
-    requires may { CanShowTick setup.now.bus.now (side_of K.CODE) node site.now ports.now }
-    ensures { TellsTickFor T T.observes setup.now.bus.now setup.now.observed (side_of K.CODE) node
+    requires may { CanShowTick (scenario_of setup.now.bus.now)
+        (side_of K.CODE) node site.now ports.now }
+    ensures { TellsTickFor T T.observes (scenario_of setup.now.bus.now) setup.now.observed
+        (side_of K.CODE) node
         site.now ports.now observer.old observer.new }
 {
     if is_observed(setup.observed, node) {

@@ -2,6 +2,7 @@
 ghost use Rattle.std.specs.Prelude.{◌≡◌, ◌<◌, ◌+◌, ◌∷◌, ◌++◌, [], IfOk, map};
 ghost use Rattle.rb_base.specs.Counting.{numbers};
 ghost use Rattle.rb_base.specs.Nodes.{side_of};
+ghost use Rattle.rb_rules.specs.Entries.{IsListed};
 ghost use Rattle.rb_rules.specs.Hearing.{port_at};
 ghost use Rattle.rb_rules.specs.Lawful.{IsLawful};
 ghost use Rattle.rb_rules.specs.Links.{name_of};
@@ -10,6 +11,7 @@ ghost use Rattle.rb_rules.specs.WorldStep.{World as RunWorld, first_world};
 ghost use Rattle.rb_scenario.specs.Acceptance.{as_scenario};
 ghost use Rattle.rb_world.specs.Openings.{AreFresh, HaveBegun, MayBegin, before_all};
 ghost use Rattle.rb_world.specs.Worlds.{HoldsPorts, Stands, Surrounds};
+ghost use Rattle.rb_world.specs.Buses.{scenario_of};
 
 use crate::Site;
 use crate::bus::Bus;
@@ -33,8 +35,8 @@ fn add_port(ports: &mut Vec<Port>, port: Port) -> Result<(), OutOfMemory>
 
 // The ports of all BIUs.
 fn open_ports(alloc: Global, bus: &Bus) -> Result<Vec<Port>, OutOfMemory>
-    ensures { IfOk result (λ ports. HoldsPorts bus.now ports.items
-        (map (port_at bus.now []) (numbers bus.now.sizes.bius))) }
+    ensures { IfOk result (λ ports. HoldsPorts (scenario_of bus.now) ports.items
+        (map (port_at (scenario_of bus.now) []) (numbers bus.now.sizes.bius))) }
 {
     let biu = bus.shape().biu();
     let mut ports = Vec::with_capacity(alloc, usize::from(biu))?;
@@ -54,7 +56,7 @@ fn add_site<K: Kind>(sites: &mut Vec<Site<K>>, site: Site<K>) -> Result<(), OutO
 // The `count` nodes of a kind before their first ticks.
 fn open_sites<K: Kind>(alloc: Global, bus: &Bus, count: u8) -> Result<Vec<Site<K>>, OutOfMemory>
     requires { count ≡ count_of (side_of K.CODE) bus.now.sizes }
-    ensures { IfOk result (λ sites. AreFresh bus.now (side_of K.CODE) sites.items) }
+    ensures { IfOk result (λ sites. AreFresh (scenario_of bus.now) (side_of K.CODE) sites.items) }
 {
     let mut sites = Vec::with_capacity(alloc, usize::from(count))?;
     for i in 0..count {
@@ -66,7 +68,8 @@ fn open_sites<K: Kind>(alloc: Global, bus: &Bus, count: u8) -> Result<Vec<Site<K
 
 // What surrounds them before anything is pending.
 fn open_scene(alloc: Global, bus: &Bus) -> Result<Scene, OutOfMemory>
-    ensures { IfOk result (λ scene. Surrounds bus.now scene (before_all bus.now)) }
+    ensures { IfOk result (λ scene. Surrounds (scenario_of bus.now) scene (before_all
+        (scenario_of bus.now))) }
 {
     let agenda = Agenda::new(alloc, bus.shape(), bus.room())?;
     let ports = open_ports(alloc, bus)?;
@@ -93,11 +96,13 @@ pub(crate) fn name_of<K: Kind>(i: u8) -> NodeName
 // Node `i` of the kind begins, the ones before it having begun.
 fn begin<K: Kind>(bus: &Bus, i: u8, sites: &mut Vec<Site<K>>, scene: &mut Scene)
     requires within { i < count_of (side_of K.CODE) bus.now.sizes }
-    requires lawful { IsLawful bus.now }
+    requires lawful { IsLawful (scenario_of bus.now) }
+    requires listed { IsListed (scenario_of bus.now) }
     requires begun { (w : RunWorld)
-        × HaveBegun bus.now (side_of K.CODE) i sites.old.items scene.old w }
-    ensures { (w : RunWorld) → HaveBegun bus.now (side_of K.CODE) i sites.old.items scene.old w
-        → HaveBegun bus.now (side_of K.CODE) (i + 1) sites.new.items scene.new w }
+        × HaveBegun (scenario_of bus.now) (side_of K.CODE) i sites.old.items scene.old w }
+    ensures { (w : RunWorld) → HaveBegun (scenario_of bus.now)
+        (side_of K.CODE) i sites.old.items scene.old w
+        → HaveBegun (scenario_of bus.now) (side_of K.CODE) (i + 1) sites.new.items scene.new w }
 {
     proceed(bus, name_of::<K>(i), &mut sites[usize::from(i)], scene);
 }
@@ -105,10 +110,10 @@ fn begin<K: Kind>(bus: &Bus, i: u8, sites: &mut Vec<Site<K>>, scene: &mut Scene)
 // All nodes of the kind begin, one after another.
 fn begin_all<K: Kind>(bus: &Bus, count: u8, sites: &mut Vec<Site<K>>, scene: &mut Scene)
     requires count { count ≡ count_of (side_of K.CODE) bus.now.sizes }
-    requires fresh { AreFresh bus.now (side_of K.CODE) sites.old.items }
-    requires may { (w : RunWorld) × MayBegin bus.now (side_of K.CODE) scene.old w }
-    ensures { (w : RunWorld) → MayBegin bus.now (side_of K.CODE) scene.old w
-        → HaveBegun bus.now (side_of K.CODE) count sites.new.items scene.new w }
+    requires fresh { AreFresh (scenario_of bus.now) (side_of K.CODE) sites.old.items }
+    requires may { (w : RunWorld) × MayBegin (scenario_of bus.now) (side_of K.CODE) scene.old w }
+    ensures { (w : RunWorld) → MayBegin (scenario_of bus.now) (side_of K.CODE) scene.old w
+        → HaveBegun (scenario_of bus.now) (side_of K.CODE) count sites.new.items scene.new w }
 {
     for i in 0..count {
         begin(bus, i, sites, scene);
@@ -119,7 +124,8 @@ impl World {
     /// The run of a scenario before its first event. All memory is taken here: no other call of the
     /// world takes any.
     pub fn open(alloc: Global, scenario: Scenario) -> Result<World, OutOfMemory>
-        requires { IsLawful (as_scenario scenario) }
+        requires lawful { IsLawful (as_scenario scenario) }
+        requires listed { IsListed (as_scenario scenario) }
         ensures stands { IfOk result (λ w. Stands w (first_world (as_scenario scenario))) }
         ensures bus { IfOk result (λ w. w.bus ≡ as_scenario scenario) }
     {

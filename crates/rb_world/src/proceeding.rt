@@ -9,6 +9,7 @@ ghost use Rattle.rb_world.specs.Sites.{Stands, number_of};
 ghost use Rattle.rb_world_traffic.specs.Arriving.{number_of as number_in};
 ghost use Rattle.rb_world.specs.Steps.{AwaitsNext, CanProceed, HasProceeded, OthersStay, moved};
 ghost use Rattle.rb_world.specs.Worlds.{Surrounds};
+ghost use Rattle.rb_world.specs.Buses.{scenario_of};
 
 use crate::Site;
 use crate::bus::Bus;
@@ -30,10 +31,11 @@ fn without<K: Copy>(set: NodeSet<K>, i: u8) -> NodeSet<K>
 fn await_tick<K: Kind>(bus: &Bus, node: NodeName, site: &Site<K>, scene: &mut Scene)
     requires node { IsNodeOf bus.now.sizes node }
     requires kind { kind_of node ≡ side_of K.CODE }
-    requires around { (w : World) × Surrounds bus.now scene.old w }
+    requires around { (w : World) × Surrounds (scenario_of bus.now) scene.old w }
     requires spare { 1 ≤ spare_of (lane_of scene.old.agenda node) }
     ensures others { OthersStay (kind_of node) scene.old scene.new }
-    ensures around { AwaitsNext bus.now (side_of K.CODE) node site.now scene.old scene.new }
+    ensures around { AwaitsNext (scenario_of bus.now) (side_of K.CODE) node site.now scene.old
+        scene.new }
 {
     if let Some(tick) = site.node().next_tick() {
         let time = bus.clock(node).at(tick);
@@ -44,10 +46,10 @@ fn await_tick<K: Kind>(bus: &Bus, node: NodeName, site: &Site<K>, scene: &mut Sc
 // The node stops: nothing is pending at it any more, and nothing comes to it.
 fn stop_at(bus: &Bus, node: NodeName, scene: &mut Scene)
     requires node { IsNodeOf bus.now.sizes node }
-    requires around { (w : World) × Surrounds bus.now scene.old w }
+    requires around { (w : World) × Surrounds (scenario_of bus.now) scene.old w }
     ensures others { OthersStay (kind_of node) scene.old scene.new }
-    ensures around { (w : World) → Surrounds bus.now scene.old w
-        → Surrounds bus.now scene.new (moved (kind_of node) (number_in node) stop w) }
+    ensures around { (w : World) → Surrounds (scenario_of bus.now) scene.old w
+        → Surrounds (scenario_of bus.now) scene.new (moved (kind_of node) (number_in node) stop w) }
 {
     scene.agenda.drop_all(node);
     match node {
@@ -61,8 +63,9 @@ fn stop_at(bus: &Bus, node: NodeName, scene: &mut Scene)
 #[inline(always)]
 fn proceed_in_full<K: Kind>(bus: &Bus, node: NodeName, site: &mut Site<K>, scene: &mut Scene)
     requires name { node ≡ name_of (side_of K.CODE) (number_of site.old) }
-    requires may { CanProceed bus.now (side_of K.CODE) site.old scene.old }
-    ensures { HasProceeded bus.now (side_of K.CODE) site.old site.new scene.old scene.new }
+    requires may { CanProceed (scenario_of bus.now) (side_of K.CODE) site.old scene.old }
+    ensures { HasProceeded (scenario_of bus.now) (side_of K.CODE) site.old site.new scene.old
+        scene.new }
 {
     if let Some(span) = site.entering() {
         if !bus.is_good(node, &span) {
@@ -81,8 +84,9 @@ fn proceed_in_full<K: Kind>(bus: &Bus, node: NodeName, site: &mut Site<K>, scene
 #[inline(always)]
 pub(crate) fn proceed<K: Kind>(bus: &Bus, node: NodeName, site: &mut Site<K>, scene: &mut Scene)
     requires name { node ≡ name_of (side_of K.CODE) (number_of site.old) }
-    requires may { CanProceed bus.now (side_of K.CODE) site.old scene.old }
-    ensures { HasProceeded bus.now (side_of K.CODE) site.old site.new scene.old scene.new }
+    requires may { CanProceed (scenario_of bus.now) (side_of K.CODE) site.old scene.old }
+    ensures { HasProceeded (scenario_of bus.now) (side_of K.CODE) site.old site.new scene.old
+        scene.new }
 {
     if bus.is_calm(node, site.node().engine().frame()) {
         await_tick(bus, node, site, scene);

@@ -13,6 +13,7 @@ ghost use Rattle.rb_world.specs.Runs.{nodes_of};
 ghost use Rattle.rb_world.specs.Trailing.{CanCatchUpAll, CanCatchUpAt, CanSweep, CatchesUp, CatchesUpAll, CatchesUpAt, HasSwept, KeepsLanes, Trails, until_from};
 ghost use Rattle.rb_world.specs.Unstamped.{AreOfSources, TakesInDue, with_nothing_before};
 ghost use Rattle.rb_world.specs.Observing.{TellsCatchUp, TellsCatchUpAll, TellsCatchUpAt, TellsSweep, TellsSweepFor};
+ghost use Rattle.rb_world.specs.Buses.{scenario_of};
 
 use crate::Site;
 use crate::bus::Bus;
@@ -34,8 +35,8 @@ pub(crate) fn sweep<K: Kind>(
     agenda: &mut Agenda,
 )
     requires name { node ≡ name_of (side_of K.CODE) (number_of site.old) }
-    requires may { CanSweep bus.now (side_of K.CODE) until site.old agenda.old }
-    ensures swept { HasSwept bus.now (side_of K.CODE) until site.old site.new
+    requires may { CanSweep (scenario_of bus.now) (side_of K.CODE) until site.old agenda.old }
+    ensures swept { HasSwept (scenario_of bus.now) (side_of K.CODE) until site.old site.new
         agenda.old agenda.new }
     ensures number { number_of site.new ≡ number_of site.old }
     ensures lanes { KeepsLanes agenda.old agenda.new }
@@ -110,12 +111,13 @@ fn sweep_told<K: Kind, T: Observer>(
     observer: &mut T,
 )
     requires name { node ≡ name_of (side_of K.CODE) (number_of site.old) }
-    requires may { CanSweep bus.now (side_of K.CODE) until site.old agenda.old }
-    ensures swept { HasSwept bus.now (side_of K.CODE) until site.old site.new
+    requires may { CanSweep (scenario_of bus.now) (side_of K.CODE) until site.old agenda.old }
+    ensures swept { HasSwept (scenario_of bus.now) (side_of K.CODE) until site.old site.new
         agenda.old agenda.new }
     ensures number { number_of site.new ≡ number_of site.old }
     ensures lanes { KeepsLanes agenda.old agenda.new }
-    ensures told { TellsSweep T T.observes bus.now (side_of K.CODE) until site.old agenda.old
+    ensures told { TellsSweep T T.observes (scenario_of bus.now)
+        (side_of K.CODE) until site.old agenda.old
         observer.old observer.new }
 {
     'events: loop {
@@ -143,12 +145,15 @@ pub(crate) fn sweep_for<K: Kind, T: Observer>(
     observer: &mut T,
 )
     requires name { node ≡ name_of (side_of K.CODE) (number_of site.old) }
-    requires may { CanSweep setup.now.bus.now (side_of K.CODE) until site.old agenda.old }
-    ensures swept { HasSwept setup.now.bus.now (side_of K.CODE) until site.old site.new
+    requires may { CanSweep (scenario_of setup.now.bus.now) (side_of K.CODE) until site.old
+        agenda.old }
+    ensures swept { HasSwept (scenario_of setup.now.bus.now) (side_of K.CODE) until site.old
+        site.new
         agenda.old agenda.new }
     ensures number { number_of site.new ≡ number_of site.old }
     ensures lanes { KeepsLanes agenda.old agenda.new }
-    ensures told { TellsSweepFor T T.observes setup.now.bus.now setup.now.observed (side_of K.CODE)
+    ensures told { TellsSweepFor T T.observes (scenario_of setup.now.bus.now) setup.now.observed
+        (side_of K.CODE)
         node until site.old agenda.old observer.old observer.new }
 {
     if is_observed(setup.observed, node) {
@@ -183,12 +188,13 @@ fn catch_up_at<K: Kind, T: Observer>(
 )
     requires within { i < length sites.old.items }
     requires small { tick.1 < 18446744073709551615 }
-    requires may { CanCatchUpAt setup.now.bus.now tick (side_of K.CODE) i
+    requires may { CanCatchUpAt (scenario_of setup.now.bus.now) tick (side_of K.CODE) i
         sites.old.items agenda.old }
-    ensures caught { CatchesUpAt setup.now.bus.now tick (side_of K.CODE) i
+    ensures caught { CatchesUpAt (scenario_of setup.now.bus.now) tick (side_of K.CODE) i
         sites.old.items sites.new.items agenda.old agenda.new }
     ensures many { length sites.new.items ≡ length sites.old.items }
-    ensures told { TellsCatchUpAt T T.observes setup.now.bus.now setup.now.observed tick
+    ensures told { TellsCatchUpAt T T.observes (scenario_of setup.now.bus.now) setup.now.observed
+        tick
         (side_of K.CODE) i sites.old.items agenda.old observer.old observer.new }
 {
     let site = &mut sites[i];
@@ -206,11 +212,12 @@ fn catch_up_all<K: Kind, T: Observer>(
     observer: &mut T,
 )
     requires small { tick.1 < 18446744073709551615 }
-    requires may { CanCatchUpAll setup.now.bus.now tick (side_of K.CODE)
+    requires may { CanCatchUpAll (scenario_of setup.now.bus.now) tick (side_of K.CODE)
         sites.old.items agenda.old }
-    ensures caught { CatchesUpAll setup.now.bus.now tick (side_of K.CODE)
+    ensures caught { CatchesUpAll (scenario_of setup.now.bus.now) tick (side_of K.CODE)
         sites.old.items sites.new.items agenda.old agenda.new }
-    ensures told { TellsCatchUpAll T T.observes setup.now.bus.now setup.now.observed tick
+    ensures told { TellsCatchUpAll T T.observes (scenario_of setup.now.bus.now) setup.now.observed
+        tick
         (side_of K.CODE) sites.old.items agenda.old observer.old observer.new }
 {
     for i in 0..sites.len() {
@@ -227,9 +234,11 @@ pub(crate) fn catch_up<T: Observer>(
 )
     requires small { IfSome tick (λ t. t.1 < 18446744073709551615) }
     requires trails { (w : RunWorld) × (v : RunWorld)
-        × Trails setup.now.bus.now (nodes_of run.old) run.old.scene (until_from tick) w v }
-    ensures caught { CatchesUp setup.now.bus.now tick run.old run.new }
-    ensures told { TellsCatchUp T T.observes setup.now.bus.now setup.now.observed tick run.old
+        × Trails (scenario_of setup.now.bus.now) (nodes_of run.old) run.old.scene
+        (until_from tick) w v }
+    ensures caught { CatchesUp (scenario_of setup.now.bus.now) tick run.old run.new }
+    ensures told { TellsCatchUp T T.observes (scenario_of setup.now.bus.now) setup.now.observed
+        tick run.old
         observer.old observer.new }
 {
     if let Some(tick) = tick {

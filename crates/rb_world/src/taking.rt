@@ -13,6 +13,7 @@ ghost use Rattle.rb_world.specs.Turning.{Gives};
 ghost use Rattle.rb_world.specs.Worlds.{Stands, due_in, last_of};
 ghost use Rattle.rb_world_book.specs.declared.turn.Turn.{Turn};
 ghost use Rattle.rb_world_book.specs.Records.{record_of};
+ghost use Rattle.rb_world.specs.Buses.{scenario_of};
 
 use crate::Site;
 use crate::bus::Bus;
@@ -45,10 +46,13 @@ pub(crate) fn last_of(turn: &Turn) -> Last
 pub(crate) fn tick_at<K: Kind>(bus: &Bus, apps: &Apps, i: u8, site: &mut Site<K>, scene: &mut Scene)
     requires number { i ≡ number_of site.old }
     requires may { (k : ℕ) × (w : RunWorld) × (s : WorldSite)
-        × MayTick bus.now (side_of K.CODE) (number_of site.old) k site.old scene.old w s }
+        × MayTick (scenario_of bus.now) (side_of K.CODE) (number_of site.old) k site.old scene.old
+        w s }
     ensures { (k : ℕ) (w : RunWorld) (s : WorldSite)
-        → MayTick bus.now (side_of K.CODE) (number_of site.old) k site.old scene.old w s
-        → HasTicked bus.now (side_of K.CODE) (number_of site.old) k site.new scene.new w s }
+        → MayTick (scenario_of bus.now) (side_of K.CODE) (number_of site.old) k site.old scene.old
+        w s
+        → HasTicked (scenario_of bus.now) (side_of K.CODE) (number_of site.old) k site.new
+        scene.new w s }
 {
     if let Some(k) = site.node().next_tick() {
         tick(bus, apps, i, k, site, scene);
@@ -58,10 +62,11 @@ pub(crate) fn tick_at<K: Kind>(bus: &Bus, apps: &Apps, i: u8, site: &mut Site<K>
 // The event happens at its node, at a time.
 fn happen(bus: &Bus, apps: &Apps, run: &mut Run, time: u64, node: NodeName, event: &Event)
     requires { (w : RunWorld) × (i : ℕ) × (d : Due)
-        × MayHappen bus.now (nodes_of run.old) run.old.scene time node event.now w i d }
+        × MayHappen (scenario_of bus.now) (nodes_of run.old) run.old.scene time node event.now w i
+        d }
     ensures { (w : RunWorld) (i : ℕ) (d : Due)
-        → MayHappen bus.now (nodes_of run.old) run.old.scene time node event.now w i d
-        → Happens bus.now (nodes_of run.new) run.new.scene w d }
+        → MayHappen (scenario_of bus.now) (nodes_of run.old) run.old.scene time node event.now w i d
+        → Happens (scenario_of bus.now) (nodes_of run.new) run.new.scene w d }
 {
     match (&event.kind, node) {
         (EventKind::Tick { .. }, NodeName::Biu(i)) => {
@@ -88,10 +93,11 @@ pub(crate) fn hear_at<K: Kind>(
     agenda: &mut Agenda,
 )
     requires name { node ≡ name_of (side_of K.CODE) (number_of site.old) }
-    requires may { CanHearAt bus.now (side_of K.CODE) node place site.old agenda.old }
+    requires may { CanHearAt (scenario_of bus.now) (side_of K.CODE) node place site.old agenda.old }
     ensures lane { agenda.new
         ≡ with_lane node (without_place place (lane_of agenda.old node)) agenda.old }
-    ensures stands { HasHeard bus.now (side_of K.CODE) node place site.old site.new agenda.old }
+    ensures stands { HasHeard (scenario_of bus.now) (side_of K.CODE) node place site.old site.new
+        agenda.old }
     ensures number { number_of site.new ≡ number_of site.old }
 {
     let arrival = agenda.arrival(node, place);

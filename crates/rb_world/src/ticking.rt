@@ -11,6 +11,7 @@ ghost use Rattle.rb_world.specs.Worlds.{HoldsPorts, Surrounds};
 ghost use Rattle.rb_rules.specs.WorldStep.{Site as WorldSite, World, with_delivery, word_of};
 ghost use Rattle.rb_world.specs.Sites.{number_of};
 ghost use Rattle.rb_world.specs.Steps.{CanTick, CanWant, Changes, DoesTick, HasRoomFor, IsWordSlot, MayTick, SeesOnlyNodes, begun_at, closed_by, sent_by, word_at};
+ghost use Rattle.rb_world.specs.Buses.{scenario_of};
 
 use crate::Site;
 use crate::bus::Bus;
@@ -25,11 +26,13 @@ use rb_world_traffic::Departure;
 
 // The word that a node is handed for a tick: its request, or what its port offers.
 pub(crate) fn word_for(bus: &Bus, apps: &Apps, ports: &[Port], i: u8, want: Want) -> u32
-    requires want { CanWant bus.now i want }
+    requires want { CanWant (scenario_of bus.now) i want }
     requires many { length ports.now ≡ bus.now.sizes.bius }
-    ensures { (states : List PortState) (slot : Option ℕ) → HoldsPorts bus.now ports.now states
+    ensures { (states : List PortState) (slot : Option ℕ)
+        → HoldsPorts (scenario_of bus.now) ports.now states
         → IsWordSlot bus.now.sizes slot
-        → want ≡ want_for bus.now.sizes slot → result ≡ word_of bus.now states i slot }
+        → want ≡ want_for bus.now.sizes slot → result ≡ word_of
+        (scenario_of bus.now) states i slot }
 {
     match want {
         Want::Nothing => 0,
@@ -42,8 +45,8 @@ pub(crate) fn word_for(bus: &Bus, apps: &Apps, ports: &[Port], i: u8, want: Want
 fn line_of_port(bus: &Bus, i: u8, ports: &[Port]) -> PortLine
     requires within { i < bus.now.sizes.bius }
     requires many { length ports.now ≡ bus.now.sizes.bius }
-    ensures { (states : List PortState) → HoldsPorts bus.now ports.now states
-        → Some result ≡ port_line Biu i (port_at bus.now states i) }
+    ensures { (states : List PortState) → HoldsPorts (scenario_of bus.now) ports.now states
+        → Some result ≡ port_line Biu i (port_at (scenario_of bus.now) states i) }
 {
     let port = &ports[usize::from(i)];
     PortLine {
@@ -58,8 +61,9 @@ fn line_of_port(bus: &Bus, i: u8, ports: &[Port]) -> PortLine
 fn begin(bus: &Bus, node: NodeName, epoch: Option<Epoch>, scene: &mut Scene)
     requires node { IsNodeOf bus.now.sizes node }
     requires tick { IfSome epoch (λ e. e.tick ≤ 2 ^ 31) }
-    requires around { (w : World) × Surrounds bus.now scene.old w }
-    ensures around { Changes bus.now scene.old scene.new (begun_at bus.now node epoch) }
+    requires around { (w : World) × Surrounds (scenario_of bus.now) scene.old w }
+    ensures around { Changes (scenario_of bus.now) scene.old scene.new (begun_at
+        (scenario_of bus.now) node epoch) }
     ensures rest { scene.new ≡ record scene.old { book = scene.new.book } }
 {
     if let Some(epoch) = epoch {
@@ -83,8 +87,9 @@ fn begin(bus: &Bus, node: NodeName, epoch: Option<Epoch>, scene: &mut Scene)
 // What a BIU delivers goes to its port. RMUs deliver nothing.
 #[inline(always)]
 fn deliver(bus: &Bus, apps: &Apps, i: u8, delivered: Option<Delivery>, ports: &mut Vec<Port>)
-    ensures { (states : List PortState) → HoldsPorts bus.now ports.old.items states
-        → HoldsPorts bus.now ports.new.items (with_delivery bus.now i delivered states) }
+    ensures { (states : List PortState) → HoldsPorts (scenario_of bus.now) ports.old.items states
+        → HoldsPorts (scenario_of bus.now) ports.new.items (with_delivery
+        (scenario_of bus.now) i delivered states) }
 {
     if let Some(delivery) = delivered {
         if usize::from(i) < ports.len() {
@@ -105,10 +110,11 @@ fn close<K: Kind>(
     scene: &mut Scene,
 )
     requires node { IsNodeOf bus.now.sizes node }
-    requires sources { closed ≡ true → SeesOnlyNodes bus.now (kind_of node) site.now.node.shown }
-    requires around { (w : World) × Surrounds bus.now scene.old w }
-    ensures around { Changes bus.now scene.old scene.new
-        (closed_by bus.now (side_of K.CODE) node closed site.now) }
+    requires sources { closed ≡ true → SeesOnlyNodes (scenario_of bus.now)
+        (kind_of node) site.now.node.shown }
+    requires around { (w : World) × Surrounds (scenario_of bus.now) scene.old w }
+    ensures around { Changes (scenario_of bus.now) scene.old scene.new
+        (closed_by (scenario_of bus.now) (side_of K.CODE) node closed site.now) }
     ensures agenda { scene.new.agenda ≡ scene.old.agenda }
 {
     if !closed {
@@ -145,9 +151,10 @@ fn depart(
     requires node { IsNodeOf bus.now.sizes node }
     requires tick { k ≤ 2 ^ 31 }
     requires message { IfSome message IsSendable }
-    requires around { (w : World) × Surrounds bus.now scene.old w }
-    requires room { HasRoomFor bus.now (other (kind_of node)) scene.old }
-    ensures { Changes bus.now scene.old scene.new (sent_by bus.now node frame k message) }
+    requires around { (w : World) × Surrounds (scenario_of bus.now) scene.old w }
+    requires room { HasRoomFor (scenario_of bus.now) (other (kind_of node)) scene.old }
+    ensures { Changes (scenario_of bus.now) scene.old scene.new (sent_by
+        (scenario_of bus.now) node frame k message) }
 {
     if let Some(message) = message {
         let departure = Departure {
@@ -171,11 +178,13 @@ fn tick_with_word<K: Kind>(
     site: &mut Site<K>,
     scene: &mut Scene,
 )
-    requires may { CanTick bus.now (side_of K.CODE) k site.old scene.old }
+    requires may { CanTick (scenario_of bus.now) (side_of K.CODE) k site.old scene.old }
     requires word { (w : World) (s : WorldSite)
-        → MayTick bus.now (side_of K.CODE) (number_of site.old) k site.old scene.old w s
-        → word ≡ word_at bus.now w (side_of K.CODE) (number_of site.old) k s }
-    ensures { DoesTick bus.now (side_of K.CODE) k site.old site.new scene.old scene.new }
+        → MayTick (scenario_of bus.now) (side_of K.CODE) (number_of site.old) k site.old scene.old
+        w s
+        → word ≡ word_at (scenario_of bus.now) w (side_of K.CODE) (number_of site.old) k s }
+    ensures { DoesTick (scenario_of bus.now) (side_of K.CODE) k site.old site.new scene.old
+        scene.new }
 {
     let node = site.name();
     let step = site.tick(k, word);
@@ -197,8 +206,9 @@ fn tick_in_full<K: Kind>(
     scene: &mut Scene,
 )
     requires number { i ≡ number_of site.old }
-    requires may { CanTick bus.now (side_of K.CODE) k site.old scene.old }
-    ensures { DoesTick bus.now (side_of K.CODE) k site.old site.new scene.old scene.new }
+    requires may { CanTick (scenario_of bus.now) (side_of K.CODE) k site.old scene.old }
+    ensures { DoesTick (scenario_of bus.now) (side_of K.CODE) k site.old site.new scene.old
+        scene.new }
 {
     let word = word_for(bus, apps, &scene.ports, i, site.node().wants_then());
     tick_with_word(bus, apps, k, word, site, scene);
@@ -216,8 +226,9 @@ pub(crate) fn tick<K: Kind>(
     scene: &mut Scene,
 )
     requires number { i ≡ number_of site.old }
-    requires may { CanTick bus.now (side_of K.CODE) k site.old scene.old }
-    ensures { DoesTick bus.now (side_of K.CODE) k site.old site.new scene.old scene.new }
+    requires may { CanTick (scenario_of bus.now) (side_of K.CODE) k site.old scene.old }
+    ensures { DoesTick (scenario_of bus.now) (side_of K.CODE) k site.old site.new scene.old
+        scene.new }
 {
     if site.end_window() {
         let node = name_of::<K>(i);

@@ -11,6 +11,7 @@ ghost use Rattle.rb_world.specs.Unstamped.{EndsExactly, MayTakeExactly, TakesExa
 ghost use Rattle.rb_rules.specs.Book.{Each};
 ghost use Rattle.rb_world.specs.Sites.{KeptSite};
 ghost use Rattle.rb_world.specs.Observing.{TellsFirst, TellsOwn, TellsRun, TellsStep};
+ghost use Rattle.rb_world.specs.Buses.{scenario_of};
 
 use crate::Site;
 use crate::bus::Bus;
@@ -50,8 +51,9 @@ fn take_exact_tick<K: Kind>(
     requires small { time < 18446744073709551615 }
     requires may { (kept : Each KeptSite) × (until : Side → ℕ → ℕ) × (w : RunWorld)
         × (v : RunWorld) × (a : Timed) × (own : List KeptSite)
-        × MayTakeExactly bus.now kept scene.old until w v (side_of K.CODE) i a time own site.old }
-    ensures takes { TakesExactly bus.now (side_of K.CODE) i time
+        × MayTakeExactly (scenario_of bus.now) kept scene.old until w v
+        (side_of K.CODE) i a time own site.old }
+    ensures takes { TakesExactly (scenario_of bus.now) (side_of K.CODE) i time
         site.old site.new scene.old scene.new }
 {
     take_in_all(name_of::<K>(i), time + 1, site, &mut scene.agenda);
@@ -71,10 +73,12 @@ fn take_tick<K: Kind, T: Observer>(
 )
     requires within { i < length sites.old.items }
     requires small { time < 18446744073709551615 }
-    requires may { CanTakeOwn setup.now.bus.now (side_of K.CODE) i time sites.old.items scene.old }
-    ensures takes { TakesOwn setup.now.bus.now (side_of K.CODE) i time
+    requires may { CanTakeOwn (scenario_of setup.now.bus.now)
+        (side_of K.CODE) i time sites.old.items scene.old }
+    ensures takes { TakesOwn (scenario_of setup.now.bus.now) (side_of K.CODE) i time
         sites.old.items sites.new.items scene.old scene.new }
-    ensures told { TellsOwn T T.observes setup.now.bus.now setup.now.observed (side_of K.CODE) i
+    ensures told { TellsOwn T T.observes (scenario_of setup.now.bus.now) setup.now.observed
+        (side_of K.CODE) i
         time sites.old.items scene.old observer.old observer.new }
 {
     let node = name_of::<K>(i);
@@ -93,9 +97,11 @@ fn take_tick<K: Kind, T: Observer>(
 fn take_first<T: Observer>(setup: &Setup<'_>, run: &mut Run, observer: &mut T) -> (NodeName, u64)
     requires may { (until : Side → ℕ → ℕ) × (w : RunWorld) × (v : RunWorld) × (me : Side) × (i : ℕ)
         × (a : Timed)
-        × BehindTick setup.now.bus.now (nodes_of run.old) run.old.scene until w v me i a }
-    ensures happens { TakesFirstOf setup.now.bus.now run.old run.new result }
-    ensures told { TellsFirst T T.observes setup.now.bus.now setup.now.observed run.old
+        × BehindTick (scenario_of setup.now.bus.now) (nodes_of run.old) run.old.scene until w v me
+        i a }
+    ensures happens { TakesFirstOf (scenario_of setup.now.bus.now) run.old run.new result }
+    ensures told { TellsFirst T T.observes (scenario_of setup.now.bus.now) setup.now.observed
+        run.old
         observer.old observer.new }
 {
     let (node, time) = run.scene.agenda.first_tick();
@@ -115,10 +121,11 @@ fn tick_first<T: Observer>(
     observer: &mut T,
 ) -> (NodeName, u64)
     requires quiet { turn.old ≡ Turn.Quiet }
-    requires may { CanTickFirst setup.now.bus.now run.old }
-    ensures goes { TicksFirst setup.now.bus.now run.old run.new result turn.new }
+    requires may { CanTickFirst (scenario_of setup.now.bus.now) run.old }
+    ensures goes { TicksFirst (scenario_of setup.now.bus.now) run.old run.new result turn.new }
     ensures small { result.1 < 18446744073709551615 }
-    ensures told { TellsFirst T T.observes setup.now.bus.now setup.now.observed run.old
+    ensures told { TellsFirst T T.observes (scenario_of setup.now.bus.now) setup.now.observed
+        run.old
         observer.old observer.new }
 {
     let (node, time) = take_first(setup, run, observer);
@@ -137,10 +144,12 @@ fn step_on<T: Observer>(
 )
     requires quiet { turn.old ≡ Turn.Quiet }
     requires small { IfSome tick.old (λ t. t.1 < 18446744073709551615) }
-    requires may { CanStepOn setup.now.bus.now tick.old run.old }
-    ensures comes { StepsOn setup.now.bus.now tick.old tick.new run.old run.new turn.new }
+    requires may { CanStepOn (scenario_of setup.now.bus.now) tick.old run.old }
+    ensures comes { StepsOn (scenario_of setup.now.bus.now) tick.old tick.new run.old run.new
+        turn.new }
     ensures small { IfSome tick.new (λ t. t.1 < 18446744073709551615) }
-    ensures told { TellsStep T T.observes setup.now.bus.now setup.now.observed tick.old tick.new
+    ensures told { TellsStep T T.observes (scenario_of setup.now.bus.now) setup.now.observed
+        tick.old tick.new
         run.old run.new turn.new observer.old observer.new }
 {
     if run.scene.book.needs_no_event() {
@@ -160,9 +169,11 @@ pub(crate) fn run_ticks<T: Observer>(
     observer: &mut T,
 )
     requires quiet { turn.old ≡ Turn.Quiet }
-    requires may { (w : RunWorld) × MayRun setup.now.bus.now (nodes_of run.old) run.old.scene w }
-    ensures comes { RunsToRecord setup.now.bus.now run.old run.new turn.new }
-    ensures told { TellsRun T T.observes setup.now.bus.now setup.now.observed run.old run.new
+    requires may { (w : RunWorld) × MayRun (scenario_of setup.now.bus.now)
+        (nodes_of run.old) run.old.scene w }
+    ensures comes { RunsToRecord (scenario_of setup.now.bus.now) run.old run.new turn.new }
+    ensures told { TellsRun T T.observes (scenario_of setup.now.bus.now) setup.now.observed run.old
+        run.new
         turn.new observer.old observer.new }
 {
     let mut tick = None;

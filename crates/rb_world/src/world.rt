@@ -17,10 +17,13 @@ pub struct World {
 
 impl Model for World {
     ghost use Rattle.rb_rules.specs.WorldStep.{World as RunWorld};
-    ghost use Rattle.rb_world.specs.Kept.{kept_of};
+    ghost use Rattle.std.specs.Coded.{code_by, codes};
+    ghost use Rattle.rb_world.specs.Kept.{KeptParts, kept_of, parts_of, world-again, world_of};
     ghost use Rattle.rb_world.specs.Worlds.{KeptWorld, Stands};
 
     ghost Value = { KeptWorld };
+
+    ghost coded = { code_by KeptParts (Prim.hlevel codes) parts_of world_of world-again };
 
     ghost view = { kept_of };
 

@@ -10,11 +10,13 @@ use Rattle.rb_base.specs.Sizes.{Sizes}
 use Rattle.rb_base.specs.declared.node.NodeName.{NodeName}
 use Rattle.rb_base.specs.declared.node.NodeName.TheVariants as node
 use Rattle.rb_rules.specs.declared.say.Say.{Say}
+use Rattle.rb_rules.specs.Behavior.{Said}
 use Rattle.rb_rules.specs.Book.{Each}
 use Rattle.rb_rules.specs.Clock.{Timeline}
+use Rattle.rb_rules.specs.Entries.{IsListed}
 use Rattle.rb_rules.specs.Goodness.{Scenario, clock_of, is_good}
-use Rattle.rb_rules.specs.Hearing.{Coming, Span, coming_said, is_said, said_by}
-use Rattle.rb_rules.specs.Lawful.{kind_of}
+use Rattle.rb_rules.specs.Hearing.{Coming, Span, is_heard, said_by}
+use Rattle.rb_rules.specs.Lawful.{IsLawful, IsNodeOf, kind_of}
 use Rattle.rb_rules.specs.Links.{name_of}
 use Rattle.rb_rules.specs.Slots.{count_of}
 use Rattle.rb_rules.specs.WorldStep.{Site, at_node, says_in}
@@ -23,6 +25,7 @@ use Rattle.rb_world_agenda.specs.Holding.{HoldsSite, HoldsSites}
 use Rattle.rb_world_agenda.proofs.Changes.{holds-at}
 use Rattle.rb_world_agenda.proofs.Keeping.{has-with, lane-with}
 use Rattle.rb_world_traffic.specs.Arriving.{number_of}
+use Rattle.rb_world_traffic.proofs.Heard.{as_coming}
 use Rattle.rb_world_traffic.proofs.Says.{brought-append, says-are}
 use Rattle.rb_world_traffic.specs.Saying.{AreFor, Brings, KeptSayings, SaysTo, all_brought, brought, entries_at, entries_to, hears, is_said_in, kept_of, senders_to, with_arrivals}
 
@@ -92,10 +95,10 @@ holds-arrivals sizes me lane s cs holds small = record {
 }
 
 -- all that is said comes from nodes of the bus
-small-of : (top j : ℕ) (sc : Scenario) (clock : Timeline) (span : Span) (says : List Say) → j < top → All (λ c. c.from < top) (map (coming_said sc.plan.version clock j span) says)
-small-of top j sc clock span [] h = All-nil (λ c. c.from < top)
-small-of top j sc clock span (s ∷ says) h =
-    All-cons (λ c. c.from < top) (coming_said sc.plan.version clock j span s) (map (coming_said sc.plan.version clock j span) says) h (small-of top j sc clock span says h)
+small-of : (top j : ℕ) (says : List Said) → j < top → All (λ c. c.from < top) (map (as_coming j) says)
+small-of top j [] h = All-nil (λ c. c.from < top)
+small-of top j (s ∷ says) h =
+    All-cons (λ c. c.from < top) (as_coming j s) (map (as_coming j) says) h (small-of top j says h)
 
 small-from : (top : ℕ) (sc : Scenario) (me : Side) (i a n : ℕ) (span : Span) → a + n ≤ top
     → All (λ c. c.from < top)
@@ -105,7 +108,7 @@ small-from top sc me i a (suc n) span h =
     let one : (g : Bool) → All (λ c. c.from < top) (elim g as (λ _. List Coming) [ true ↦ [] | false ↦ said_by sc me i span a ]) =
     λ g. elim g as (λ g. All (λ c. c.from < top) (elim g as (λ _. List Coming) [ true ↦ [] | false ↦ said_by sc me i span a ])) [
       | true ↦ All-nil (λ c. c.from < top)
-      | false ↦ small-of top a sc (clock_of sc me i) span (filter (is_said me i a span) sc.says) (omega arith)
+      | false ↦ small-of top a (filter (is_heard sc me i span a) (sc.behavior me i span a)) (omega arith)
     ] in
     All-append (λ c. c.from < top) (elim (is_good sc (other me) a span.place.frame span.place.slot) as (λ _. List Coming) [ true ↦ [] | false ↦ said_by sc me i span a ])
     (flat_map (λ j. elim (is_good sc (other me) j span.place.frame span.place.slot) as (λ _. List Coming) [ true ↦ [] | false ↦ said_by sc me i span j ]) (range_with_len (a + 1) n))
@@ -162,17 +165,17 @@ so-far-none kept clock span lanes now to places i n within is past so_far = λ s
 
 -- what the entries for the node bring is what is said to it
 pub says-to : (inside kept : KeptSayings) (clock : Timeline) (to : NodeName) (span : Span) (places : List ℕ) (before after : Each Held) → inside ≡ kept → HasLane before to
-    → AreFor kept.says to (senders_to kept.faults.sizes to) places → Brings inside (entries_at inside.says places) clock to span before after → SaysTo kept clock to span before after
-says-to inside kept clock to span places before after same h are brings = record {
+    → IsNodeOf kept.faults.sizes to → AreFor kept.says to (senders_to kept.faults.sizes to) places → Brings inside (entries_at inside.says places) clock to span before after → SaysTo kept clock to span before after
+says-to inside kept clock to span places before after same h its are brings = record {
   lanes = lanes;
-  world = λ sc sites is clock_is holds. said-holds sc before after sites to span holds h (lanes sc is clock_is);
+  world = λ sc sites lawful listed is clock_is holds. said-holds sc before after sites to span holds h (lanes sc lawful listed is clock_is);
 }
   where
-    lanes : (sc : Scenario) → kept ≡ kept_of sc → clock ≡ clock_of sc (kind_of to) (number_of to)
+    lanes : (sc : Scenario) → IsLawful sc → IsListed sc → kept ≡ kept_of sc → clock ≡ clock_of sc (kind_of to) (number_of to)
         → after ≡ with_lane to (with_arrivals (says_in sc (kind_of to) (number_of to) span) (lane_of before to)) before
-    lanes sc is clock_is =
+    lanes sc lawful listed is clock_is =
         let entries : entries_at inside.says places ≡ entries_to to (senders_to sc.sizes to) sc.says =
         ap (λ (k : KeptSayings). entries_at k.says places) same ∙ are.entries ∙ ap (λ (k : KeptSayings). entries_to to (senders_to k.faults.sizes to) k.says) is in
         let all : all_brought sc clock span (entries_at inside.says places) ≡ says_in sc (kind_of to) (number_of to) span =
-        ap (all_brought sc clock span) entries ∙ ap (λ t. all_brought sc t span (entries_to to (senders_to sc.sizes to) sc.says)) clock_is ∙ sym (says-are sc to span) in
+        ap (all_brought sc clock span) entries ∙ ap (λ t. all_brought sc t span (entries_to to (senders_to sc.sizes to) sc.says)) clock_is ∙ sym (says-are sc lawful listed to (subst (λ (k : KeptSayings). IsNodeOf k.faults.sizes to) is its) span) in
         brings sc (same ∙ is) ∙ ap (λ cs. with_lane to (with_arrivals cs (lane_of before to)) before) all

@@ -15,13 +15,16 @@ use Rattle.rb_base.specs.declared.node.NodeName.TheVariants as node
 use Rattle.rb_base.proofs.Plain.{and-false, and-true, and_first}
 use Rattle.rb_rules.specs.declared.say.Say.{Say}
 use Rattle.rb_rules.specs.Clock.{Timeline, time_of}
+use Rattle.rb_rules.specs.Entries.{IsListed, bytes_of, is_said}
 use Rattle.rb_rules.specs.Goodness.{Scenario, clock_of, is_good}
-use Rattle.rb_rules.specs.Hearing.{Coming, Span, bytes_of, coming_said, is_said, said_by}
-use Rattle.rb_rules.specs.Lawful.{is_node_good, kind_of}
+use Rattle.rb_rules.specs.Hearing.{Coming, Span, said_by}
+use Rattle.rb_rules.specs.Lawful.{IsLawful, IsNodeOf, is_node_good, kind_of}
 use Rattle.rb_rules.specs.Links.{covers, is_in_range, name_of, same_node, stands_for}
+use Rattle.rb_rules.specs.Slots.{count_of}
 use Rattle.rb_rules.specs.WorldStep.{says_in}
 use Rattle.rb_rules.proofs.Slots.{same_node-is}
 use Rattle.rb_world_traffic.specs.Arriving.{number_of}
+use Rattle.rb_world_traffic.proofs.Heard.{coming_said, listed-said}
 use Rattle.rb_world_traffic.specs.Saying.{all_brought, brought, entries_at, entries_to, first_frame, is_between, is_for, is_said_in, last_frame, later_frame, senders_to, sooner_frame}
 
 pub brought-append : (sc : Scenario) (clock : Timeline) (span : Span) (xs ys : List Say) → all_brought sc clock span (xs ++ ys) ≡ all_brought sc clock span xs ++ all_brought sc clock span ys
@@ -98,30 +101,30 @@ none-said sc me i j clock span (s ∷ says) good = go (is_between (name_of (othe
         let said : is_said_in sc span s ≡ false = ap (λ g. inside && not g) its ∙ and-false inside in
         ap (λ b. map (brought sc.plan.version clock span) (cond b (s ∷ filter (is_said_in sc span) rest) (filter (is_said_in sc span) rest))) said ∙ more
 
-by-sender : (sc : Scenario) (me : Side) (i j : ℕ) (span : Span) (g : Bool) → is_good sc (other me) j span.place.frame span.place.slot ≡ g
+by-sender : (sc : Scenario) → IsLawful sc → IsListed sc → (me : Side) (i j : ℕ) → i < count_of me sc.sizes → (span : Span) (g : Bool) → is_good sc (other me) j span.place.frame span.place.slot ≡ g
     → elim g as (λ _. List Coming) [ true ↦ [] | false ↦ said_by sc me i span j ]
     ≡ all_brought sc (clock_of sc me i) span (filter (is_between (name_of (other me) j) (name_of me i)) sc.says)
-by-sender sc me i j span true e = sym (none-said sc me i j (clock_of sc me i) span sc.says e)
-by-sender sc me i j span false e = one-said sc me i j span sc.says e
+by-sender sc lawful listed me i j counted span true e = sym (none-said sc me i j (clock_of sc me i) span sc.says e)
+by-sender sc lawful listed me i j counted span false e = listed-said sc lawful listed me i counted span j ∙ one-said sc me i j span sc.says e
 
 -- All senders.
-by-senders : (sc : Scenario) (me : Side) (i a n : ℕ) (span : Span)
+by-senders : (sc : Scenario) → IsLawful sc → IsListed sc → (me : Side) (i a n : ℕ) → i < count_of me sc.sizes → (span : Span)
     → flat_map (λ j. elim (is_good sc (other me) j span.place.frame span.place.slot) as (λ _. List Coming) [ true ↦ [] | false ↦ said_by sc me i span j ]) (range_with_len a n)
     ≡ all_brought sc (clock_of sc me i) span (flat_map (λ j. filter (is_between (name_of (other me) j) (name_of me i)) sc.says) (range_with_len a n))
-by-senders sc me i a zero span = refl
-by-senders sc me i a (suc n) span =
+by-senders sc lawful listed me i a zero counted span = refl
+by-senders sc lawful listed me i a (suc n) counted span =
     let f : ℕ → List Say = λ j. filter (is_between (name_of (other me) j) (name_of me i)) sc.says in
     let more : List Coming = flat_map (λ j. elim (is_good sc (other me) j span.place.frame span.place.slot) as (λ _. List Coming) [ true ↦ [] | false ↦ said_by sc me i span j ]) (range_with_len (a + 1) n) in
-    ap (λ l. l ++ more) (by-sender sc me i a span (is_good sc (other me) a span.place.frame span.place.slot) refl)
-    ∙ ap (λ l. all_brought sc (clock_of sc me i) span (f a) ++ l) (by-senders sc me i (a + 1) n span)
+    ap (λ l. l ++ more) (by-sender sc lawful listed me i a counted span (is_good sc (other me) a span.place.frame span.place.slot) refl)
+    ∙ ap (λ l. all_brought sc (clock_of sc me i) span (f a) ++ l) (by-senders sc lawful listed me i (a + 1) n counted span)
     ∙ sym (brought-append sc (clock_of sc me i) span (f a) (flat_map f (range_with_len (a + 1) n)))
 
 -- what is said to a node in a window
-pub says-are : (sc : Scenario) (to : NodeName) (span : Span)
+pub says-are : (sc : Scenario) → IsLawful sc → IsListed sc → (to : NodeName) → IsNodeOf sc.sizes to → (span : Span)
     → says_in sc (kind_of to) (number_of to) span ≡ all_brought sc (clock_of sc (kind_of to) (number_of to)) span (entries_to to (senders_to sc.sizes to) sc.says)
 unfolding says_in entries_to
-says-are sc (node.Biu i) span = by-senders sc Biu i 0 sc.sizes.rmus span
-says-are sc (node.Rmu i) span = by-senders sc Rmu i 0 sc.sizes.bius span
+says-are sc lawful listed (node.Biu i) counted span = by-senders sc lawful listed Biu i 0 sc.sizes.rmus counted span
+says-are sc lawful listed (node.Rmu i) counted span = by-senders sc lawful listed Rmu i 0 sc.sizes.bius counted span
 
 -- If none of the entries is for the window's place, none is said in it.
 pub none-for : (sc : Scenario) (clock : Timeline) (span : Span) (says : List Say) → list_any (is_for span.place) says ≡ false → all_brought sc clock span says ≡ []

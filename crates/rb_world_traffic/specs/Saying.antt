@@ -10,9 +10,10 @@ use Rattle.rb_rules.specs.declared.message.Version.{Version}
 use Rattle.rb_rules.specs.declared.say.Say.{Say}
 use Rattle.rb_rules.specs.Clock.{Timeline, time_of}
 use Rattle.rb_rules.specs.Book.{Each}
+use Rattle.rb_rules.specs.Entries.{IsListed, bytes_of}
 use Rattle.rb_rules.specs.Goodness.{Scenario, clock_of}
-use Rattle.rb_rules.specs.Hearing.{Coming, Span, bytes_of}
-use Rattle.rb_rules.specs.Lawful.{is_node_good, kind_of}
+use Rattle.rb_rules.specs.Hearing.{Coming, Span}
+use Rattle.rb_rules.specs.Lawful.{IsLawful, is_node_good, kind_of}
 use Rattle.rb_rules.specs.Links.{covers, name_of, same_node, stands_for}
 use Rattle.rb_rules.specs.Slots.{count_of}
 use Rattle.rb_rules.specs.WorldStep.{Site, at_node, says_in}
@@ -121,9 +122,10 @@ Brings kept says clock to span before after =
     (sc : Scenario) → kept ≡ kept_of sc → after ≡ with_lane to (with_arrivals (all_brought sc clock span says) (lane_of before to)) before
 
 -- what is said to a node in a window has come to it, in its lane and at its site, in each scenario
--- of which this is kept and in which this is the node's clock
+-- of which this is kept, whose faulty nodes do what its entries list, and in which this is the
+-- node's clock
 pub record SaysTo (kept : KeptSayings) (clock : Timeline) (to : NodeName) (span : Span) (before after : Each Held) : Type 0 where
-  pub lanes : (sc : Scenario) → kept ≡ kept_of sc → clock ≡ clock_of sc (kind_of to) (number_of to)
+  pub lanes : (sc : Scenario) → IsLawful sc → IsListed sc → kept ≡ kept_of sc → clock ≡ clock_of sc (kind_of to) (number_of to)
       → after ≡ with_lane to (with_arrivals (says_in sc (kind_of to) (number_of to) span) (lane_of before to)) before
-  pub world : (sc : Scenario) (sites : Each Site) → kept ≡ kept_of sc → clock ≡ clock_of sc (kind_of to) (number_of to)
+  pub world : (sc : Scenario) (sites : Each Site) → IsLawful sc → IsListed sc → kept ≡ kept_of sc → clock ≡ clock_of sc (kind_of to) (number_of to)
       → HoldsSites sc.sizes before sites → HoldsSites sc.sizes after (at_node (kind_of to) (number_of to) (hears sc to span) sites)

@@ -3,7 +3,7 @@ ghost use Rattle.std.specs.Prelude.{◌≡◌, ◌+◌, ◌-◌, ◌<◌, ◌≤
 ghost use Rattle.std.specs.List.{fold};
 ghost use Rattle.rb_rules.specs.Clock.{time_of};
 ghost use Rattle.rb_rules.specs.Goodness.{Scenario};
-ghost use Rattle.rb_rules.specs.Hearing.{bytes_of, message_at};
+ghost use Rattle.rb_rules.specs.Entries.{bytes_of, message_at};
 ghost use Rattle.rb_rules.specs.Lawful.{IsNodeOf};
 ghost use Rattle.rb_rules.specs.Spelling.{IsZeroUnlessWord, spelling_of};
 ghost use Rattle.rb_queue.specs.Waiting.{HasLane, lane_of, spare_of};

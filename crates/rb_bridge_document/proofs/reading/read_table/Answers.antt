@@ -3,8 +3,9 @@ use Rattle.toml.specs.View.{table_view}
 use Rattle.toml.specs.Data.{Members}
 use Rattle.rb_scenario.specs.Acceptance.{as_scenario}
 use Rattle.rb_rules_bridge.specs.Bridges.{IsBridge}
+use Rattle.rb_bridge_document.specs.Acceptance.{AreListed}
 use Rattle.rb_bridge_document.specs.Documents.{has_bridge_form}
-use Rattle.rb_bridge_document.proofs.Fitting.{few-pairs, says-bridge}
+use Rattle.rb_bridge_document.proofs.Fitting.{are-listed, few-pairs, says-bridge}
 use Rattle.rb_bridge_document.proofs.reading.read_table.Goals as goal
 
 pub returns-in-Some-clause-bridge : goal.returns-in-Some-clause-bridge
@@ -14,6 +15,11 @@ returns-in-Some-clause-bridge c =
     let few = few-pairs t form in
     subst IsBridge (sym c.in-Some.ensures.fits.1)
     (says-bridge (as_scenario c.in-Ok.left) (as_scenario c.in-Ok-bus_at.right) t c.in-Ok.ensures.lawful c.in-Ok-bus_at.ensures.lawful few.0 few.1 c.in-Some.ensures.fits.0)
+
+pub returns-in-Some-clause-listed : goal.returns-in-Some-clause-listed
+returns-in-Some-clause-listed c =
+    subst AreListed (sym c.in-Some.ensures.fits.1)
+    (are-listed (as_scenario c.in-Ok.left) (as_scenario c.in-Ok-bus_at.right) (table_view c.args.table.now) c.in-Ok.ensures.listed c.in-Ok-bus_at.ensures.listed)
 
 pub returns-in-None-clause-refused : goal.returns-in-None-clause-refused
 returns-in-None-clause-refused c =

@@ -4,18 +4,26 @@ use Rattle.rb_plan.specs.Timetable.{Timetable}
 use Rattle.rb_rules.specs.declared.link.Rule.{Rule}
 use Rattle.rb_rules.specs.declared.say.Say.{Say}
 use Rattle.rb_rules.specs.Clock.{Timeline}
-use Rattle.rb_rules.specs.Goodness.{Scenario}
+use Rattle.rb_rules.specs.Entries.{IsListed, listed}
+use Rattle.rb_rules.specs.Goodness.{Scenario, clock_among}
 use Rattle.rb_rules.specs.Lawful.{IsLawful}
 use Rattle.rb_rules.specs.Links.{DelayRules}
 use Rattle.rb_gen.specs.Generated.{clock_of, drawn_from, plan, rule_of, say_to, scenario_of, sizes}
 use Rattle.rb_gen.proofs.Accepted.{said_by_its_table}
-use Rattle.rb_gen.proofs.GeneratedIsLawful.{generated_is_lawful}
+use Rattle.rb_gen.proofs.GeneratedIsLawful.{generated_is_lawful, generated_is_listed}
 use Rattle.rb_gen.proofs.generator.generate.Goals as goal
 
 -- the generated scenario with other parts in place of its own
 abbrev with_parts : List ℕ → ℕ → Timetable → List Timeline → DelayRules → List Say → Scenario
 with_parts drawn frames timetable clocks delays says =
-    record (scenario_of drawn frames) { sizes = timetable.sizes; plan = timetable.plan; clocks = clocks; delays = delays; says = says }
+    record (scenario_of drawn frames) {
+      sizes = timetable.sizes;
+      plan = timetable.plan;
+      clocks = clocks;
+      delays = delays;
+      behavior = listed timetable.plan.version (clock_among timetable.sizes clocks) says;
+      says = says;
+    }
 
 with_its_own : (drawn : List ℕ) (frames : ℕ) (timetable : Timetable) (clocks : List Timeline) (delays : DelayRules) (says : List Say)
     → timetable ≡ record { sizes = sizes; plan = plan } → clocks ≡ map (clock_of drawn) (numbers 13)
@@ -43,6 +51,10 @@ returns-clause-scenario c =
 pub returns-clause-lawful : goal.returns-clause-lawful
 returns-clause-lawful c =
     subst IsLawful (sym (returns-clause-scenario c)) (generated_is_lawful (drawn_from c.args.seed) c.args.frames c.requires.least c.requires.most)
+
+pub returns-clause-listed : goal.returns-clause-listed
+returns-clause-listed c =
+    subst IsListed (sym (returns-clause-scenario c)) (generated_is_listed (drawn_from c.args.seed) c.args.frames c.requires.least)
 
 pub returns-clause-said : goal.returns-clause-said
 returns-clause-said c =

@@ -13,11 +13,12 @@ use Rattle.rb_world.specs.Steps.{CanWant}
 use Rattle.rb_world.proofs.Acting.{next-is, want-is}
 use Rattle.rb_world.proofs.Showing.{event-same}
 use Rattle.rb_world.proofs.Words.{can-want, wants-words}
+use Rattle.rb_world.specs.Buses.{scenario_of}
 use Rattle.rb_world.proofs.due.show_tick.Goals as goal
 
 pub word_for-word-requires-clause-want : goal.word_for-word-requires-clause-want
 word_for-word-requires-clause-want g c =
-    let sc = c.args.bus.now in
+    let sc = scenario_of c.args.bus.now in
     let me = side_of g.K.Kind.CODE in
     let site = c.args.site.now in
     let k = c.requires.may.0 in
@@ -32,7 +33,7 @@ word_for-word-requires-clause-want g c =
 pub returns : goal.returns
 returns g c =
     λ k states s may.
-    let sc = c.args.bus.now in
+    let sc = scenario_of c.args.bus.now in
     let me = side_of g.K.Kind.CODE in
     let site = c.args.site.now in
     let i = number_of site in

@@ -6,11 +6,12 @@ use Rattle.rb_rules.specs.WorldStep.Pending.{Arrival}
 use Rattle.rb_world.specs.Sites.{number_of}
 use Rattle.rb_world.proofs.Observed.{arrival-shown, arrival-there, told-as}
 use Rattle.rb_world.proofs.OneTaken.{coming-is}
+use Rattle.rb_world.specs.Buses.{scenario_of}
 use Rattle.rb_world.proofs.observing.tell_arrival.Goals as goal
 
 pub show_arrival-event-requires : goal.show_arrival-event-requires
 show_arrival-event-requires g c =
-    let sc = c.args.bus.now in
+    let sc = scenario_of c.args.bus.now in
     let me = side_of g.K.Kind.CODE in
     let site = c.args.site.now in
     let x = c.requires.may.0 in
@@ -25,7 +26,7 @@ show_arrival-event-requires g c =
 
 pub returns : goal.returns
 returns g c = λ x at s can stands.
-    let sc = c.args.bus.now in
+    let sc = scenario_of c.args.bus.now in
     let me = side_of g.K.Kind.CODE in
     let site = c.args.site.now in
     let p : Coming = c.arrival-arrival.result.now in

@@ -4,11 +4,12 @@ use Rattle.rb_slot.specs.Engines.{Seated}
 use Rattle.rb_node.specs.Cores.{Running}
 use Rattle.rb_world.specs.Sites.{number_of}
 use Rattle.rb_world.proofs.Entering.{after-calm}
+use Rattle.rb_world.specs.Buses.{scenario_of}
 use Rattle.rb_world.proofs.proceeding.proceed.Goals as goal
 
 pub returns-then-is_calm : goal.returns-then-is_calm
 returns-then-is_calm g c =
     λ w s may.
-    after-calm c.args.bus.now (side_of g.K.Kind.CODE) (number_of c.args.site.now) c.args.node c.args.site.now c.args.scene.now c.await_tick.new.scene w s c.frame.result c.requires.name may.at
+    after-calm (scenario_of c.args.bus.now) (side_of g.K.Kind.CODE) (number_of c.args.site.now) c.args.node c.args.site.now c.args.scene.now c.await_tick.new.scene w s c.frame.result c.requires.name may.at
     (c.frame.ensures ∙ ap (λ (v : Seated). v.state.frame) (c.engine.ensures ∙ ap (λ (n : Running). n.seat) c.node.ensures)) c.frame.type_inv
     (sym c.is_calm.ensures ∙ c.if-is_calm.true) c.await_tick.ensures.around c.await_tick.ensures.others

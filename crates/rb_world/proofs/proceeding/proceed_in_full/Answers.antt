@@ -15,12 +15,13 @@ use Rattle.rb_world.specs.Worlds.{Surrounds}
 use Rattle.rb_world.proofs.Entering.{AwaitsTick, after-none, after-some, after-stop, others-named, says-around, spare-said}
 use Rattle.rb_world.proofs.Lanes.{has-lane, node-named}
 use Rattle.rb_world.proofs.proceeding.proceed_in_full.Goals as goal
+use Rattle.rb_world.specs.Buses.{scenario_of}
 use Rattle.rb_world.proofs.proceeding.proceed_in_full.Goals.{in-Some+else-not-is_good, in_default}
 
 pub returns-then-not-is_good : goal.returns-then-not-is_good
 returns-then-not-is_good g c =
     λ w s may.
-    let sc = c.args.bus.now in
+    let sc = scenario_of c.args.bus.now in
     let me = side_of g.K.Kind.CODE in
     let enters = sym (c.entering.ensures sc s may.at.stands) ∙ ap (option_map span_in) c.in-Some.is in
     after-stop sc me (number_of c.args.site.now) c.args.node c.args.site.now c.stop.new.self c.args.scene.now c.stop_at.new.scene w s (span_in c.in-Some.span) c.requires.name may.at enters
@@ -30,23 +31,23 @@ pub say-requires-clause-lane : goal.say-requires-clause-lane
 say-requires-clause-lane g c =
     let w = c.requires.may.0 in
     let at = c.requires.may.2.at in
-    let sc = c.args.bus.now in
+    let sc = scenario_of c.args.bus.now in
     has-lane sc c.args.scene.now w c.args.node at.surrounds
     (subst (IsNodeOf sc.sizes) (sym c.requires.name) (node-named sc (side_of g.K.Kind.CODE) (number_of c.args.site.now) at.within))
 
 pub say-requires-clause-stage : goal.say-requires-clause-stage
 say-requires-clause-stage g c =
     let may = c.requires.may.2 in
-    (may.spans (span_in c.in-Some.span) (sym (c.entering.ensures c.args.bus.now c.requires.may.1 may.at.stands) ∙ ap (option_map span_in) c.in-Some.is)).stage
+    (may.spans (span_in c.in-Some.span) (sym (c.entering.ensures (scenario_of c.args.bus.now) c.requires.may.1 may.at.stands) ∙ ap (option_map span_in) c.in-Some.is)).stage
 
 pub say-requires-clause-first : goal.say-requires-clause-first
 say-requires-clause-first g c =
     let may = c.requires.may.2 in
-    (may.spans (span_in c.in-Some.span) (sym (c.entering.ensures c.args.bus.now c.requires.may.1 may.at.stands) ∙ ap (option_map span_in) c.in-Some.is)).first
+    (may.spans (span_in c.in-Some.span) (sym (c.entering.ensures (scenario_of c.args.bus.now) c.requires.may.1 may.at.stands) ∙ ap (option_map span_in) c.in-Some.is)).first
 
 pub await_tick-requires-clause-around : goal.await_tick-requires-clause-around
 await_tick-requires-clause-around g c =
-    let sc = c.args.bus.now in
+    let sc = scenario_of c.args.bus.now in
     let w = c.requires.may.0 in
     let at = c.requires.may.2.at in
     let node = c.args.node in
@@ -63,7 +64,7 @@ await_tick-requires-clause-around g c =
 
 pub await_tick-requires-clause-spare : goal.await_tick-requires-clause-spare
 await_tick-requires-clause-spare g c =
-    let sc = c.args.bus.now in
+    let sc = scenario_of c.args.bus.now in
     let w = c.requires.may.0 in
     let at = c.requires.may.2.at in
     let node = c.args.node in
@@ -72,14 +73,14 @@ await_tick-requires-clause-spare g c =
     let spare : length sc.says + 1 ≤ spare_of (lane_of lanes node) = subst (λ n. length sc.says + 1 ≤ spare_of (lane_of lanes n)) (sym c.requires.name) at.spare in
     elim c.match-entering.branch [
       | in-Some+else-not-is_good d ↦
-          subst (λ (m : Scene). 1 ≤ spare_of (lane_of m.agenda node)) (sym d.scene-is) (spare-said sc lanes d.say.new.agenda node (span_in d.in-Some.span) there d.say.ensures.lanes spare)
+          subst (λ (m : Scene). 1 ≤ spare_of (lane_of m.agenda node)) (sym d.scene-is) (spare-said sc at.listed lanes d.say.new.agenda node (span_in d.in-Some.span) there d.say.ensures.lanes spare)
       | in_default d ↦ let one : 1 ≤ spare_of (lane_of lanes node) = omega (arith, spare) in subst (λ (m : Scene). 1 ≤ spare_of (lane_of m.agenda node)) (sym d.scene-is) one
     ]
 
 pub returns : goal.returns
 returns g c =
     λ w s may.
-    let sc = c.args.bus.now in
+    let sc = scenario_of c.args.bus.now in
     let me = side_of g.K.Kind.CODE in
     let i = number_of c.args.site.now in
     let node = c.args.node in

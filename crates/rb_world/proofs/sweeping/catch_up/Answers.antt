@@ -6,6 +6,7 @@ use Rattle.rb_world.specs.Runs.{nodes_of}
 use Rattle.rb_world.specs.Trailing.{Trails, swept_first, until_from}
 use Rattle.rb_world.proofs.CaughtUp.{all-caught, may-all, may-others, none-caught}
 use Rattle.rb_world.proofs.LeftTold.{left-none, told-all}
+use Rattle.rb_world.specs.Buses.{scenario_of}
 use Rattle.rb_world.proofs.sweeping.catch_up.Goals as goal
 
 pub catch_up_all-requires-clause-may : goal.catch_up_all-requires-clause-may
@@ -13,13 +14,13 @@ catch_up_all-requires-clause-may g c =
     let w = c.requires.trails.0 in
     let v = c.requires.trails.1 in
     let until = until_from (Some c.in-Some.tick) in
-    let trails : Trails c.args.setup.now.bus.now (nodes_of c.args.run.now) c.args.run.now.scene until w v =
-    subst (λ t. Trails c.args.setup.now.bus.now (nodes_of c.args.run.now) c.args.run.now.scene (until_from t) w v) c.in-Some.is c.requires.trails.2 in
-    (v.sites, may-all c.args.setup.now.bus.now (nodes_of c.args.run.now) c.args.run.now.scene until w v Biu trails)
+    let trails : Trails (scenario_of c.args.setup.now.bus.now) (nodes_of c.args.run.now) c.args.run.now.scene until w v =
+    subst (λ t. Trails (scenario_of c.args.setup.now.bus.now) (nodes_of c.args.run.now) c.args.run.now.scene (until_from t) w v) c.in-Some.is c.requires.trails.2 in
+    (v.sites, may-all (scenario_of c.args.setup.now.bus.now) (nodes_of c.args.run.now) c.args.run.now.scene until w v Biu trails)
 
 pub catch_up_all-requires-in-Some-clause-may : goal.catch_up_all-requires-in-Some-clause-may
 catch_up_all-requires-in-Some-clause-may g c =
-    let sc = c.args.setup.now.bus.now in
+    let sc = scenario_of c.args.setup.now.bus.now in
     let w = c.requires.trails.0 in
     let v = c.requires.trails.1 in
     let until = until_from (Some c.in-Some.tick) in
@@ -31,7 +32,7 @@ catch_up_all-requires-in-Some-clause-may g c =
 
 pub returns-in-Some-clause-caught : goal.returns-in-Some-clause-caught
 returns-in-Some-clause-caught g c = λ w v given.
-    let sc = c.args.setup.now.bus.now in
+    let sc = scenario_of c.args.setup.now.bus.now in
     let until = until_from (Some c.in-Some.tick) in
     let trails : Trails sc (nodes_of c.args.run.now) c.args.run.now.scene until w v = subst (λ t. Trails sc (nodes_of c.args.run.now) c.args.run.now.scene (until_from t) w v) c.in-Some.is given in
     let one = c.catch_up_all.ensures.caught v.sites (may-all sc (nodes_of c.args.run.now) c.args.run.now.scene until w v Biu trails) in
@@ -41,11 +42,11 @@ returns-in-Some-clause-caught g c = λ w v given.
 
 pub returns-in_default-clause-caught : goal.returns-in_default-clause-caught
 returns-in_default-clause-caught g c = λ w v given.
-    none-caught c.args.setup.now.bus.now (nodes_of c.args.run.now) c.args.run.now.scene w v (subst (λ t. Trails c.args.setup.now.bus.now (nodes_of c.args.run.now) c.args.run.now.scene (until_from t) w v) c.in_default.is given)
+    none-caught (scenario_of c.args.setup.now.bus.now) (nodes_of c.args.run.now) c.args.run.now.scene w v (subst (λ t. Trails (scenario_of c.args.setup.now.bus.now) (nodes_of c.args.run.now) c.args.run.now.scene (until_from t) w v) c.in_default.is given)
 
 pub returns-in-Some-clause-told : goal.returns-in-Some-clause-told
 returns-in-Some-clause-told g c = λ name is node w v given.
-    let sc = c.args.setup.now.bus.now in
+    let sc = scenario_of c.args.setup.now.bus.now in
     let until = until_from (Some c.in-Some.tick) in
     let trails : Trails sc (nodes_of c.args.run.now) c.args.run.now.scene until w v = subst (λ t. Trails sc (nodes_of c.args.run.now) c.args.run.now.scene (until_from t) w v) c.in-Some.is given in
     let may = may-all sc (nodes_of c.args.run.now) c.args.run.now.scene until w v Biu trails in
@@ -57,5 +58,5 @@ returns-in-Some-clause-told g c = λ name is node w v given.
 
 pub returns-in_default-clause-told : goal.returns-in_default-clause-told
 returns-in_default-clause-told g c = λ name is node w v given.
-    subst (λ t. WasTold _ g.T.Observer.observes c.args.observer.now (left_for c.args.setup.now.bus.now (until_from t) v.sites name) c.args.observer.now) (sym c.in_default.is)
-    (subst (λ l. WasTold _ g.T.Observer.observes c.args.observer.now l c.args.observer.now) (sym (left-none c.args.setup.now.bus.now v.sites name)) refl)
+    subst (λ t. WasTold _ g.T.Observer.observes c.args.observer.now (left_for (scenario_of c.args.setup.now.bus.now) (until_from t) v.sites name) c.args.observer.now) (sym c.in_default.is)
+    (subst (λ l. WasTold _ g.T.Observer.observes c.args.observer.now l c.args.observer.now) (sym (left-none (scenario_of c.args.setup.now.bus.now) v.sites name)) refl)

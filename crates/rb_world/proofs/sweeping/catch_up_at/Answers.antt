@@ -4,6 +4,7 @@ use Rattle.rb_world.specs.Trailing.{swept_first, until_from}
 use Rattle.rb_world.proofs.Behind.{indexed}
 use Rattle.rb_world.proofs.CaughtUp.{catch-may, catch-then}
 use Rattle.rb_world.proofs.LeftTold.{catch-told}
+use Rattle.rb_world.specs.Buses.{scenario_of}
 use Rattle.rb_world.proofs.sweeping.catch_up_at.Goals as goal
 
 pub sweep_for-requires-clause-name : goal.sweep_for-requires-clause-name
@@ -11,7 +12,7 @@ sweep_for-requires-clause-name g c = c.name-node.ensures
 
 pub sweep_for-requires-clause-may : goal.sweep_for-requires-clause-may
 sweep_for-requires-clause-may g c =
-    let sc = c.args.setup.now.bus.now in
+    let sc = scenario_of c.args.setup.now.bus.now in
     let me = side_of g.K.Kind.CODE in
     let kept = c.args.sites.now.items in
     let site = c.index_mut-site.result.now in
@@ -21,7 +22,7 @@ sweep_for-requires-clause-may g c =
 
 pub returns-clause-caught : goal.returns-clause-caught
 returns-clause-caught g c = λ first begun nodes may is.
-    let sc = c.args.setup.now.bus.now in
+    let sc = scenario_of c.args.setup.now.bus.now in
     let me = side_of g.K.Kind.CODE in
     let kept = c.args.sites.now.items in
     let site = c.index_mut-site.result.now in
@@ -32,7 +33,7 @@ returns-clause-caught g c = λ first begun nodes may is.
 
 pub returns-clause-told : goal.returns-clause-told
 returns-clause-told g c = λ name is first begun nodes may caught.
-    let sc = c.args.setup.now.bus.now in
+    let sc = scenario_of c.args.setup.now.bus.now in
     let me = side_of g.K.Kind.CODE in
     let kept = c.args.sites.now.items in
     let site = c.index_mut-site.result.now in

@@ -19,16 +19,17 @@ use Rattle.rb_world.proofs.Lanes.{node-named}
 use Rattle.rb_world.proofs.OneTaken.{ComesFirst, comes-first, coming-is, first-dropped, none-first, takes-arrival, takes-tick, tick-dropped, tick-first, tick-is, ticks-first}
 use Rattle.rb_world.proofs.Swept.{clock-named, comes-in-time, may-come, sweep-begins, sweep-ends, sweep-goes, sweep-ticks}
 use Rattle.rb_world.proofs.Taken.{fewer-taken, lanes-taken, nothing-next, rooms-taken}
+use Rattle.rb_world.specs.Buses.{scenario_of}
 use Rattle.rb_world.proofs.sweeping.sweep.Goals as goal
 
 pub clock-clock-requires : goal.clock-clock-requires
-clock-clock-requires g c = subst (IsNodeOf c.args.bus.now.sizes) (sym c.requires.name) (node-named c.args.bus.now (side_of g.K.Kind.CODE) (number_of c.args.site.now) c.requires.may.2.within)
+clock-clock-requires g c = subst (IsNodeOf c.args.bus.now.sizes) (sym c.requires.name) (node-named (scenario_of c.args.bus.now) (side_of g.K.Kind.CODE) (number_of c.args.site.now) c.requires.may.2.within)
 
 pub events-init : goal.events-init
 events-init g c = record {
   number = refl;
   lanes = λ other h. h;
-  on = λ sites s may. sweep-begins c.args.bus.now (side_of g.K.Kind.CODE) (number_of c.args.site.now) c.args.until c.args.site.now c.args.agenda.now sites s may;
+  on = λ sites s may. sweep-begins (scenario_of c.args.bus.now) (side_of g.K.Kind.CODE) (number_of c.args.site.now) c.args.until c.args.site.now c.args.agenda.now sites s may;
 }
 
 pub first_before-requires : goal.first_before-requires
@@ -45,7 +46,7 @@ arrival-arrival-requires-clause-below g c =
 
 pub arrive-requires-clause-in_time : goal.arrive-requires-clause-in_time
 arrive-requires-clause-in_time g c =
-    let sc = c.args.bus.now in
+    let sc = scenario_of c.args.bus.now in
     let me = side_of g.K.Kind.CODE in
     let i = number_of c.args.site.now in
     let on = c.events.invariant.on c.requires.may.0 c.requires.may.1 c.requires.may.2 in
@@ -66,7 +67,7 @@ arrive-requires-clause-in_time g c =
 
 pub arrive-requires-clause-source : goal.arrive-requires-clause-source
 arrive-requires-clause-source g c =
-    let sc = c.args.bus.now in
+    let sc = scenario_of c.args.bus.now in
     let me = side_of g.K.Kind.CODE in
     let i = number_of c.args.site.now in
     let on = c.events.invariant.on c.requires.may.0 c.requires.may.1 c.requires.may.2 in
@@ -103,7 +104,7 @@ events-preserved g c =
       number = c.arrive.ensures.same.index ∙ c.events.invariant.number;
       lanes = λ other h. kept other (c.events.invariant.lanes other h);
       on = λ sites s may.
-          let sc = c.args.bus.now in
+          let sc = scenario_of c.args.bus.now in
           let me = side_of g.K.Kind.CODE in
           let i = number_of c.args.site.now in
           let on = c.events.invariant.on sites s may in
@@ -141,7 +142,7 @@ take_tick-requires g c = record { in_shape = c.events.invariant.lanes c.args.nod
 
 pub returns-then-tick-until-clause-swept : goal.returns-then-tick-until-clause-swept
 returns-then-tick-until-clause-swept g c = λ sites s may.
-    let sc = c.args.bus.now in
+    let sc = scenario_of c.args.bus.now in
     let me = side_of g.K.Kind.CODE in
     let i = number_of c.args.site.now in
     let on = c.events.invariant.on sites s may in
@@ -164,7 +165,7 @@ returns-then-tick-until-clause-lanes g c = λ other h. c.events.invariant.lanes 
 
 pub returns-in-None-clause-swept : goal.returns-in-None-clause-swept
 returns-in-None-clause-swept g c = λ sites s may.
-    let sc = c.args.bus.now in
+    let sc = scenario_of c.args.bus.now in
     let me = side_of g.K.Kind.CODE in
     let i = number_of c.args.site.now in
     let lane : Held = lane_of c.events.agenda c.args.node in

@@ -8,13 +8,14 @@ use Rattle.rb_world.specs.Steps.{CanHear}
 use Rattle.rb_world.specs.Trailing.{MaySweep, Sweeps}
 use Rattle.rb_world.proofs.SweptTold.{hears-next, sweep-rest, told-begins, told-ends, told-goes}
 use Rattle.rb_world.proofs.Taken.{fewer-taken, lanes-taken}
+use Rattle.rb_world.specs.Buses.{scenario_of}
 use Rattle.rb_world.proofs.sweeping.sweep_told.Goals as goal
 
 pub events-init : goal.events-init
 events-init g c = record {
   number = refl;
   lanes = λ other h. h;
-  on = λ sites s may. told-begins _ g.T.Observer.observes c.args.observer.now c.args.bus.now (side_of g.K.Kind.CODE) (number_of c.args.site.now) c.args.until c.args.site.now c.args.agenda.now sites s may;
+  on = λ sites s may. told-begins _ g.T.Observer.observes c.args.observer.now (scenario_of c.args.bus.now) (side_of g.K.Kind.CODE) (number_of c.args.site.now) c.args.until c.args.site.now c.args.agenda.now sites s may;
 }
 
 pub first_before-requires : goal.first_before-requires
@@ -28,11 +29,11 @@ sweep-requires-clause-may g c =
     let me = side_of g.K.Kind.CODE in
     let on = (c.events.invariant.on c.requires.may.0 c.requires.may.1 c.requires.may.2).on in
     let sites = at_node me (number_of c.args.site.now) (λ _. on.now) c.requires.may.0 in
-    (sites, on.now, subst (λ n. MaySweep c.args.bus.now me n c.args.until c.events.site c.events.agenda sites on.now) (sym c.events.invariant.number) on.may)
+    (sites, on.now, subst (λ n. MaySweep (scenario_of c.args.bus.now) me n c.args.until c.events.site c.events.agenda sites on.now) (sym c.events.invariant.number) on.may)
 
 pub returns-in-None-clause-swept : goal.returns-in-None-clause-swept
 returns-in-None-clause-swept g c = λ sites s may.
-    let sc = c.args.bus.now in
+    let sc = scenario_of c.args.bus.now in
     let me = side_of g.K.Kind.CODE in
     let i = number_of c.args.site.now in
     let on = (c.events.invariant.on sites s may).on in
@@ -52,7 +53,7 @@ returns-in-None-clause-told g c = λ sites s may.
     let later : IsFirstBefore c.args.until (lane_of c.events.agenda c.args.node) None =
     subst (IsFirstBefore c.args.until (lane_of c.events.agenda c.args.node)) c.in-None.is c.first_before.ensures.first in
     let most : c.args.until ≤ 18446744073709551615 = (let until = c.ranges.until.fits in omega (arith, until)) in
-    told-ends _ g.T.Observer.observes c.args.observer.now c.events.observer c.args.bus.now (side_of g.K.Kind.CODE) (number_of c.args.site.now) c.args.until c.events.site c.events.agenda sites s c.args.node
+    told-ends _ g.T.Observer.observes c.args.observer.now c.events.observer (scenario_of c.args.bus.now) (side_of g.K.Kind.CODE) (number_of c.args.site.now) c.args.until c.events.site c.events.agenda sites s c.args.node
     (c.events.invariant.on sites s may) c.requires.name (c.events.invariant.lanes c.args.node (subst (HasLane c.args.agenda.now) (sym c.requires.name) c.requires.may.2.lane)) most later
 
 pub tell_arrival-requires-clause-name : goal.tell_arrival-requires-clause-name
@@ -68,7 +69,7 @@ tell_arrival-requires-clause-may g c =
     subst (IsFirstBefore c.args.until (lane_of c.events.agenda c.args.node)) c.in-Some.is c.first_before.ensures.first in
     let most : c.args.until ≤ 18446744073709551615 = (let until = c.ranges.until.fits in omega (arith, until)) in (
       ready.coming,
-      hears-next c.args.bus.now (side_of g.K.Kind.CODE) (number_of c.args.site.now) c.args.until c.in-Some.place c.events.site c.events.agenda c.requires.may.0 c.requires.may.1 c.args.node
+      hears-next (scenario_of c.args.bus.now) (side_of g.K.Kind.CODE) (number_of c.args.site.now) c.args.until c.in-Some.place c.events.site c.events.agenda c.requires.may.0 c.requires.may.1 c.args.node
           (c.events.invariant.on c.requires.may.0 c.requires.may.1 c.requires.may.2).on c.requires.name
           (c.events.invariant.lanes c.args.node (subst (HasLane c.args.agenda.now) (sym c.requires.name) c.requires.may.2.lane)) most ready c.events.invariant.number,
     )
@@ -82,14 +83,14 @@ hear_at-requires-clause-may g c =
     subst (IsFirstBefore c.args.until (lane_of c.events.agenda c.args.node)) c.in-Some.is c.first_before.ensures.first in
     let most : c.args.until ≤ 18446744073709551615 = (let until = c.ranges.until.fits in omega (arith, until)) in (
       ready.coming,
-      hears-next c.args.bus.now (side_of g.K.Kind.CODE) (number_of c.args.site.now) c.args.until c.in-Some.place c.events.site c.events.agenda c.requires.may.0 c.requires.may.1 c.args.node
+      hears-next (scenario_of c.args.bus.now) (side_of g.K.Kind.CODE) (number_of c.args.site.now) c.args.until c.in-Some.place c.events.site c.events.agenda c.requires.may.0 c.requires.may.1 c.args.node
           (c.events.invariant.on c.requires.may.0 c.requires.may.1 c.requires.may.2).on c.requires.name
           (c.events.invariant.lanes c.args.node (subst (HasLane c.args.agenda.now) (sym c.requires.name) c.requires.may.2.lane)) most ready c.events.invariant.number,
     )
 
 pub events-preserved : goal.events-preserved
 events-preserved g c =
-    let sc = c.args.bus.now in
+    let sc = scenario_of c.args.bus.now in
     let me = side_of g.K.Kind.CODE in
     let i = number_of c.args.site.now in
     let lane = lane_of c.events.agenda c.args.node in

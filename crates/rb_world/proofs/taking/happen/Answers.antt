@@ -19,111 +19,112 @@ use Rattle.rb_world.proofs.Happening.{biu-happens, rmu-happens, tick-acts}
 use Rattle.rb_world.proofs.Ready.{node-there, tick-ready}
 use Rattle.rb_world.proofs.Lanes.{node-named}
 use Rattle.rb_rules.specs.Lawful.{IsNodeOf, kind_of}
+use Rattle.rb_world.specs.Buses.{scenario_of}
 use Rattle.rb_world.proofs.taking.happen.Goals as goal
 
 pub index_mut-requires : goal.index_mut-requires
 index_mut-requires g c =
-    let r = tick-ready c.args.bus.now (nodes_of c.args.run.now) c.args.run.now.scene c.args.time c.args.node c.args.event.now c.requires.0 c.requires.1 c.requires.2 Biu c.in-Tick-Biu.i c.in-Tick-Biu.word-0 c.in-Tick-Biu.wanted-0 c.requires.3 c.in-Tick-Biu.is-0 c.in-Tick-Biu.is-1 in
+    let r = tick-ready (scenario_of c.args.bus.now) (nodes_of c.args.run.now) c.args.run.now.scene c.args.time c.args.node c.args.event.now c.requires.0 c.requires.1 c.requires.2 Biu c.in-Tick-Biu.i c.in-Tick-Biu.word-0 c.in-Tick-Biu.wanted-0 c.requires.3 c.in-Tick-Biu.is-0 c.in-Tick-Biu.is-1 in
     omega (arith, r.inside, c.from.ensures)
 
 pub tick_at-requires-clause-number : goal.tick_at-requires-clause-number
 tick_at-requires-clause-number g c =
-    let r = tick-ready c.args.bus.now (nodes_of c.args.run.now) c.args.run.now.scene c.args.time c.args.node c.args.event.now c.requires.0 c.requires.1 c.requires.2 Biu c.in-Tick-Biu.i c.in-Tick-Biu.word-0 c.in-Tick-Biu.wanted-0 c.requires.3 c.in-Tick-Biu.is-0 c.in-Tick-Biu.is-1 in
+    let r = tick-ready (scenario_of c.args.bus.now) (nodes_of c.args.run.now) c.args.run.now.scene c.args.time c.args.node c.args.event.now c.requires.0 c.requires.1 c.requires.2 Biu c.in-Tick-Biu.i c.in-Tick-Biu.word-0 c.in-Tick-Biu.wanted-0 c.requires.3 c.in-Tick-Biu.is-0 c.in-Tick-Biu.is-1 in
     let is : r.site ≡ c.index_mut.result.now = sym (c.index_mut.ensures.value ∙ ap (λ n. get_or c.args.run.now.bius.items n c.index_mut.result.now) c.from.ensures ∙ get_or_from_slice_get c.args.run.now.bius.items c.in-Tick-Biu.i r.site c.index_mut.result.now r.kept_there) in
     sym r.number ∙ ap number_of is
 
 pub tick_at-requires-clause-may : goal.tick_at-requires-clause-may
 tick_at-requires-clause-may g c =
-    let r = tick-ready c.args.bus.now (nodes_of c.args.run.now) c.args.run.now.scene c.args.time c.args.node c.args.event.now c.requires.0 c.requires.1 c.requires.2 Biu c.in-Tick-Biu.i c.in-Tick-Biu.word-0 c.in-Tick-Biu.wanted-0 c.requires.3 c.in-Tick-Biu.is-0 c.in-Tick-Biu.is-1 in
+    let r = tick-ready (scenario_of c.args.bus.now) (nodes_of c.args.run.now) c.args.run.now.scene c.args.time c.args.node c.args.event.now c.requires.0 c.requires.1 c.requires.2 Biu c.in-Tick-Biu.i c.in-Tick-Biu.word-0 c.in-Tick-Biu.wanted-0 c.requires.3 c.in-Tick-Biu.is-0 c.in-Tick-Biu.is-1 in
     let is : r.site ≡ c.index_mut.result.now = sym (c.index_mut.ensures.value ∙ ap (λ n. get_or c.args.run.now.bius.items n c.index_mut.result.now) c.from.ensures ∙ get_or_from_slice_get c.args.run.now.bius.items c.in-Tick-Biu.i r.site c.index_mut.result.now r.kept_there) in (
       r.tick,
       moved Biu c.in-Tick-Biu.i (without_waiting (Tick r.tick)) c.requires.0,
       record r.s { ahead = None },
-      subst (λ k. MayTick c.args.bus.now Biu (number_of k) r.tick k c.args.run.now.scene (moved Biu c.in-Tick-Biu.i (without_waiting (Tick r.tick)) c.requires.0) (record r.s { ahead = None })) is
-          (subst (λ i. MayTick c.args.bus.now Biu i r.tick r.site c.args.run.now.scene (moved Biu c.in-Tick-Biu.i (without_waiting (Tick r.tick)) c.requires.0) (record r.s { ahead = None })) (sym r.number) r.may),
+      subst (λ k. MayTick (scenario_of c.args.bus.now) Biu (number_of k) r.tick k c.args.run.now.scene (moved Biu c.in-Tick-Biu.i (without_waiting (Tick r.tick)) c.requires.0) (record r.s { ahead = None })) is
+          (subst (λ i. MayTick (scenario_of c.args.bus.now) Biu i r.tick r.site c.args.run.now.scene (moved Biu c.in-Tick-Biu.i (without_waiting (Tick r.tick)) c.requires.0) (record r.s { ahead = None })) (sym r.number) r.may),
     )
 
 pub index_mut-requires-in-Tick-Rmu : goal.index_mut-requires-in-Tick-Rmu
 index_mut-requires-in-Tick-Rmu g c =
-    let r = tick-ready c.args.bus.now (nodes_of c.args.run.now) c.args.run.now.scene c.args.time c.args.node c.args.event.now c.requires.0 c.requires.1 c.requires.2 Rmu c.in-Tick-Rmu.i c.in-Tick-Rmu.word-0 c.in-Tick-Rmu.wanted-0 c.requires.3 c.in-Tick-Rmu.is-0 c.in-Tick-Rmu.is-1 in
+    let r = tick-ready (scenario_of c.args.bus.now) (nodes_of c.args.run.now) c.args.run.now.scene c.args.time c.args.node c.args.event.now c.requires.0 c.requires.1 c.requires.2 Rmu c.in-Tick-Rmu.i c.in-Tick-Rmu.word-0 c.in-Tick-Rmu.wanted-0 c.requires.3 c.in-Tick-Rmu.is-0 c.in-Tick-Rmu.is-1 in
     omega (arith, r.inside, c.from-in-Tick-Rmu.ensures)
 
 pub tick_at-requires-in-Tick-Rmu-clause-number : goal.tick_at-requires-in-Tick-Rmu-clause-number
 tick_at-requires-in-Tick-Rmu-clause-number g c =
-    let r = tick-ready c.args.bus.now (nodes_of c.args.run.now) c.args.run.now.scene c.args.time c.args.node c.args.event.now c.requires.0 c.requires.1 c.requires.2 Rmu c.in-Tick-Rmu.i c.in-Tick-Rmu.word-0 c.in-Tick-Rmu.wanted-0 c.requires.3 c.in-Tick-Rmu.is-0 c.in-Tick-Rmu.is-1 in
+    let r = tick-ready (scenario_of c.args.bus.now) (nodes_of c.args.run.now) c.args.run.now.scene c.args.time c.args.node c.args.event.now c.requires.0 c.requires.1 c.requires.2 Rmu c.in-Tick-Rmu.i c.in-Tick-Rmu.word-0 c.in-Tick-Rmu.wanted-0 c.requires.3 c.in-Tick-Rmu.is-0 c.in-Tick-Rmu.is-1 in
     let is : r.site ≡ c.index_mut-in-Tick-Rmu.result.now = sym (c.index_mut-in-Tick-Rmu.ensures.value ∙ ap (λ n. get_or c.args.run.now.rmus.items n c.index_mut-in-Tick-Rmu.result.now) c.from-in-Tick-Rmu.ensures ∙ get_or_from_slice_get c.args.run.now.rmus.items c.in-Tick-Rmu.i r.site c.index_mut-in-Tick-Rmu.result.now r.kept_there) in
     sym r.number ∙ ap number_of is
 
 pub tick_at-requires-in-Tick-Rmu-clause-may : goal.tick_at-requires-in-Tick-Rmu-clause-may
 tick_at-requires-in-Tick-Rmu-clause-may g c =
-    let r = tick-ready c.args.bus.now (nodes_of c.args.run.now) c.args.run.now.scene c.args.time c.args.node c.args.event.now c.requires.0 c.requires.1 c.requires.2 Rmu c.in-Tick-Rmu.i c.in-Tick-Rmu.word-0 c.in-Tick-Rmu.wanted-0 c.requires.3 c.in-Tick-Rmu.is-0 c.in-Tick-Rmu.is-1 in
+    let r = tick-ready (scenario_of c.args.bus.now) (nodes_of c.args.run.now) c.args.run.now.scene c.args.time c.args.node c.args.event.now c.requires.0 c.requires.1 c.requires.2 Rmu c.in-Tick-Rmu.i c.in-Tick-Rmu.word-0 c.in-Tick-Rmu.wanted-0 c.requires.3 c.in-Tick-Rmu.is-0 c.in-Tick-Rmu.is-1 in
     let is : r.site ≡ c.index_mut-in-Tick-Rmu.result.now = sym (c.index_mut-in-Tick-Rmu.ensures.value ∙ ap (λ n. get_or c.args.run.now.rmus.items n c.index_mut-in-Tick-Rmu.result.now) c.from-in-Tick-Rmu.ensures ∙ get_or_from_slice_get c.args.run.now.rmus.items c.in-Tick-Rmu.i r.site c.index_mut-in-Tick-Rmu.result.now r.kept_there) in (
       r.tick,
       moved Rmu c.in-Tick-Rmu.i (without_waiting (Tick r.tick)) c.requires.0,
       record r.s { ahead = None },
-      subst (λ k. MayTick c.args.bus.now Rmu (number_of k) r.tick k c.args.run.now.scene (moved Rmu c.in-Tick-Rmu.i (without_waiting (Tick r.tick)) c.requires.0) (record r.s { ahead = None })) is
-          (subst (λ i. MayTick c.args.bus.now Rmu i r.tick r.site c.args.run.now.scene (moved Rmu c.in-Tick-Rmu.i (without_waiting (Tick r.tick)) c.requires.0) (record r.s { ahead = None })) (sym r.number) r.may),
+      subst (λ k. MayTick (scenario_of c.args.bus.now) Rmu (number_of k) r.tick k c.args.run.now.scene (moved Rmu c.in-Tick-Rmu.i (without_waiting (Tick r.tick)) c.requires.0) (record r.s { ahead = None })) is
+          (subst (λ i. MayTick (scenario_of c.args.bus.now) Rmu i r.tick r.site c.args.run.now.scene (moved Rmu c.in-Tick-Rmu.i (without_waiting (Tick r.tick)) c.requires.0) (record r.s { ahead = None })) (sym r.number) r.may),
     )
 
 pub index_mut-requires-in-Arrive-Biu : goal.index_mut-requires-in-Arrive-Biu
 index_mut-requires-in-Arrive-Biu g c =
-    let there = node-there c.args.bus.now (nodes_of c.args.run.now) c.args.run.now.scene c.args.time c.args.node c.args.event.now c.requires.0 c.requires.1 c.requires.2 Biu c.in-Arrive-Biu.i c.requires.3 c.in-Arrive-Biu.is-1 in
+    let there = node-there (scenario_of c.args.bus.now) (nodes_of c.args.run.now) c.args.run.now.scene c.args.time c.args.node c.args.event.now c.requires.0 c.requires.1 c.requires.2 Biu c.in-Arrive-Biu.i c.requires.3 c.in-Arrive-Biu.is-1 in
     omega (arith, there.1, c.from-in-Arrive-Biu.ensures)
 
 pub clock-requires : goal.clock-requires
 clock-requires g c =
-    let there = node-there c.args.bus.now (nodes_of c.args.run.now) c.args.run.now.scene c.args.time c.args.node c.args.event.now c.requires.0 c.requires.1 c.requires.2 Biu c.in-Arrive-Biu.i c.requires.3 c.in-Arrive-Biu.is-1 in
-    subst (IsNodeOf c.args.bus.now.sizes) (sym c.in-Arrive-Biu.is-1) (node-named c.args.bus.now Biu c.in-Arrive-Biu.i there.0)
+    let there = node-there (scenario_of c.args.bus.now) (nodes_of c.args.run.now) c.args.run.now.scene c.args.time c.args.node c.args.event.now c.requires.0 c.requires.1 c.requires.2 Biu c.in-Arrive-Biu.i c.requires.3 c.in-Arrive-Biu.is-1 in
+    subst (IsNodeOf c.args.bus.now.sizes) (sym c.in-Arrive-Biu.is-1) (node-named (scenario_of c.args.bus.now) Biu c.in-Arrive-Biu.i there.0)
 
 pub arrive-requires-clause-in_time : goal.arrive-requires-clause-in_time
 arrive-requires-clause-in_time g c =
     let x : Coming = record { time = c.args.time; from = c.in-Arrive-Biu.from; bytes = c.in-Arrive-Biu.bytes.items } in
-    let r = arrival-ready c.args.bus.now (nodes_of c.args.run.now) c.args.run.now.scene c.args.time c.args.node c.args.event.now c.requires.0 c.requires.1 c.requires.2 Biu c.in-Arrive-Biu.i x c.requires.3 (ap (coming_with c.args.time) c.in-Arrive-Biu.is-0) c.in-Arrive-Biu.is-1 in
+    let r = arrival-ready (scenario_of c.args.bus.now) (nodes_of c.args.run.now) c.args.run.now.scene c.args.time c.args.node c.args.event.now c.requires.0 c.requires.1 c.requires.2 Biu c.in-Arrive-Biu.i x c.requires.3 (ap (coming_with c.args.time) c.in-Arrive-Biu.is-0) c.in-Arrive-Biu.is-1 in
     let is : r.site ≡ c.index_mut-in-Arrive-Biu.result.now = sym (c.index_mut-in-Arrive-Biu.ensures.value ∙ ap (λ n. get_or c.args.run.now.bius.items n c.index_mut-in-Arrive-Biu.result.now) c.from-in-Arrive-Biu.ensures ∙ get_or_from_slice_get c.args.run.now.bius.items c.in-Arrive-Biu.i r.site c.index_mut-in-Arrive-Biu.result.now r.kept_there) in
-    let clock_is : c.clock.result.now ≡ clock_of c.args.bus.now Biu c.in-Arrive-Biu.i = c.clock.ensures ∙ ap (λ n. clock_of c.args.bus.now (kind_of n) (number_in n)) c.in-Arrive-Biu.is-1 in
+    let clock_is : c.clock.result.now ≡ clock_of (scenario_of c.args.bus.now) Biu c.in-Arrive-Biu.i = c.clock.ensures ∙ ap (λ n. clock_of (scenario_of c.args.bus.now) (kind_of n) (number_in n)) c.in-Arrive-Biu.is-1 in
     subst (λ t. ComesBy (passing_end Biu c.index_mut-in-Arrive-Biu.result.now.node) t c.args.time) (sym clock_is)
-    (subst (λ k. ComesBy (passing_end Biu k.node) (clock_of c.args.bus.now Biu c.in-Arrive-Biu.i) c.args.time) is
-    (in-time c.args.bus.now (nodes_of c.args.run.now) c.requires.0 c.requires.2 Biu c.in-Arrive-Biu.i x r))
+    (subst (λ k. ComesBy (passing_end Biu k.node) (clock_of (scenario_of c.args.bus.now) Biu c.in-Arrive-Biu.i) c.args.time) is
+    (in-time (scenario_of c.args.bus.now) (nodes_of c.args.run.now) c.requires.0 c.requires.2 Biu c.in-Arrive-Biu.i x r))
 
 pub arrive-requires-clause-source : goal.arrive-requires-clause-source
 arrive-requires-clause-source g c =
     let x : Coming = record { time = c.args.time; from = c.in-Arrive-Biu.from; bytes = c.in-Arrive-Biu.bytes.items } in
-    let r = arrival-ready c.args.bus.now (nodes_of c.args.run.now) c.args.run.now.scene c.args.time c.args.node c.args.event.now c.requires.0 c.requires.1 c.requires.2 Biu c.in-Arrive-Biu.i x c.requires.3 (ap (coming_with c.args.time) c.in-Arrive-Biu.is-0) c.in-Arrive-Biu.is-1 in
+    let r = arrival-ready (scenario_of c.args.bus.now) (nodes_of c.args.run.now) c.args.run.now.scene c.args.time c.args.node c.args.event.now c.requires.0 c.requires.1 c.requires.2 Biu c.in-Arrive-Biu.i x c.requires.3 (ap (coming_with c.args.time) c.in-Arrive-Biu.is-0) c.in-Arrive-Biu.is-1 in
     let is : r.site ≡ c.index_mut-in-Arrive-Biu.result.now = sym (c.index_mut-in-Arrive-Biu.ensures.value ∙ ap (λ n. get_or c.args.run.now.bius.items n c.index_mut-in-Arrive-Biu.result.now) c.from-in-Arrive-Biu.ensures ∙ get_or_from_slice_get c.args.run.now.bius.items c.in-Arrive-Biu.i r.site c.index_mut-in-Arrive-Biu.result.now r.kept_there) in
     subst (λ k. c.in-Arrive-Biu.from < count_of Rmu k.node.seat.sizes) is (subst (λ z. c.in-Arrive-Biu.from < count_of Rmu z) (sym r.node.site.sizes) r.source)
 
 pub index_mut-requires-in-Arrive-Rmu : goal.index_mut-requires-in-Arrive-Rmu
 index_mut-requires-in-Arrive-Rmu g c =
-    let there = node-there c.args.bus.now (nodes_of c.args.run.now) c.args.run.now.scene c.args.time c.args.node c.args.event.now c.requires.0 c.requires.1 c.requires.2 Rmu c.in-Arrive-Rmu.i c.requires.3 c.in-Arrive-Rmu.is-1 in
+    let there = node-there (scenario_of c.args.bus.now) (nodes_of c.args.run.now) c.args.run.now.scene c.args.time c.args.node c.args.event.now c.requires.0 c.requires.1 c.requires.2 Rmu c.in-Arrive-Rmu.i c.requires.3 c.in-Arrive-Rmu.is-1 in
     omega (arith, there.1, c.from-in-Arrive-Rmu.ensures)
 
 pub clock-requires-in-Arrive-Rmu : goal.clock-requires-in-Arrive-Rmu
 clock-requires-in-Arrive-Rmu g c =
-    let there = node-there c.args.bus.now (nodes_of c.args.run.now) c.args.run.now.scene c.args.time c.args.node c.args.event.now c.requires.0 c.requires.1 c.requires.2 Rmu c.in-Arrive-Rmu.i c.requires.3 c.in-Arrive-Rmu.is-1 in
-    subst (IsNodeOf c.args.bus.now.sizes) (sym c.in-Arrive-Rmu.is-1) (node-named c.args.bus.now Rmu c.in-Arrive-Rmu.i there.0)
+    let there = node-there (scenario_of c.args.bus.now) (nodes_of c.args.run.now) c.args.run.now.scene c.args.time c.args.node c.args.event.now c.requires.0 c.requires.1 c.requires.2 Rmu c.in-Arrive-Rmu.i c.requires.3 c.in-Arrive-Rmu.is-1 in
+    subst (IsNodeOf c.args.bus.now.sizes) (sym c.in-Arrive-Rmu.is-1) (node-named (scenario_of c.args.bus.now) Rmu c.in-Arrive-Rmu.i there.0)
 
 pub arrive-requires-in-Arrive-Rmu-clause-in_time :
     goal.arrive-requires-in-Arrive-Rmu-clause-in_time
 arrive-requires-in-Arrive-Rmu-clause-in_time g c =
     let x : Coming = record { time = c.args.time; from = c.in-Arrive-Rmu.from; bytes = c.in-Arrive-Rmu.bytes.items } in
-    let r = arrival-ready c.args.bus.now (nodes_of c.args.run.now) c.args.run.now.scene c.args.time c.args.node c.args.event.now c.requires.0 c.requires.1 c.requires.2 Rmu c.in-Arrive-Rmu.i x c.requires.3 (ap (coming_with c.args.time) c.in-Arrive-Rmu.is-0) c.in-Arrive-Rmu.is-1 in
+    let r = arrival-ready (scenario_of c.args.bus.now) (nodes_of c.args.run.now) c.args.run.now.scene c.args.time c.args.node c.args.event.now c.requires.0 c.requires.1 c.requires.2 Rmu c.in-Arrive-Rmu.i x c.requires.3 (ap (coming_with c.args.time) c.in-Arrive-Rmu.is-0) c.in-Arrive-Rmu.is-1 in
     let is : r.site ≡ c.index_mut-in-Arrive-Rmu.result.now = sym (c.index_mut-in-Arrive-Rmu.ensures.value ∙ ap (λ n. get_or c.args.run.now.rmus.items n c.index_mut-in-Arrive-Rmu.result.now) c.from-in-Arrive-Rmu.ensures ∙ get_or_from_slice_get c.args.run.now.rmus.items c.in-Arrive-Rmu.i r.site c.index_mut-in-Arrive-Rmu.result.now r.kept_there) in
-    let clock_is : c.clock-in-Arrive-Rmu.result.now ≡ clock_of c.args.bus.now Rmu c.in-Arrive-Rmu.i = c.clock-in-Arrive-Rmu.ensures ∙ ap (λ n. clock_of c.args.bus.now (kind_of n) (number_in n)) c.in-Arrive-Rmu.is-1 in
+    let clock_is : c.clock-in-Arrive-Rmu.result.now ≡ clock_of (scenario_of c.args.bus.now) Rmu c.in-Arrive-Rmu.i = c.clock-in-Arrive-Rmu.ensures ∙ ap (λ n. clock_of (scenario_of c.args.bus.now) (kind_of n) (number_in n)) c.in-Arrive-Rmu.is-1 in
     subst (λ t. ComesBy (passing_end Rmu c.index_mut-in-Arrive-Rmu.result.now.node) t c.args.time) (sym clock_is)
-    (subst (λ k. ComesBy (passing_end Rmu k.node) (clock_of c.args.bus.now Rmu c.in-Arrive-Rmu.i) c.args.time) is
-    (in-time c.args.bus.now (nodes_of c.args.run.now) c.requires.0 c.requires.2 Rmu c.in-Arrive-Rmu.i x r))
+    (subst (λ k. ComesBy (passing_end Rmu k.node) (clock_of (scenario_of c.args.bus.now) Rmu c.in-Arrive-Rmu.i) c.args.time) is
+    (in-time (scenario_of c.args.bus.now) (nodes_of c.args.run.now) c.requires.0 c.requires.2 Rmu c.in-Arrive-Rmu.i x r))
 
 pub arrive-requires-in-Arrive-Rmu-clause-source : goal.arrive-requires-in-Arrive-Rmu-clause-source
 arrive-requires-in-Arrive-Rmu-clause-source g c =
     let x : Coming = record { time = c.args.time; from = c.in-Arrive-Rmu.from; bytes = c.in-Arrive-Rmu.bytes.items } in
-    let r = arrival-ready c.args.bus.now (nodes_of c.args.run.now) c.args.run.now.scene c.args.time c.args.node c.args.event.now c.requires.0 c.requires.1 c.requires.2 Rmu c.in-Arrive-Rmu.i x c.requires.3 (ap (coming_with c.args.time) c.in-Arrive-Rmu.is-0) c.in-Arrive-Rmu.is-1 in
+    let r = arrival-ready (scenario_of c.args.bus.now) (nodes_of c.args.run.now) c.args.run.now.scene c.args.time c.args.node c.args.event.now c.requires.0 c.requires.1 c.requires.2 Rmu c.in-Arrive-Rmu.i x c.requires.3 (ap (coming_with c.args.time) c.in-Arrive-Rmu.is-0) c.in-Arrive-Rmu.is-1 in
     let is : r.site ≡ c.index_mut-in-Arrive-Rmu.result.now = sym (c.index_mut-in-Arrive-Rmu.ensures.value ∙ ap (λ n. get_or c.args.run.now.rmus.items n c.index_mut-in-Arrive-Rmu.result.now) c.from-in-Arrive-Rmu.ensures ∙ get_or_from_slice_get c.args.run.now.rmus.items c.in-Arrive-Rmu.i r.site c.index_mut-in-Arrive-Rmu.result.now r.kept_there) in
     subst (λ k. c.in-Arrive-Rmu.from < count_of Biu k.node.seat.sizes) is (subst (λ z. c.in-Arrive-Rmu.from < count_of Biu z) (sym r.node.site.sizes) r.source)
 
 pub returns-in-Tick-Biu : goal.returns-in-Tick-Biu
 returns-in-Tick-Biu g c =
     λ w p d may.
-    let sc = c.args.bus.now in
+    let sc = scenario_of c.args.bus.now in
     let i = c.in-Tick-Biu.i in
     let r = tick-ready sc (nodes_of c.args.run.now) c.args.run.now.scene c.args.time c.args.node c.args.event.now w p d Biu i c.in-Tick-Biu.word-0 c.in-Tick-Biu.wanted-0 may c.in-Tick-Biu.is-0 c.in-Tick-Biu.is-1 in
     let is : r.site ≡ c.index_mut.result.now = sym (c.index_mut.ensures.value ∙ ap (λ n. get_or c.args.run.now.bius.items n c.index_mut.result.now) c.from.ensures ∙ get_or_from_slice_get c.args.run.now.bius.items i r.site c.index_mut.result.now r.kept_there) in
@@ -141,7 +142,7 @@ returns-in-Tick-Biu g c =
 pub returns-in-Tick-Rmu : goal.returns-in-Tick-Rmu
 returns-in-Tick-Rmu g c =
     λ w p d may.
-    let sc = c.args.bus.now in
+    let sc = scenario_of c.args.bus.now in
     let i = c.in-Tick-Rmu.i in
     let r = tick-ready sc (nodes_of c.args.run.now) c.args.run.now.scene c.args.time c.args.node c.args.event.now w p d Rmu i c.in-Tick-Rmu.word-0 c.in-Tick-Rmu.wanted-0 may c.in-Tick-Rmu.is-0 c.in-Tick-Rmu.is-1 in
     let is : r.site ≡ c.index_mut-in-Tick-Rmu.result.now = sym (c.index_mut-in-Tick-Rmu.ensures.value ∙ ap (λ n. get_or c.args.run.now.rmus.items n c.index_mut-in-Tick-Rmu.result.now) c.from-in-Tick-Rmu.ensures ∙ get_or_from_slice_get c.args.run.now.rmus.items i r.site c.index_mut-in-Tick-Rmu.result.now r.kept_there) in
@@ -159,10 +160,10 @@ returns-in-Tick-Rmu g c =
 pub returns-in-Arrive-Biu : goal.returns-in-Arrive-Biu
 returns-in-Arrive-Biu g c =
     λ w p d may.
-    let sc = c.args.bus.now in
+    let sc = scenario_of c.args.bus.now in
     let i = c.in-Arrive-Biu.i in
     let x : Coming = record { time = c.args.time; from = c.in-Arrive-Biu.from; bytes = c.in-Arrive-Biu.bytes.items } in
-    let r = arrival-ready c.args.bus.now (nodes_of c.args.run.now) c.args.run.now.scene c.args.time c.args.node c.args.event.now w p d Biu c.in-Arrive-Biu.i x may (ap (coming_with c.args.time) c.in-Arrive-Biu.is-0) c.in-Arrive-Biu.is-1 in
+    let r = arrival-ready (scenario_of c.args.bus.now) (nodes_of c.args.run.now) c.args.run.now.scene c.args.time c.args.node c.args.event.now w p d Biu c.in-Arrive-Biu.i x may (ap (coming_with c.args.time) c.in-Arrive-Biu.is-0) c.in-Arrive-Biu.is-1 in
     let is : r.site ≡ c.index_mut-in-Arrive-Biu.result.now = sym (c.index_mut-in-Arrive-Biu.ensures.value ∙ ap (λ n. get_or c.args.run.now.bius.items n c.index_mut-in-Arrive-Biu.result.now) c.from-in-Arrive-Biu.ensures ∙ get_or_from_slice_get c.args.run.now.bius.items c.in-Arrive-Biu.i r.site c.index_mut-in-Arrive-Biu.result.now r.kept_there) in
     let number = sym (ap number_of is) ∙ r.node.number in
     let clock_is : c.clock.result.now ≡ clock_of sc Biu (number_of c.index_mut-in-Arrive-Biu.result.now) =
@@ -178,10 +179,10 @@ returns-in-Arrive-Biu g c =
 pub returns-in-Arrive-Rmu : goal.returns-in-Arrive-Rmu
 returns-in-Arrive-Rmu g c =
     λ w p d may.
-    let sc = c.args.bus.now in
+    let sc = scenario_of c.args.bus.now in
     let i = c.in-Arrive-Rmu.i in
     let x : Coming = record { time = c.args.time; from = c.in-Arrive-Rmu.from; bytes = c.in-Arrive-Rmu.bytes.items } in
-    let r = arrival-ready c.args.bus.now (nodes_of c.args.run.now) c.args.run.now.scene c.args.time c.args.node c.args.event.now w p d Rmu c.in-Arrive-Rmu.i x may (ap (coming_with c.args.time) c.in-Arrive-Rmu.is-0) c.in-Arrive-Rmu.is-1 in
+    let r = arrival-ready (scenario_of c.args.bus.now) (nodes_of c.args.run.now) c.args.run.now.scene c.args.time c.args.node c.args.event.now w p d Rmu c.in-Arrive-Rmu.i x may (ap (coming_with c.args.time) c.in-Arrive-Rmu.is-0) c.in-Arrive-Rmu.is-1 in
     let is : r.site ≡ c.index_mut-in-Arrive-Rmu.result.now = sym (c.index_mut-in-Arrive-Rmu.ensures.value ∙ ap (λ n. get_or c.args.run.now.rmus.items n c.index_mut-in-Arrive-Rmu.result.now) c.from-in-Arrive-Rmu.ensures ∙ get_or_from_slice_get c.args.run.now.rmus.items c.in-Arrive-Rmu.i r.site c.index_mut-in-Arrive-Rmu.result.now r.kept_there) in
     let number = sym (ap number_of is) ∙ r.node.number in
     let clock_is : c.clock-in-Arrive-Rmu.result.now ≡ clock_of sc Rmu (number_of c.index_mut-in-Arrive-Rmu.result.now) =

@@ -5,11 +5,12 @@ use Rattle.rb_node.specs.Cores.{IsCore, next_of}
 use Rattle.rb_world.specs.Sites.{number_of}
 use Rattle.rb_world.specs.Steps.{MayTick, Ticks, act_at}
 use Rattle.rb_world.proofs.Acting.{next-is}
+use Rattle.rb_world.specs.Buses.{scenario_of}
 use Rattle.rb_world.proofs.taking.tick_at.Goals as goal
 
 pub tick-requires-clause-may : goal.tick-requires-clause-may
 tick-requires-clause-may g c =
-    let sc = c.args.bus.now in
+    let sc = scenario_of c.args.bus.now in
     let me = side_of g.K.Kind.CODE in
     let site = c.args.site.now in
     let k = c.requires.may.0 in
@@ -23,7 +24,7 @@ tick-requires-clause-may g c =
 pub returns-in-Some : goal.returns-in-Some
 returns-in-Some g c =
     λ k w s may.
-    let sc = c.args.bus.now in
+    let sc = scenario_of c.args.bus.now in
     let me = side_of g.K.Kind.CODE in
     let site = c.args.site.now in
     let found = sym (next-is sc me (number_of site) k site s.core may.at.stands.sizes may.at.stands.plan may.at.number may.next)
@@ -35,7 +36,7 @@ returns-in-Some g c =
 pub returns-in_default : goal.returns-in_default
 returns-in_default g c =
     λ k w s may.
-    let sc = c.args.bus.now in
+    let sc = scenario_of c.args.bus.now in
     let me = side_of g.K.Kind.CODE in
     let site = c.args.site.now in
     let found = sym c.in_default.is ∙ c.next_tick.ensures.core s.core (subst (λ n. IsCore n s.core) (sym c.node.ensures) may.at.stands.core) ∙ ap (λ n. next_of me n s.core) c.node.ensures

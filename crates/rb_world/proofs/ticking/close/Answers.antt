@@ -7,12 +7,13 @@ use Rattle.rb_node.specs.Cores.{Running}
 use Rattle.rb_slot.specs.Engines.{Seated}
 use Rattle.rb_world.specs.Worlds.{HoldsPorts}
 use Rattle.rb_world.proofs.Told.{close-is}
+use Rattle.rb_world.specs.Buses.{scenario_of}
 use Rattle.rb_world.proofs.ticking.close.Goals as goal
 
 pub returns-clause-around : goal.returns-clause-around
 returns-clause-around g c =
     λ w is.
-    let sc = c.args.bus.now in
+    let sc = scenario_of c.args.bus.now in
     let me = side_of g.K.Kind.CODE in
     let engine = c.engine-engine.ensures ∙ ap (λ (n : Running). n.seat) c.node-2.ensures in
     let d = c.shown-closed.result.now in

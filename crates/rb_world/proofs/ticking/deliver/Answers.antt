@@ -5,12 +5,13 @@ use Rattle.rb_rules.specs.WorldStep.{with_delivery}
 use Rattle.rb_port.specs.Keeping.{HoldsPort}
 use Rattle.rb_world.specs.Worlds.{HoldsPorts}
 use Rattle.rb_world.proofs.Told.{delivers}
+use Rattle.rb_world.specs.Buses.{scenario_of}
 use Rattle.rb_world.proofs.ticking.deliver.Goals as goal
 
 pub returns-then-from-len : goal.returns-then-from-len
 returns-then-from-len g c =
     λ states holds.
-    let sc = c.args.bus.now in
+    let sc = scenario_of c.args.bus.now in
     let kept = c.args.ports.now.items in
     let j = c.from-then-from-len.result in
     let now = c.index_mut.result.now in

@@ -7,6 +7,7 @@ use Rattle.rb_world_traffic.specs.Arriving.{AreRunning, number_of}
 use Rattle.rb_world.specs.Worlds.{Surrounds}
 use Rattle.rb_world.proofs.Around.{sent-more}
 use Rattle.rb_world.proofs.Lanes.{has-lane, node-named}
+use Rattle.rb_world.specs.Buses.{scenario_of}
 use Rattle.rb_world.proofs.ticking.depart.Goals as goal
 
 pub send-requires-clause-room : goal.send-requires-clause-room
@@ -14,14 +15,14 @@ send-requires-clause-room c =
     λ i h.
     let is = c.requires.around.1 in
     let within = is.within (other (kind_of c.args.node)) i (subst (λ r. has r i ≡ true) c.running_others-running.ensures h) in (
-      has-lane c.args.bus.now c.args.scene.now c.requires.around.0 (name_of (other (kind_of c.args.node)) i) is (node-named c.args.bus.now (other (kind_of c.args.node)) i within),
+      has-lane (scenario_of c.args.bus.now) c.args.scene.now c.requires.around.0 (name_of (other (kind_of c.args.node)) i) is (node-named (scenario_of c.args.bus.now) (other (kind_of c.args.node)) i within),
       c.requires.room i within,
     )
 
 pub returns-in-Some : goal.returns-in-Some
 returns-in-Some c =
     λ w is.
-    let sc = c.args.bus.now in
+    let sc = scenario_of c.args.bus.now in
     let me = kind_of c.args.node in
     let i = number_of c.args.node in
     let runs = subst (λ r. AreRunning (other me) r w.sites) (sym c.running_others-running.ensures) (is.running (other me)) in

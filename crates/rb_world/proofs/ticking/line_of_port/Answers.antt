@@ -5,12 +5,13 @@ use Rattle.rb_rules.specs.Hearing.{port_at}
 use Rattle.rb_rules.specs.Ports.{fresh_port}
 use Rattle.rb_port.specs.Keeping.{HoldsPort}
 use Rattle.rb_world.proofs.Told.{line-is}
+use Rattle.rb_world.specs.Buses.{scenario_of}
 use Rattle.rb_world.proofs.ticking.line_of_port.Goals as goal
 
 pub returns : goal.returns
 returns c =
     λ states holds.
-    let sc = c.args.bus.now in
+    let sc = scenario_of c.args.bus.now in
     let i = c.args.i in
     let ports = c.args.ports.now in
     let port = c.index-ports-from.result in

@@ -11,6 +11,7 @@ use Rattle.rb_world.proofs.Acting.{told_in}
 use Rattle.rb_world.proofs.Lanes.{kind-named}
 use Rattle.rb_world.proofs.Told.{begin-none}
 use Rattle.rb_world.proofs.Whole.{act_of, may-then, sees-nodes, told-then, whole}
+use Rattle.rb_world.specs.Buses.{scenario_of}
 use Rattle.rb_world.proofs.ticking.tick.Goals as goal
 
 -- the step in which a window ends and nothing else happens
@@ -19,7 +20,7 @@ end = record { epoch = None; message = None; closed = true }
 
 pub close-requires-clause-sources : goal.close-requires-clause-sources
 close-requires-clause-sources g c =
-    let sc = c.args.bus.now in
+    let sc = scenario_of c.args.bus.now in
     let me = side_of g.K.Kind.CODE in
     let site = c.args.site.now in
     let named = c.name_of-node.ensures ∙ ap (name_of me) c.requires.number in
@@ -34,7 +35,7 @@ close-requires-clause-sources g c =
 
 pub proceed-requires-clause-may : goal.proceed-requires-clause-may
 proceed-requires-clause-may g c =
-    let sc = c.args.bus.now in
+    let sc = scenario_of c.args.bus.now in
     let me = side_of g.K.Kind.CODE in
     let site = c.args.site.now in
     let named = c.name_of-node.ensures ∙ ap (name_of me) c.requires.number in
@@ -54,7 +55,7 @@ proceed-requires-clause-may g c =
 pub returns-then-end_window : goal.returns-then-end_window
 returns-then-end_window g c =
     λ w s may.
-    let sc = c.args.bus.now in
+    let sc = scenario_of c.args.bus.now in
     let me = side_of g.K.Kind.CODE in
     let site = c.args.site.now in
     let named = c.name_of-node.ensures ∙ ap (name_of me) c.requires.number in

@@ -9,11 +9,12 @@ use Rattle.rb_world.specs.Steps.{CanWant}
 use Rattle.rb_world.specs.Worlds.{HoldsPorts}
 use Rattle.rb_world.proofs.Acting.{want-is}
 use Rattle.rb_world.proofs.Words.{can-want, wants-words}
+use Rattle.rb_world.specs.Buses.{scenario_of}
 use Rattle.rb_world.proofs.ticking.tick_in_full.Goals as goal
 
 pub word_for-word-requires-clause-want : goal.word_for-word-requires-clause-want
 word_for-word-requires-clause-want g c =
-    let sc = c.args.bus.now in
+    let sc = scenario_of c.args.bus.now in
     let me = side_of g.K.Kind.CODE in
     let site = c.args.site.now in
     let s = c.requires.may.1 in
@@ -26,7 +27,7 @@ word_for-word-requires-clause-want g c =
 
 pub tick_with_word-requires-clause-word : goal.tick_with_word-requires-clause-word
 tick_with_word-requires-clause-word g c = λ w s may.
-    let sc = c.args.bus.now in
+    let sc = scenario_of c.args.bus.now in
     let me = side_of g.K.Kind.CODE in
     let site = c.args.site.now in
     let after = pass_to c.args.k s.core in

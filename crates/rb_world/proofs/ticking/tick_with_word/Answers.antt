@@ -12,11 +12,12 @@ use Rattle.rb_world.specs.Steps.{moved, HasRoomFor, MayProceed, Proceeds, SeesOn
 use Rattle.rb_world.proofs.Acting.{told_in}
 use Rattle.rb_world.proofs.Lanes.{kind-named}
 use Rattle.rb_world.proofs.Whole.{act_of, epoch-tick, may-then, room-then, sees-nodes, told-then, whole}
+use Rattle.rb_world.specs.Buses.{scenario_of}
 use Rattle.rb_world.proofs.ticking.tick_with_word.Goals as goal
 
 pub begin-requires-clause-tick : goal.begin-requires-clause-tick
 begin-requires-clause-tick g c =
-    let sc = c.args.bus.now in
+    let sc = scenario_of c.args.bus.now in
     let me = side_of g.K.Kind.CODE in
     let site = c.args.site.now in
     let k = c.args.k in
@@ -28,7 +29,7 @@ begin-requires-clause-tick g c =
 
 pub close-requires-clause-sources : goal.close-requires-clause-sources
 close-requires-clause-sources g c =
-    let sc = c.args.bus.now in
+    let sc = scenario_of c.args.bus.now in
     let me = side_of g.K.Kind.CODE in
     let site = c.args.site.now in
     let k = c.args.k in
@@ -42,7 +43,7 @@ close-requires-clause-sources g c =
 
 pub proceed-requires-clause-may : goal.proceed-requires-clause-may
 proceed-requires-clause-may g c =
-    let sc = c.args.bus.now in
+    let sc = scenario_of c.args.bus.now in
     let me = side_of g.K.Kind.CODE in
     let site = c.args.site.now in
     let k = c.args.k in
@@ -64,7 +65,7 @@ depart-requires-clause-tick g c = let below = c.requires.may.2.below in omega (a
 
 pub depart-requires-clause-around : goal.depart-requires-clause-around
 depart-requires-clause-around g c =
-    let sc = c.args.bus.now in
+    let sc = scenario_of c.args.bus.now in
     let me = side_of g.K.Kind.CODE in
     let site = c.args.site.now in
     let k = c.args.k in
@@ -86,7 +87,7 @@ depart-requires-clause-around g c =
 
 pub depart-requires-clause-room : goal.depart-requires-clause-room
 depart-requires-clause-room g c =
-    let sc = c.args.bus.now in
+    let sc = scenario_of c.args.bus.now in
     let me = side_of g.K.Kind.CODE in
     let site = c.args.site.now in
     let k = c.args.k in
@@ -110,7 +111,7 @@ depart-requires-clause-room g c =
 pub returns : goal.returns
 returns g c =
     λ w s may.
-    let sc = c.args.bus.now in
+    let sc = scenario_of c.args.bus.now in
     let me = side_of g.K.Kind.CODE in
     let site = c.args.site.now in
     let k = c.args.k in

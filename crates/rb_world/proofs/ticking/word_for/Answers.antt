@@ -5,12 +5,13 @@ use Rattle.rb_rules.specs.Hearing.{port_at}
 use Rattle.rb_rules.specs.Ports.{fresh_port}
 use Rattle.rb_world.specs.Steps.{CanWant}
 use Rattle.rb_world.proofs.Words.{word-data}
+use Rattle.rb_world.specs.Buses.{scenario_of}
 use Rattle.rb_world.proofs.ticking.word_for.Goals as goal
 
 pub returns-in-Data : goal.returns-in-Data
 returns-in-Data g c =
     λ states slot holds low is.
-    let sc = c.args.bus.now in
+    let sc = scenario_of c.args.bus.now in
     let i = c.args.i in
     let ports = c.args.ports.now in
     let port = c.index-ports-from.result in

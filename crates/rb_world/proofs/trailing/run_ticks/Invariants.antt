@@ -8,14 +8,15 @@ use Rattle.rb_rules.specs.Lawful.{IsNodeOf}
 use Rattle.rb_world.specs.Observing.{AlongTold}
 use Rattle.rb_world.specs.Runs.{nodes_of}
 use Rattle.rb_world.specs.Trailing.{Along, MayRun, until_from}
+use Rattle.rb_world.specs.Buses.{scenario_of}
 use Rattle.rb_world.proofs.trailing.run_ticks.Given as goal
 
 abbrev pub invariant-loop-passed : goal.invariant-loop-passed
 invariant-loop-passed g l = record {
   is_quiet : l.turn ≡ shown.Quiet;
   small : IfSome l.tick (λ t. t.1 < 18446744073709551615);
-  goes : (w : RunWorld) (d : ℕ) → MayRun l.setup.bus.now (nodes_of l.fn.run) l.fn.run.scene w
-      → Along l.setup.bus.now (nodes_of l.run) l.run.scene (until_from l.tick) l.passed w d;
-  told : (name : NodeName) → l.setup.observed ≡ Some name → IsNodeOf l.setup.bus.now.sizes name → (w : RunWorld) (d : ℕ) → MayRun l.setup.bus.now (nodes_of l.fn.run) l.fn.run.scene w
-      → AlongTold _ g.T.Observer.observes name l.fn.observer l.observer l.setup.bus.now (nodes_of l.run) l.run.scene (until_from l.tick) l.passed w d;
+  goes : (w : RunWorld) (d : ℕ) → MayRun (scenario_of l.setup.bus.now) (nodes_of l.fn.run) l.fn.run.scene w
+      → Along (scenario_of l.setup.bus.now) (nodes_of l.run) l.run.scene (until_from l.tick) l.passed w d;
+  told : (name : NodeName) → l.setup.observed ≡ Some name → IsNodeOf l.setup.bus.now.sizes name → (w : RunWorld) (d : ℕ) → MayRun (scenario_of l.setup.bus.now) (nodes_of l.fn.run) l.fn.run.scene w
+      → AlongTold _ g.T.Observer.observes name l.fn.observer l.observer (scenario_of l.setup.bus.now) (nodes_of l.run) l.run.scene (until_from l.tick) l.passed w d;
 }

@@ -4,28 +4,29 @@ use Rattle.rb_slot.specs.Engines.{Seated}
 use Rattle.rb_world.specs.Steps.{moved}
 use Rattle.rb_world.specs.Unstamped.{bare_with}
 use Rattle.rb_world.proofs.Readied.{TakesIn, kept_core, lane-known, may-tick-now, node-at, takes-now}
+use Rattle.rb_world.specs.Buses.{scenario_of}
 use Rattle.rb_world.proofs.trailing.take_exact_tick.Goals as goal
 
 pub take_in_all-requires-clause-lane : goal.take_in_all-requires-clause-lane
 take_in_all-requires-clause-lane g c =
     let r = c.requires.may in
-    (lane-known c.args.bus.now r.0 c.args.scene.now r.1 r.2 r.3 (side_of g.K.Kind.CODE) c.args.i r.4 c.args.time r.5 c.args.site.now c.name_of.result r.6 c.name_of.ensures).0
+    (lane-known (scenario_of c.args.bus.now) r.0 c.args.scene.now r.1 r.2 r.3 (side_of g.K.Kind.CODE) c.args.i r.4 c.args.time r.5 c.args.site.now c.name_of.result r.6 c.name_of.ensures).0
 
 pub take_in_all-requires-clause-senders : goal.take_in_all-requires-clause-senders
 take_in_all-requires-clause-senders g c =
     let r = c.requires.may in
-    (lane-known c.args.bus.now r.0 c.args.scene.now r.1 r.2 r.3 (side_of g.K.Kind.CODE) c.args.i r.4 c.args.time r.5 c.args.site.now c.name_of.result r.6 c.name_of.ensures).1
+    (lane-known (scenario_of c.args.bus.now) r.0 c.args.scene.now r.1 r.2 r.3 (side_of g.K.Kind.CODE) c.args.i r.4 c.args.time r.5 c.args.site.now c.name_of.result r.6 c.name_of.ensures).1
 
 pub tick_at-requires-clause-number : goal.tick_at-requires-clause-number
 tick_at-requires-clause-number g c =
     let r = c.requires.may in
-    let node = node-at c.args.bus.now r.0 c.args.scene.now r.1 r.2 r.3 (side_of g.K.Kind.CODE) c.args.i r.4 c.args.time r.5 c.args.site.now r.6 in
+    let node = node-at (scenario_of c.args.bus.now) r.0 c.args.scene.now r.1 r.2 r.3 (side_of g.K.Kind.CODE) c.args.i r.4 c.args.time r.5 c.args.site.now r.6 in
     sym (ap (λ (z : Seated). z.index) c.take_in_all.ensures.seat ∙ node.1.number)
 
 pub tick_at-requires-clause-may : goal.tick_at-requires-clause-may
 tick_at-requires-clause-may g c =
     let r = c.requires.may in
-    let sc = c.args.bus.now in
+    let sc = scenario_of c.args.bus.now in
     let me = side_of g.K.Kind.CODE in
     let takes : TakesIn me c.args.scene.now.agenda c.name_of.result (c.args.time + 1) c.args.site.now c.take_in_all.new.site c.take_in_all.new.agenda =
     record { stands = c.take_in_all.ensures.stands; seat = c.take_in_all.ensures.seat; left = c.take_in_all.ensures.lanes } in
@@ -39,7 +40,7 @@ tick_at-requires-clause-may g c =
 pub returns : goal.returns
 returns g c = record {
   takes = λ kept until w v a own m.
-      let sc = c.args.bus.now in
+      let sc = scenario_of c.args.bus.now in
       let me = side_of g.K.Kind.CODE in
       let takes : TakesIn me c.args.scene.now.agenda c.name_of.result (c.args.time + 1) c.args.site.now c.take_in_all.new.site c.take_in_all.new.agenda =
       record { stands = c.take_in_all.ensures.stands; seat = c.take_in_all.ensures.seat; left = c.take_in_all.ensures.lanes } in

@@ -6,6 +6,7 @@ use Rattle.rb_world.specs.Runs.{nodes_of}
 use Rattle.rb_world.specs.Sites.{KeptSite}
 use Rattle.rb_world.proofs.Running.{FirstHere, may-same, biu-may, biu-named, biu-taken, first-here, rmu-may, rmu-named, rmu-taken}
 use Rattle.rb_world.proofs.ToldOn.{alone-moved}
+use Rattle.rb_world.specs.Buses.{scenario_of}
 use Rattle.rb_world.proofs.trailing.take_first.Goals as goal
 
 pub take_tick-requires-clause-within : goal.take_tick-requires-clause-within
@@ -17,7 +18,7 @@ take_tick-requires-clause-within g c =
     let i = c.requires.may.4 in
     let a = c.requires.may.5 in
     let h = c.requires.may.6 in
-    (biu-may c.args.setup.now.bus.now (nodes_of c.args.run.now) c.args.run.now.scene until w v me i a c.first_tick-node.result.0 c.first_tick-node.result.1 c.in-Biu.i h (first-here c.args.setup.now.bus.now (nodes_of c.args.run.now) c.args.run.now.scene until w v me i a c.first_tick-node.result.0 c.first_tick-node.result.1 h c.first_tick-node.ensures.world) c.in-Biu.is).0
+    (biu-may (scenario_of c.args.setup.now.bus.now) (nodes_of c.args.run.now) c.args.run.now.scene until w v me i a c.first_tick-node.result.0 c.first_tick-node.result.1 c.in-Biu.i h (first-here (scenario_of c.args.setup.now.bus.now) (nodes_of c.args.run.now) c.args.run.now.scene until w v me i a c.first_tick-node.result.0 c.first_tick-node.result.1 h c.first_tick-node.ensures.world) c.in-Biu.is).0
 
 pub take_tick-requires-clause-small : goal.take_tick-requires-clause-small
 take_tick-requires-clause-small g c =
@@ -28,7 +29,7 @@ take_tick-requires-clause-small g c =
     let i = c.requires.may.4 in
     let a = c.requires.may.5 in
     let h = c.requires.may.6 in
-    (first-here c.args.setup.now.bus.now (nodes_of c.args.run.now) c.args.run.now.scene until w v me i a c.first_tick-node.result.0 c.first_tick-node.result.1 h c.first_tick-node.ensures.world).small
+    (first-here (scenario_of c.args.setup.now.bus.now) (nodes_of c.args.run.now) c.args.run.now.scene until w v me i a c.first_tick-node.result.0 c.first_tick-node.result.1 h c.first_tick-node.ensures.world).small
 
 pub take_tick-requires-clause-may : goal.take_tick-requires-clause-may
 take_tick-requires-clause-may g c =
@@ -44,19 +45,19 @@ take_tick-requires-clause-may g c =
       w,
       v,
       a,
-      may-same c.args.run.now.scene c.first_tick-node.new.self c.first_tick-node.ensures.lanes (biu-may c.args.setup.now.bus.now (nodes_of c.args.run.now) c.args.run.now.scene until w v me i a c.first_tick-node.result.0 c.first_tick-node.result.1 c.in-Biu.i h (first-here c.args.setup.now.bus.now (nodes_of c.args.run.now) c.args.run.now.scene until w v me i a c.first_tick-node.result.0 c.first_tick-node.result.1 h c.first_tick-node.ensures.world) c.in-Biu.is).1,
+      may-same c.args.run.now.scene c.first_tick-node.new.self c.first_tick-node.ensures.lanes (biu-may (scenario_of c.args.setup.now.bus.now) (nodes_of c.args.run.now) c.args.run.now.scene until w v me i a c.first_tick-node.result.0 c.first_tick-node.result.1 c.in-Biu.i h (first-here (scenario_of c.args.setup.now.bus.now) (nodes_of c.args.run.now) c.args.run.now.scene until w v me i a c.first_tick-node.result.0 c.first_tick-node.result.1 h c.first_tick-node.ensures.world) c.in-Biu.is).1,
     )
 
 pub returns-in-Biu : goal.returns-in-Biu
 returns-in-Biu g c = record {
   happens = λ until w v me i a h.
-      let sc = c.args.setup.now.bus.now in
-      let here = first-here c.args.setup.now.bus.now (nodes_of c.args.run.now) c.args.run.now.scene until w v me i a c.first_tick-node.result.0 c.first_tick-node.result.1 h c.first_tick-node.ensures.world in
+      let sc = scenario_of c.args.setup.now.bus.now in
+      let here = first-here (scenario_of c.args.setup.now.bus.now) (nodes_of c.args.run.now) c.args.run.now.scene until w v me i a c.first_tick-node.result.0 c.first_tick-node.result.1 h c.first_tick-node.ensures.world in
       let may = may-same c.args.run.now.scene c.first_tick-node.new.self c.first_tick-node.ensures.lanes (biu-may sc (nodes_of c.args.run.now) c.args.run.now.scene until w v me i a c.first_tick-node.result.0 c.first_tick-node.result.1 c.in-Biu.i h here c.in-Biu.is).1 in
       biu-taken sc c.take_tick.new.scene v me i a (node.Biu c.in-Biu.i) c.first_tick-node.result.1 c.in-Biu.i c.take_tick.new.sites.items c.args.run.now.rmus.items
       (subst (λ n. FirstHere sc me i a n c.first_tick-node.result.1) c.in-Biu.is here) refl (c.take_tick.ensures.takes (nodes_of c.args.run.now) until w v a may);
   told = λ name is until w v me i a h.
-      let sc = c.args.setup.now.bus.now in
+      let sc = scenario_of c.args.setup.now.bus.now in
       let kept : Each KeptSite = nodes_of c.args.run.now in
       let here = first-here sc kept c.args.run.now.scene until w v me i a c.first_tick-node.result.0 c.first_tick-node.result.1 h c.first_tick-node.ensures.world in
       let may = may-same c.args.run.now.scene c.first_tick-node.new.self c.first_tick-node.ensures.lanes (biu-may sc kept c.args.run.now.scene until w v me i a c.first_tick-node.result.0 c.first_tick-node.result.1 c.in-Biu.i h here c.in-Biu.is).1 in
@@ -73,7 +74,7 @@ take_tick-requires-in-Rmu-clause-within g c =
     let i = c.requires.may.4 in
     let a = c.requires.may.5 in
     let h = c.requires.may.6 in
-    (rmu-may c.args.setup.now.bus.now (nodes_of c.args.run.now) c.args.run.now.scene until w v me i a c.first_tick-node.result.0 c.first_tick-node.result.1 c.in-Rmu.i h (first-here c.args.setup.now.bus.now (nodes_of c.args.run.now) c.args.run.now.scene until w v me i a c.first_tick-node.result.0 c.first_tick-node.result.1 h c.first_tick-node.ensures.world) c.in-Rmu.is).0
+    (rmu-may (scenario_of c.args.setup.now.bus.now) (nodes_of c.args.run.now) c.args.run.now.scene until w v me i a c.first_tick-node.result.0 c.first_tick-node.result.1 c.in-Rmu.i h (first-here (scenario_of c.args.setup.now.bus.now) (nodes_of c.args.run.now) c.args.run.now.scene until w v me i a c.first_tick-node.result.0 c.first_tick-node.result.1 h c.first_tick-node.ensures.world) c.in-Rmu.is).0
 
 pub take_tick-requires-in-Rmu-clause-small : goal.take_tick-requires-in-Rmu-clause-small
 take_tick-requires-in-Rmu-clause-small g c =
@@ -84,7 +85,7 @@ take_tick-requires-in-Rmu-clause-small g c =
     let i = c.requires.may.4 in
     let a = c.requires.may.5 in
     let h = c.requires.may.6 in
-    (first-here c.args.setup.now.bus.now (nodes_of c.args.run.now) c.args.run.now.scene until w v me i a c.first_tick-node.result.0 c.first_tick-node.result.1 h c.first_tick-node.ensures.world).small
+    (first-here (scenario_of c.args.setup.now.bus.now) (nodes_of c.args.run.now) c.args.run.now.scene until w v me i a c.first_tick-node.result.0 c.first_tick-node.result.1 h c.first_tick-node.ensures.world).small
 
 pub take_tick-requires-in-Rmu-clause-may : goal.take_tick-requires-in-Rmu-clause-may
 take_tick-requires-in-Rmu-clause-may g c =
@@ -100,19 +101,19 @@ take_tick-requires-in-Rmu-clause-may g c =
       w,
       v,
       a,
-      may-same c.args.run.now.scene c.first_tick-node.new.self c.first_tick-node.ensures.lanes (rmu-may c.args.setup.now.bus.now (nodes_of c.args.run.now) c.args.run.now.scene until w v me i a c.first_tick-node.result.0 c.first_tick-node.result.1 c.in-Rmu.i h (first-here c.args.setup.now.bus.now (nodes_of c.args.run.now) c.args.run.now.scene until w v me i a c.first_tick-node.result.0 c.first_tick-node.result.1 h c.first_tick-node.ensures.world) c.in-Rmu.is).1,
+      may-same c.args.run.now.scene c.first_tick-node.new.self c.first_tick-node.ensures.lanes (rmu-may (scenario_of c.args.setup.now.bus.now) (nodes_of c.args.run.now) c.args.run.now.scene until w v me i a c.first_tick-node.result.0 c.first_tick-node.result.1 c.in-Rmu.i h (first-here (scenario_of c.args.setup.now.bus.now) (nodes_of c.args.run.now) c.args.run.now.scene until w v me i a c.first_tick-node.result.0 c.first_tick-node.result.1 h c.first_tick-node.ensures.world) c.in-Rmu.is).1,
     )
 
 pub returns-in-Rmu : goal.returns-in-Rmu
 returns-in-Rmu g c = record {
   happens = λ until w v me i a h.
-      let sc = c.args.setup.now.bus.now in
-      let here = first-here c.args.setup.now.bus.now (nodes_of c.args.run.now) c.args.run.now.scene until w v me i a c.first_tick-node.result.0 c.first_tick-node.result.1 h c.first_tick-node.ensures.world in
+      let sc = scenario_of c.args.setup.now.bus.now in
+      let here = first-here (scenario_of c.args.setup.now.bus.now) (nodes_of c.args.run.now) c.args.run.now.scene until w v me i a c.first_tick-node.result.0 c.first_tick-node.result.1 h c.first_tick-node.ensures.world in
       let may = may-same c.args.run.now.scene c.first_tick-node.new.self c.first_tick-node.ensures.lanes (rmu-may sc (nodes_of c.args.run.now) c.args.run.now.scene until w v me i a c.first_tick-node.result.0 c.first_tick-node.result.1 c.in-Rmu.i h here c.in-Rmu.is).1 in
       rmu-taken sc c.take_tick-in-Rmu.new.scene v me i a (node.Rmu c.in-Rmu.i) c.first_tick-node.result.1 c.in-Rmu.i c.args.run.now.bius.items c.take_tick-in-Rmu.new.sites.items
       (subst (λ n. FirstHere sc me i a n c.first_tick-node.result.1) c.in-Rmu.is here) refl (c.take_tick-in-Rmu.ensures.takes (nodes_of c.args.run.now) until w v a may);
   told = λ name is until w v me i a h.
-      let sc = c.args.setup.now.bus.now in
+      let sc = scenario_of c.args.setup.now.bus.now in
       let kept : Each KeptSite = nodes_of c.args.run.now in
       let here = first-here sc kept c.args.run.now.scene until w v me i a c.first_tick-node.result.0 c.first_tick-node.result.1 h c.first_tick-node.ensures.world in
       let may = may-same c.args.run.now.scene c.first_tick-node.new.self c.first_tick-node.ensures.lanes (rmu-may sc kept c.args.run.now.scene until w v me i a c.first_tick-node.result.0 c.first_tick-node.result.1 c.in-Rmu.i h here c.in-Rmu.is).1 in

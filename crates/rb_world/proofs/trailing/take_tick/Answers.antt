@@ -15,11 +15,12 @@ use Rattle.rb_world.specs.Unstamped.{MayTakeExactly}
 use Rattle.rb_world.proofs.Behind.{indexed, may-take, may-then, takes-first}
 use Rattle.rb_world.proofs.Observed.{was-both}
 use Rattle.rb_world.proofs.ToldOn.{alone-told, tick-shown}
+use Rattle.rb_world.specs.Buses.{scenario_of}
 use Rattle.rb_world.proofs.trailing.take_tick.Goals as goal
 
 pub sweep_for-requires-clause-name : goal.sweep_for-requires-clause-name
 sweep_for-requires-clause-name g c =
-    let sc = c.args.setup.now.bus.now in
+    let sc = scenario_of c.args.setup.now.bus.now in
     let me = side_of g.K.Kind.CODE in
     let sites = c.args.sites.now.items in
     let site = c.index_mut-site.result.now in
@@ -29,7 +30,7 @@ sweep_for-requires-clause-name g c =
 
 pub sweep_for-requires-clause-may : goal.sweep_for-requires-clause-may
 sweep_for-requires-clause-may g c =
-    let sc = c.args.setup.now.bus.now in
+    let sc = scenario_of c.args.setup.now.bus.now in
     let me = side_of g.K.Kind.CODE in
     let sites = c.args.sites.now.items in
     let site = c.index_mut-site.result.now in
@@ -39,7 +40,7 @@ sweep_for-requires-clause-may g c =
 
 pub tick_at-requires-clause-number : goal.tick_at-requires-clause-number
 tick_at-requires-clause-number g c =
-    let sc = c.args.setup.now.bus.now in
+    let sc = scenario_of c.args.setup.now.bus.now in
     let me = side_of g.K.Kind.CODE in
     let sites = c.args.sites.now.items in
     let site = c.index_mut-site.result.now in
@@ -49,7 +50,7 @@ tick_at-requires-clause-number g c =
 
 pub tick_at-requires-clause-may : goal.tick_at-requires-clause-may
 tick_at-requires-clause-may g c =
-    let sc = c.args.setup.now.bus.now in
+    let sc = scenario_of c.args.setup.now.bus.now in
     let me = side_of g.K.Kind.CODE in
     let sites = c.args.sites.now.items in
     let site = c.index_mut-site.result.now in
@@ -69,7 +70,7 @@ tick_at-requires-clause-may g c =
 
 pub returns-clause-takes : goal.returns-clause-takes
 returns-clause-takes g c = λ kept until w v a m.
-    let sc = c.args.setup.now.bus.now in
+    let sc = scenario_of c.args.setup.now.bus.now in
     let me = side_of g.K.Kind.CODE in
     let sites = c.args.sites.now.items in
     let site = c.index_mut-site.result.now in
@@ -91,7 +92,7 @@ returns-clause-takes g c = λ kept until w v a m.
 
 pub tell_tick_for-requires : goal.tell_tick_for-requires
 tell_tick_for-requires g c =
-    let sc = c.args.setup.now.bus.now in
+    let sc = scenario_of c.args.setup.now.bus.now in
     let me = side_of g.K.Kind.CODE in
     let sites = c.args.sites.now.items in
     let site = c.index_mut-site.result.now in
@@ -119,7 +120,7 @@ tell_tick_for-requires g c =
 
 pub returns-clause-told : goal.returns-clause-told
 returns-clause-told g c = λ name is kept until w v a m.
-    let sc = c.args.setup.now.bus.now in
+    let sc = scenario_of c.args.setup.now.bus.now in
     let me = side_of g.K.Kind.CODE in
     let sites = c.args.sites.now.items in
     let site = c.index_mut-site.result.now in
@@ -149,7 +150,7 @@ returns-clause-told g c = λ name is kept until w v a m.
 
 pub returns-then-needs_no_stamps-clause-takes : goal.returns-then-needs_no_stamps-clause-takes
 returns-then-needs_no_stamps-clause-takes g c = λ kept until w v a m.
-    let sc = c.args.setup.now.bus.now in
+    let sc = scenario_of c.args.setup.now.bus.now in
     let me = side_of g.K.Kind.CODE in
     let sites = c.args.sites.now.items in
     let site = c.index_mut-site.result.now in
@@ -160,7 +161,7 @@ returns-then-needs_no_stamps-clause-takes g c = λ kept until w v a m.
 
 pub returns-then-needs_no_stamps-clause-told : goal.returns-then-needs_no_stamps-clause-told
 returns-then-needs_no_stamps-clause-told g c = λ name is kept until w v a m.
-    let sc = c.args.setup.now.bus.now in
+    let sc = scenario_of c.args.setup.now.bus.now in
     let me = side_of g.K.Kind.CODE in
     let s = m.at.first.node in
     let apart : same_node c.name_of-node.result name ≡ false = c.if-needs_no_stamps.ensures.other refl name is in

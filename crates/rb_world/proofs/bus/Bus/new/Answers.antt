@@ -19,7 +19,7 @@ invariant_of-result c =
     c.in_ok-sayings.ensures ∙ ap (λ f. record { faults = f; version = c.plan.result.now.version; says = s.says }) faults
     ∙ ap (λ (p : Plan). record { faults = faults_of sc; version = p.version; says = s.says }) c.plan.ensures.value in
     keeps-bus sc s.plan s.frames s.requests s.words s.apps s.clocks s.delays c.new-onsets.result c.in_ok-sayings.sayings c.len-says.result c.restless_nodes-restless_biu.result
-    c.restless_nodes-restless_rmu.result c.requires refl faults kept c.len-says.ensures
+    c.restless_nodes-restless_rmu.result c.requires.lawful c.requires.listed refl faults kept c.len-says.ensures
     (found-restless sc biu c.biu.result c.restless_nodes-restless_biu.result c.in_ok-sayings.sayings (c.biu.ensures.value ∙ ap (λ (z : Sizes). z.bius) c.shape.ensures) kept
     c.restless_nodes-restless_biu.ensures.each)
     (found-restless sc rmu c.rmu.result c.restless_nodes-restless_rmu.result c.in_ok-sayings.sayings (c.rmu.ensures.value ∙ ap (λ (z : Sizes). z.rmus) c.shape.ensures) kept

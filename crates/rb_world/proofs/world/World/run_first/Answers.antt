@@ -41,7 +41,7 @@ invariant_of-self g c =
 pub returns-clause-world : goal.returns-clause-world
 returns-clause-world g c =
     let k : KeptWorld = kept_of c.self.inside in
-    let after : KeptWorld = record { bus = k.bus; nodes = nodes_of c.run_ticks.new.run; scene = c.run_ticks.new.run.scene; seeding = k.seeding; last = c.last_of-self-inside.result } in
+    let after : KeptWorld = record { bus = k.bus; lists = k.lists; nodes = nodes_of c.run_ticks.new.run; scene = c.run_ticks.new.run.scene; seeding = k.seeding; last = c.last_of-self-inside.result } in
     subst (λ (x : KeptWorld). (w : RunWorld) (state : ℕ) → Stands x w → RunsOn First state state x after c.run_ticks.new.turn w) c.self.view_is (λ w state is.
     let going : w.book.ended ≡ false = sym (c.has_ended.ensures k.bus w is.scene.book) ∙ c.if-has_ended.false in
     run-to k w after.nodes after.scene c.run_ticks.new.turn after.last state is (c.run_ticks.ensures.comes w state (may-run k w is going)) c.last_of-self-inside.ensures)
@@ -57,7 +57,7 @@ returns-then-has_ended-clause-told g c =
 pub returns-clause-told : goal.returns-clause-told
 returns-clause-told g c =
     let k : KeptWorld = kept_of c.self.inside in
-    let after : KeptWorld = record { bus = k.bus; nodes = nodes_of c.run_ticks.new.run; scene = c.run_ticks.new.run.scene; seeding = k.seeding; last = c.last_of-self-inside.result } in
+    let after : KeptWorld = record { bus = k.bus; lists = k.lists; nodes = nodes_of c.run_ticks.new.run; scene = c.run_ticks.new.run.scene; seeding = k.seeding; last = c.last_of-self-inside.result } in
     subst (λ (x : KeptWorld). (name : NodeName) → c.args.observed ≡ Some name → IsNodeOf x.bus.sizes name → (w : RunWorld) (state : ℕ) → Stands x w
     → RunsTold _ g.T.Observer.observes name c.args.observer.now c.run_ticks.new.observer state x after c.run_ticks.new.turn w) c.self.view_is (λ name at node w state is.
     let going : w.book.ended ≡ false = sym (c.has_ended.ensures k.bus w is.scene.book) ∙ c.if-has_ended.false in

@@ -42,8 +42,8 @@ invariant_of-self g c =
     subst (λ t. MayHappen k.bus k.nodes (record k.scene { agenda = lanes }) t name event w i both.0) (sym c.first_time-time.ensures.value) both.1 in
     let happened = c.happen.ensures w i both.0 may in
     let settles = c.settle_into.ensures.settled k.bus (happens k.bus w both.0) happened.surrounds.book in
-    let given = taken k.bus w i both.0 (nodes_of c.happen.new.run) c.happen.new.run.scene k.seeding c.settle_into.new.self c.settle_into.new.turn
-    c.last_of-self-inside.result is.lawful is.reached may.found happened settles c.last_of-self-inside.ensures in
+    let given = taken k.bus k.lists w i both.0 (nodes_of c.happen.new.run) c.happen.new.run.scene k.seeding c.settle_into.new.self c.settle_into.new.turn
+    c.last_of-self-inside.result is.lawful is.listed is.reached may.found happened settles c.last_of-self-inside.ensures in
     (take k.bus w i, given.stands)
 
 pub returns-clause-world : goal.returns-clause-world
@@ -61,9 +61,9 @@ returns-clause-world g c =
     subst (λ t. MayHappen k.bus k.nodes (record k.scene { agenda = lanes }) t name event w i both.0) (sym c.first_time-time.ensures.value) both.1 in
     let happened = c.happen.ensures w i both.0 may in
     let settles = c.settle_into.ensures.settled k.bus (happens k.bus w both.0) happened.surrounds.book in
-    let given = taken k.bus w i both.0 (nodes_of c.happen.new.run) c.happen.new.run.scene k.seeding c.settle_into.new.self c.settle_into.new.turn
-    c.last_of-self-inside.result is.lawful is.reached may.found happened settles c.last_of-self-inside.ensures in
-    subst (λ (kept : KeptWorld). Gives (record { bus = k.bus; nodes = nodes_of c.happen.new.run; scene = record c.happen.new.run.scene { book = c.settle_into.new.self }; seeding = k.seeding; last = c.last_of-self-inside.result }) c.settle_into.new.turn (take kept.bus w i)) c.self.view_is given
+    let given = taken k.bus k.lists w i both.0 (nodes_of c.happen.new.run) c.happen.new.run.scene k.seeding c.settle_into.new.self c.settle_into.new.turn
+    c.last_of-self-inside.result is.lawful is.listed is.reached may.found happened settles c.last_of-self-inside.ensures in
+    subst (λ (kept : KeptWorld). Gives (record { bus = k.bus; lists = k.lists; nodes = nodes_of c.happen.new.run; scene = record c.happen.new.run.scene { book = c.settle_into.new.self }; seeding = k.seeding; last = c.last_of-self-inside.result }) c.settle_into.new.turn (take kept.bus w i)) c.self.view_is given
 
 pub returns-clause-rounds : goal.returns-clause-rounds
 returns-clause-rounds g c =
@@ -80,7 +80,7 @@ returns-clause-rounds g c =
     subst (λ t. MayHappen k.bus k.nodes (record k.scene { agenda = lanes }) t name event w i both.0) (sym c.first_time-time.ensures.value) both.1 in
     let happened = c.happen.ensures w i both.0 may in
     let settles = c.settle_into.ensures.settled k.bus (happens k.bus w both.0) happened.surrounds.book in
-    let given = taken k.bus w i both.0 (nodes_of c.happen.new.run) c.happen.new.run.scene k.seeding c.settle_into.new.self c.settle_into.new.turn
-    c.last_of-self-inside.result is.lawful is.reached may.found happened settles c.last_of-self-inside.ensures in
+    let given = taken k.bus k.lists w i both.0 (nodes_of c.happen.new.run) c.happen.new.run.scene k.seeding c.settle_into.new.self c.settle_into.new.turn
+    c.last_of-self-inside.result is.lawful is.listed is.reached may.found happened settles c.last_of-self-inside.ensures in
     subst (λ (kept : KeptWorld). TakesInRounds kept.bus w (take kept.bus w i) (record_of c.settle_into.new.turn)) c.self.view_is
     (taken-in-rounds k.bus _ c.settle_into.new.turn w i both.0 is.lawful is.reached may.found given)
