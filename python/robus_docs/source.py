@@ -180,18 +180,34 @@ def docstring_before(text: str, place: int) -> str:
     return "\n".join(reversed(said))
 
 
+def leaves_of(tree: str) -> Iterator[str]:
+    """The single imports of what a `use` line names: `a.{b, c.{d as e}}` is `a.b` and
+    `a.c.d as e`."""
+    head, brace, rest = tree.partition("{")
+    if not brace:
+        yield tree.strip()
+        return
+    depth, item = 0, ""
+    for character in rest[:rest.rindex("}")] + ",":
+        depth += (character == "{") - (character == "}")
+        if character == "," and not depth:
+            yield from (head.strip() + leaf for leaf in leaves_of(item) if leaf)
+            item = ""
+        else:
+            item += character
+
+
 def imports_of(text: str) -> dict[str, Import]:
     """For each name that a file imports from definitions, the module and its name there."""
     found: dict[str, Import] = {}
-    pattern = r"(?m)^\s*(?:ghost )?use Rattle\.([\w.]+?)(?:\.\{([^}]*)\}| as (\w+))?;?\s*$"
-    for use in re.finditer(pattern, text):
-        parts = use.group(1).split(".")
-        if use.group(3):
-            found[use.group(3)] = (parts, None)
-            continue
-        for item in filter(None, (it.strip() for it in (use.group(2) or "").split(","))):
-            name, _, other = item.partition(" as ")
-            found[(other or name).strip()] = (parts, name.strip())
+    for use in re.finditer(r"(?m)^\s*(?:ghost )?use Rattle\.(.+?);?\s*$", text):
+        for leaf in leaves_of(use.group(1)):
+            path, _, other = (it.strip() for it in leaf.partition(" as "))
+            module, _, name = path.rpartition(".")
+            if "{" in use.group(1):
+                found[other or name] = (module.split("."), name)
+            elif other:
+                found[other] = (path.split("."), None)
     return found
 
 

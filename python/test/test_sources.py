@@ -10,8 +10,7 @@ from robus_docs.source import CRATES, Module, meaning_of, module, operators_in, 
 DEFINITIONS = """-- About the file.
 use Rattle.std.specs.Prelude.{ℕ, List}
 use Rattle.rb_base.specs.Nodes.{Side, has as has_node}
-use Rattle.rb_base.specs.Nodes.Side.{Biu}
-use Rattle.rb_base.specs.declared.values.Heard.TheVariants.{Word}
+use Rattle.rb_base.specs.{Nodes.Side.Biu, declared.values.Heard.TheVariants.{Word}}
 use Rattle.rb_base.specs.Sizes as sizes
 
 -- A heading.
