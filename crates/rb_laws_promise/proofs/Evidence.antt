@@ -42,9 +42,10 @@ use Rattle.rb_laws_promise.proofs.Following.{Adds, Keeps, first-keeps, follows, 
 abbrev IsWith : (ℕ → Bool) → Standing → Standing → Type 0
 IsWith evidence before after = (mismatch : ℕ) × (after ≡ record (with_evidence evidence before) { mismatch = mismatch })
 
--- the evidence of a close, by what the slot is for
+-- the evidence of a close, by what the slot is for, and by the slot
 abbrev evidence_for : Sizes → Side → NodeState → Role → ℕ → (ℕ → Sense) → ℕ → Bool
-evidence_for sizes me st role stage sense = has_evidence st.far (expects me role (sender_in (trusted_of me Biu st) (trusted_of me Rmu st) st.owners role) st.far.trusted stage) sense
+evidence_for sizes me st role stage sense =
+    has_evidence st.far (expects me role (sender_in (trusted_of me Biu st) (trusted_of me Rmu st) st.owners role) st.far.trusted stage) sense
 
 abbrev evidence_at : Sizes → Side → NodeState → ℕ → ℕ → (ℕ → Sense) → ℕ → Bool
 evidence_at sizes me st slot stage sense = evidence_for sizes me st (role_of sizes slot) stage sense
