@@ -1,7 +1,7 @@
 //! The timing plan of a bus, and whether it is feasible.
 #![tactic(auto)]
 
-ghost use Rattle.std.specs.Prelude.{◌≡◌, ◌≤◌, ◌<◌, ◌↔◌, Some, None, IfOk, IfErr, IsNone, int_lt};
+ghost use Rattle.std.specs.Prelude.{◌≡◌, ◌≤◌, ◌<◌, ◌*◌, ◌^◌, ◌↔◌, Some, None, IfOk, IfErr, IsNone, int_lt};
 ghost use Rattle.rb_base.specs.Sizes.{sync_slot_of};
 ghost use Rattle.rb_rules.specs.Windows.{exact_window, send_offset_of, window_at, window_of};
 ghost use Rattle.rb_rules.specs.Plan.{IsFeasible, IsPlan, drift_in, f0_of, first_failing, next_skew_of, rest_of, sides_of, skew_of, tail_start_of};
@@ -10,66 +10,55 @@ use rb_base::Shape;
 pub use rb_rules::{Plan, Window};
 use std::marker::Model;
 
-// The number of the sync slot.
-fn sync_slot(shape: &Shape) -> u16
-    ensures value { result ≡ sync_slot_of shape.now }
-    ensures small { result ≤ 112 }
-{
-    2 * u16::from(shape.biu()) + u16::from(shape.rmu()) + shape.slots()
-}
-
 // The offset of the sync slot.
 fn f0(shape: &Shape, plan: &Plan) -> u64
-    requires { IsPlan plan.now }
     ensures value { result ≡ f0_of shape.now plan.now }
-    ensures small { result ≤ 336000 }
+    ensures small { result ≤ 336 * plan.now.l }
 {
-    3 * u64::from(sync_slot(shape)) * u64::from(plan.l)
+    let l = u64::from(plan.l);
+    3 * u64::from(shape.sync_slot()) * l
 }
 
 // How far two good clocks drift apart in `ticks` ticks, at most.
-fn drift(plan: &Plan, ticks: u64) -> u64
-    requires plan { IsPlan plan.now }
-    requires ticks { ticks ≤ 1000000 }
+fn drift(plan: &Plan, ticks: u64) -> u128
     ensures value { result ≡ drift_in plan.now ticks }
-    ensures small { result ≤ 2000000000000 }
+    ensures small { result < 2 ^ 97 }
 {
-    2 * u64::from(plan.r) * ticks
+    2 * u128::from(plan.r) * u128::from(ticks)
 }
 
 // The skew that is allowed inside a frame.
-fn skew(shape: &Shape, plan: &Plan) -> u64
-    requires { IsPlan plan.now }
+fn skew(shape: &Shape, plan: &Plan) -> u128
     ensures value { result ≡ skew_of shape.now plan.now }
-    ensures small { result ≤ 2001000000000 }
+    ensures small { result < 2 ^ 98 }
 {
-    u64::from(plan.p) + drift(plan, f0(shape, plan) + u64::from(plan.h))
+    u128::from(plan.p) + drift(plan, f0(shape, plan) + u64::from(plan.h))
 }
 
 // How long the ticks of a window after the sending tick take at least.
-fn rest(plan: &Plan, ticks: u32) -> i64
-    requires plan { IsPlan plan.now }
-    requires ticks { ticks ≤ 1000 }
+fn rest(plan: &Plan, ticks: u32) -> i128
     ensures { result ≡ rest_of plan.now ticks }
 {
-    (i64::from(ticks) - i64::from(1 + plan.h)) * i64::from(plan.u - plan.r)
+    let before = 1 + u64::from(plan.h);
+    (i128::from(ticks) - i128::from(before)) * i128::from(plan.u.saturating_sub(plan.r))
 }
 
 // How far apart the next epochs may come.
-fn next_skew(plan: &Plan) -> u64
-    requires { IsPlan plan.now }
-    ensures { result ≡ next_skew_of plan.now }
+fn next_skew(plan: &Plan) -> u128
+    ensures value { result ≡ next_skew_of plan.now }
+    ensures small { result < 2 ^ 98 }
 {
-    let longest = u64::from(plan.u + plan.r);
-    let shortest = u64::from(plan.u - plan.r);
+    let longest = u128::from(plan.u) + u128::from(plan.r);
+    let shortest = u128::from(plan.u.saturating_sub(plan.r));
     let ticks = u64::from(plan.l) + u64::from(plan.v) + u64::from(plan.z);
     let (c, dmin, dmax) = (
-        u64::from(plan.c),
-        u64::from(plan.dmin),
-        u64::from(plan.dmax),
+        u128::from(plan.c),
+        u128::from(plan.dmin),
+        u128::from(plan.dmax),
     );
     let latest = (c * longest).max(dmax + longest);
-    2 * (dmax - dmin) + 2 * longest + drift(plan, ticks) + latest - (c * shortest).min(dmin)
+    let spread = 2 * dmax.saturating_sub(dmin) + 2 * longest + drift(plan, ticks);
+    (spread + latest).saturating_sub((c * shortest).min(dmin))
 }
 
 // Whether an inequality with these sides fails.
@@ -82,41 +71,34 @@ fn fails(left: i128, right: i128) -> bool
 /// The left and the right side of an inequality of the plan, from 1 to 7, in reference units. The
 /// inequality fails if the left side is below the right one.
 pub fn sides(shape: &Shape, plan: &Plan, n: u8) -> (i128, i128)
-    requires plan { IsPlan plan.now }
     requires first { 1 ≤ n }
     requires last { n ≤ 7 }
     ensures { sides_of shape.now plan.now n ≡ Some (record { left = result.0; right = result.1 }) }
 {
-    let shortest = u64::from(plan.u - plan.r);
-    let longest = u64::from(plan.u + plan.r);
+    let shortest = u128::from(plan.u.saturating_sub(plan.r));
+    let longest = u128::from(plan.u) + u128::from(plan.r);
     let (h, dmin, dmax) = (
-        u64::from(plan.h),
-        u64::from(plan.dmin),
-        u64::from(plan.dmax),
+        u128::from(plan.h),
+        u128::from(plan.dmin),
+        u128::from(plan.dmax),
     );
     let skew = skew(shape, plan);
     let to_second = drift(plan, u64::from(plan.l));
     let to_third = drift(plan, u64::from(plan.l) + u64::from(plan.v));
     match n {
-        1 => (i128::from(h * shortest + dmin), i128::from(skew)),
-        2 => (i128::from(rest(plan, plan.l)), i128::from(skew + dmax)),
-        3 => (
-            i128::from(h * longest + 2 * dmin),
-            i128::from(skew + to_second),
-        ),
+        1 => ((h * shortest + dmin) as i128, skew as i128),
+        2 => (rest(plan, plan.l), (skew + dmax) as i128),
+        3 => ((h * longest + 2 * dmin) as i128, (skew + to_second) as i128),
         4 => (
-            i128::from(rest(plan, plan.v)),
-            i128::from(skew + 2 * dmax + longest + to_second),
+            rest(plan, plan.v),
+            (skew + 2 * dmax + longest + to_second) as i128,
         ),
-        5 => (
-            i128::from(h * longest + 3 * dmin),
-            i128::from(skew + to_third),
-        ),
+        5 => ((h * longest + 3 * dmin) as i128, (skew + to_third) as i128),
         6 => (
-            i128::from(rest(plan, plan.z)),
-            i128::from(skew + 3 * dmax + 2 * longest + to_third),
+            rest(plan, plan.z),
+            (skew + 3 * dmax + 2 * longest + to_third) as i128,
         ),
-        _ => (i128::from(plan.p), i128::from(next_skew(plan))),
+        _ => (i128::from(plan.p), next_skew(plan) as i128),
     }
 }
 
@@ -150,7 +132,7 @@ fn window(shape: &Shape, plan: &Plan, offset: u64) -> Option<Window>
     ensures value { result ≡ window_at shape.now plan.now offset }
     ensures none { IsNone result ↔ (tail_start_of shape.now plan.now ≤ offset) }
 {
-    let sync_slot = sync_slot(shape);
+    let sync_slot = shape.sync_slot();
     let first = f0(shape, plan);
     let second = first + u64::from(plan.l);
     let third = second + u64::from(plan.v);
