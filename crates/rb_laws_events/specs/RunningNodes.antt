@@ -170,14 +170,16 @@ NodesAccuseNoGoodNode sc w =
     (me : Side) (node : RunningNode w me) → IsRunning (moment_of sc node)
     → SparesAllGood sc (state_of sc node).frame (window_of sc node).slot me (state_of sc node)
 
--- in the tail each running node knows the tick of its next epoch, which is within the bounds
+-- in the tail each running node knows the tick of its next epoch, which is within the bounds of a
+-- frame's length
 abbrev pub NodesKnowTheNextFrame : Scenario → World → Type 0
 NodesKnowTheNextFrame sc w =
     (frame slot : ℕ) (me : Side) (node : RunningNode w me) → StandsInSlot sc frame slot node
     → (window_of sc node).stage ≡ 4 → FrameTakes sc.sizes sc.plan me (state_of sc node)
 
--- the rounds with what has been handed in stand for a run of the abstract bus, and whichever such
--- run is taken, the running nodes hold what that bus holds
+-- The rounds with what has been handed in stand for a run of the abstract bus, and whichever such
+-- run is taken, the running nodes hold what that bus holds. They accuse no good node, and in the
+-- tail they know when the next frame begins
 pub record RunningNodesAreTheBus (sc : Scenario) (w : World) : Type 0 where
   pub stands : StandsFor sc w.hands
   pub before : (machine : StandsFor sc w.hands) → NodesHoldTheBus sc w machine
