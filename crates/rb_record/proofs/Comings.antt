@@ -18,8 +18,9 @@ use Rattle.rb_rules.specs.declared.say.Content.TheVariants.{Word, Fault, Sync, R
 use Rattle.rb_rules.specs.declared.say.Say.{Say}
 use Rattle.rb_rules.specs.Book.{Each, of_kind, each_of, map_each}
 use Rattle.rb_rules.specs.Core.{Act}
+use Rattle.rb_rules.specs.Entries.{IsListed}
 use Rattle.rb_rules.specs.Goodness.{Scenario, is_good, clock_of}
-use Rattle.rb_rules.specs.Hearing.{Coming, Sending, Span, bytes_of, coming_of, coming_said, is_said, said_by}
+use Rattle.rb_rules.specs.Hearing.{Coming, Sending, Span, coming_of}
 use Rattle.rb_rules.specs.Lawful.{IsContent, IsLawful, IsSayOf}
 use Rattle.rb_rules.specs.NodeState.{NodeState}
 use Rattle.rb_rules.specs.Ports.{PortState}
@@ -194,5 +195,5 @@ pub record IsSound (s : Site) : Type 0 where
 abbrev pub AreSound : Each Site → Type 0
 AreSound sites = (me : Side) (i : ℕ) (s : Site) → slice_get (of_kind me sites) i ≡ Some s → IsSound s
 
-pub run-sound : (sc : Scenario) (n : ℕ) → IsLawful sc → AreSound (first_run sc n).sites
-run-sound sc n lawful me i s there = record { sized = run-sized sc n lawful me i s there; idle = rests sc n me i s there }
+pub run-sound : (sc : Scenario) (n : ℕ) → IsLawful sc → IsListed sc → AreSound (first_run sc n).sites
+run-sound sc n lawful listed me i s there = record { sized = run-sized sc n listed me i s there; idle = rests sc n me i s there }

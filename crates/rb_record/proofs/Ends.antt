@@ -8,6 +8,7 @@ use Rattle.rb_base.specs.declared.event.Event.{Event}
 use Rattle.rb_base.specs.declared.node.NodeName.{NodeName}
 use Rattle.rb_base.proofs.Plain.{true-false}
 use Rattle.rb_rules.specs.Book.{Record, of_kind}
+use Rattle.rb_rules.specs.Entries.{IsListed}
 use Rattle.rb_rules.specs.Goodness.{Scenario}
 use Rattle.rb_rules.specs.Lawful.{IsLawful}
 use Rattle.rb_rules.specs.Rounds.{records_of}
@@ -136,13 +137,13 @@ on-for sc (suc fuel) n lawful busy = by (on-for sc fuel (suc n) lawful) (length 
     by later zero e = inl (record { more = 1; over = let one : n + 1 ≡ suc n = omega arith in subst (λ m. (first_run sc m).book.ended ≡ true) (sym one) (run-ends sc n lawful e) })
     by later (suc k) e = more (later (busy-more sc n busy (omega (arith, e))))
 
-pub is-long : (sc : Scenario) (n : ℕ) → IsLawful sc → ((m : ℕ) → m < n → 1 ≤ length (due_of sc (first_run sc m))) → IsLong sc n
-is-long sc n lawful busy = by (2 ^ 63) refl
+pub is-long : (sc : Scenario) (n : ℕ) → IsLawful sc → IsListed sc → ((m : ℕ) → m < n → 1 ≤ length (due_of sc (first_run sc m))) → IsLong sc n
+is-long sc n lawful listed busy = by (2 ^ 63) refl
   where
     by : (fuel : ℕ) → 2 ^ 63 ≡ fuel → IsLong sc n
     by fuel e = elim (on-for sc fuel n lawful busy) [
       | inl long ↦ long
-      | inr all ↦ absurd (let few = few-steps sc (n + fuel) lawful all in omega (arith, few, e))
+      | inr all ↦ absurd (let few = few-steps sc (n + fuel) lawful listed all in omega (arith, few, e))
     ]
 
 -- What the node is given.
@@ -165,23 +166,23 @@ going-busy sc n lawful going m lt = by (length (due_of sc (first_run sc m))) ref
         true-false (sym (subst (λ k. (first_run sc k).book.ended ≡ true) same (still-over sc (suc m) (n - suc m) (run-ends sc m lawful none))) ∙ going)
     by (suc k) e = omega (arith, e)
 
-pub few-going : (sc : Scenario) (n : ℕ) → IsLawful sc → (first_run sc n).book.ended ≡ false → n < 2 ^ 63
-few-going sc n lawful going = few-steps sc n lawful (going-busy sc n lawful going)
+pub few-going : (sc : Scenario) (n : ℕ) → IsLawful sc → IsListed sc → (first_run sc n).book.ended ≡ false → n < 2 ^ 63
+few-going sc n lawful listed going = few-steps sc n lawful listed (going-busy sc n lawful going)
 
 -- whatever was given so far, all that is given begins with it
-going-given : (sc : Scenario) (name : NodeName) (n : ℕ) → IsLawful sc → ((m : ℕ) → m < n → 1 ≤ length (due_of sc (first_run sc m)))
+going-given : (sc : Scenario) (name : NodeName) (n : ℕ) → IsLawful sc → IsListed sc → ((m : ℕ) → m < n → 1 ≤ length (due_of sc (first_run sc m)))
     → (more : List Event) × AreGiven sc name (given_in sc name n ++ more)
-going-given sc name n lawful busy =
-    let long = is-long sc n lawful busy in
+going-given sc name n lawful listed busy =
+    let long = is-long sc n lawful listed busy in
     let more = given-more sc name n long.more in
     (more.0, record { steps = n + long.more; over = long.over; all = sym more.1 })
 
-pub all-given : (sc : Scenario) (name : NodeName) (n : ℕ) → IsLawful sc → (more : List Event) × AreGiven sc name (given_in sc name n ++ more)
-all-given sc name n lawful = by (first_run sc n).book.ended refl
+pub all-given : (sc : Scenario) (name : NodeName) (n : ℕ) → IsLawful sc → IsListed sc → (more : List Event) × AreGiven sc name (given_in sc name n ++ more)
+all-given sc name n lawful listed = by (first_run sc n).book.ended refl
   where
     by : (b : Bool) → (first_run sc n).book.ended ≡ b → (more : List Event) × AreGiven sc name (given_in sc name n ++ more)
     by true over = ([], record { steps = n; over = over; all = append-nil (given_in sc name n) })
-    by false going = going-given sc name n lawful (going-busy sc n lawful going)
+    by false going = going-given sc name n lawful listed (going-busy sc n lawful going)
 
 -- if nothing is due, no event is given
 none-at : (sc : Scenario) (w : World) → length (due_of sc w) ≡ 0 → event_at sc w 0 ≡ None

@@ -15,6 +15,7 @@ use Rattle.rb_rules.specs.declared.role.Role.{Role}
 use Rattle.rb_rules.specs.declared.role.Role.TheVariants.{Schedule, Data, DiagBiu, DiagRmu, Sync}
 use Rattle.rb_rules.specs.Book.{of_kind}
 use Rattle.rb_rules.specs.Core.{pass_to}
+use Rattle.rb_rules.specs.Entries.{IsListed}
 use Rattle.rb_rules.specs.Goodness.{Scenario}
 use Rattle.rb_rules.specs.Hearing.{Coming, word_for}
 use Rattle.rb_rules.specs.Lawful.{HasEach, IsLawful, IsNodeOf, kind_of}
@@ -82,12 +83,12 @@ CanHappen sc name e = MayHappen (senders_of (record { sizes = sc.sizes; plan = s
 abbrev AllHappen : Scenario → NodeName → List Event → Type 0
 AllHappen sc name events = All (CanHappen sc name) events
 
-next-happens : (sc : Scenario) (name : NodeName) (n : ℕ) → IsLawful sc → AllHappen sc name (given_next sc name (first_run sc n))
-next-happens sc name n lawful = by (event_at sc (first_run sc n) 0) refl
+next-happens : (sc : Scenario) (name : NodeName) (n : ℕ) → IsLawful sc → IsListed sc → AllHappen sc name (given_next sc name (first_run sc n))
+next-happens sc name n lawful listed = by (event_at sc (first_run sc n) 0) refl
   where
     at : (e : Event) → event_at sc (first_run sc n) 0 ≡ Some e → (a b : Bool) → same_node e.node name ≡ a → AllHappen sc name (if a && b then e ∷ [] else [])
     at e found true true same =
-        All-cons (CanHappen sc name) e [] (event-happens sc (first_run sc n) e name lawful (run-reached sc n) (run-sound sc n lawful) (is-event sc (first_run sc n) e found) same) (All-nil (CanHappen sc name))
+        All-cons (CanHappen sc name) e [] (event-happens sc (first_run sc n) e name lawful (run-reached sc n) (run-sound sc n lawful listed) (is-event sc (first_run sc n) e found) same) (All-nil (CanHappen sc name))
     at e found true false same = All-nil (CanHappen sc name)
     at e found false b same = All-nil (CanHappen sc name)
 
@@ -96,37 +97,37 @@ next-happens sc name n lawful = by (event_at sc (first_run sc n) 0) refl
     by (Some e) found =
         subst (AllHappen sc name) (sym (next-is sc name (first_run sc n) (Some e) found)) (at e found (same_node e.node name) (is_before_end sc (site_of name (first_run sc n))) refl)
 
-given-happen : (sc : Scenario) (name : NodeName) (n : ℕ) → IsLawful sc → AllHappen sc name (given_in sc name n)
-given-happen sc name zero lawful = All-nil (CanHappen sc name)
-given-happen sc name (suc n) lawful = All-append (CanHappen sc name) (given_in sc name n) (given_next sc name (first_run sc n)) (given-happen sc name n lawful) (next-happens sc name n lawful)
+given-happen : (sc : Scenario) (name : NodeName) (n : ℕ) → IsLawful sc → IsListed sc → AllHappen sc name (given_in sc name n)
+given-happen sc name zero lawful listed = All-nil (CanHappen sc name)
+given-happen sc name (suc n) lawful listed = All-append (CanHappen sc name) (given_in sc name n) (given_next sc name (first_run sc n)) (given-happen sc name n lawful listed) (next-happens sc name n lawful listed)
 
 tell-fits : (ticks : ℕ) (events : List Event) → ticks ≤ 2147483648 → MayTell ticks events → ticks + ticks_in events ≤ 2147483648
 tell-fits ticks [] le may = omega (arith, le)
 tell-fits ticks (e ∷ events) le may = let rest = tell-fits (ticks + ticks_given e) events may.0.0 may.1 in omega (arith, rest)
 
-given-fit : (sc : Scenario) (name : NodeName) (n : ℕ) → IsLawful sc → ticks_in (given_in sc name n) ≤ 2147483648
-given-fit sc name zero lawful = omega arith
-given-fit sc name (suc n) lawful =
-    let before = given-fit sc name n lawful in
-    let fits = tell-fits (ticks_in (given_in sc name n)) (given_next sc name (first_run sc n)) before (may-tell sc name n (ticks_in (given_in sc name n)) lawful refl) in
+given-fit : (sc : Scenario) (name : NodeName) (n : ℕ) → IsLawful sc → IsListed sc → ticks_in (given_in sc name n) ≤ 2147483648
+given-fit sc name zero lawful listed = omega arith
+given-fit sc name (suc n) lawful listed =
+    let before = given-fit sc name n lawful listed in
+    let fits = tell-fits (ticks_in (given_in sc name n)) (given_next sc name (first_run sc n)) before (may-tell sc name n (ticks_in (given_in sc name n)) lawful listed refl) in
     let sum = ticks-append (given_in sc name n) (given_next sc name (first_run sc n)) in
     omega (arith, fits, sum)
 
-given-tellable : (sc : Scenario) (name : NodeName) (n : ℕ) → IsLawful sc → IsNodeOf sc.sizes name → IsTellable (record { sizes = sc.sizes; plan = sc.plan }) name (given_in sc name n)
-given-tellable sc name n lawful node = record {
+given-tellable : (sc : Scenario) (name : NodeName) (n : ℕ) → IsLawful sc → IsListed sc → IsNodeOf sc.sizes name → IsTellable (record { sizes = sc.sizes; plan = sc.plan }) name (given_in sc name n)
+given-tellable sc name n lawful listed node = record {
   shape = lawful.sizes;
   plan = lawful.plan;
   feasible = lawful.feasible;
   version = lawful.version;
   node_of = node;
-  happen = given-happen sc name n lawful;
-  ticks = given-fit sc name n lawful;
+  happen = given-happen sc name n lawful listed;
+  ticks = given-fit sc name n lawful listed;
 }
 
 pub recorded-read : RecordedIsRead
-recorded-read sc lawful name node events given =
+recorded-read sc lawful listed name node events given =
     written_read (record { sizes = sc.sizes; plan = sc.plan }) name events
-    (subst (IsTellable (record { sizes = sc.sizes; plan = sc.plan }) name) (sym given.all) (given-tellable sc name given.steps lawful node))
+    (subst (IsTellable (record { sizes = sc.sizes; plan = sc.plan }) name) (sym given.all) (given-tellable sc name given.steps lawful listed node))
 
 -- One list.
 

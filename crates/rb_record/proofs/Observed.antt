@@ -3,6 +3,7 @@ use Rattle.std.proofs.Common.{◌≡◌, ◌⊎◌, inl, inr, ℕ, suc, ◌+◌,
 use Rattle.std.specs.Prelude.{Result, Ok, Err, IsErr, IsOk, MatchResult, OnErr}
 use Rattle.rb_base.specs.declared.event.Event.{Event}
 use Rattle.rb_base.specs.declared.node.NodeName.{NodeName}
+use Rattle.rb_rules.specs.Entries.{IsListed}
 use Rattle.rb_rules.specs.Goodness.{Scenario}
 use Rattle.rb_rules.specs.Lawful.{IsLawful}
 use Rattle.rb_rules.specs.WorldStep.{World, first_world}
@@ -224,13 +225,14 @@ module _ {K : Type 0} (held : K → Option (List ℕ)) (faults : K → ℕ) wher
       let draws : ℕ = k.seeding.draws.state in
       let events : List Event = told_more sc name n more draws in
       let lawful : IsLawful sc = is.recorded.stands.lawful in
+      let listed : IsListed sc = is.recorded.stands.listed in
       let next : tells.goes.next ≡ first_run sc (n + more) = ap (λ (s : Standing). s.world) tells.goes.is.is ∙ after-first sc n more draws in
       let told : Records held faults a events b =
       subst (λ frames. Records held faults a (all_of_log frames (told_to sc name more (standing sc n draws))) b) frames (all-told a b (told_to sc name more (standing sc n draws)) tells.told) in
       let stands : Stands after (first_run sc (n + more)) = subst (Stands after) next tells.goes.gives.stands in
       let many = is.many in
       let ticks : a.log.ticks ≡ ticks_in (given_in sc name n) = (let sum = is.recorded.passes.told.ticks in omega (arith, sum)) in
-      let down : TakesDown a c events = takes-down a b c events ok (may-tell-more sc name n more draws a.log.ticks lawful ticks) told settles in
+      let down : TakesDown a c events = takes-down a b c events ok (may-tell-more sc name n more draws a.log.ticks lawful listed ticks) told settles in
       record {
         steps = n + more;
         many = omega (arith, many);
@@ -242,7 +244,7 @@ module _ {K : Type 0} (held : K → Option (List ℕ)) (faults : K → ℕ) wher
         written = match-map (Passes a c events) (PassesPart a c events) (IsRecorded sc name (n + more) after c.log c.waiting start (held c.output.now)) (IsRecordedInPart sc name start (held c.output.now)) c.written
             down.next
             (λ next. recorded-more sc name n (n + more) events k after a.log c.log a.waiting c.waiting start (held a.output.now) (held c.output.now) is.recorded (given-told sc name n more draws) next bus stands)
-            (λ part. recorded-part sc name n (n + more) events k a.log a.waiting start (held a.output.now) (held c.output.now) lawful is.recorded (given-told sc name n more draws) part);
+            (λ part. recorded-part sc name n (n + more) events k a.log a.waiting start (held a.output.now) (held c.output.now) lawful listed is.recorded (given-told sc name n more draws) part);
       }
 
   pub comes-to-next : (sc : Scenario) (name : NodeName) (records : ℕ) (a b c : Recorder K) (k after : KeptWorld) (turn : Turn) (start : Option (List ℕ)) → k.bus ≡ sc

@@ -1,5 +1,6 @@
 -- A run in which each step takes the first due event.
 use Rattle.std.proofs.Common.{◌≡◌, ℕ, zero, suc, ◌+◌, ◌^◌, ◌<◌, ◌≤◌, Some, None, List, [], ◌∷◌, ◌++◌, fold, length, slice_get, refl, sym, ap, ◌∙◌, subst, arith}
+use Rattle.rb_rules.specs.Entries.{IsListed}
 use Rattle.rb_rules.specs.Goodness.{Scenario}
 use Rattle.rb_rules.specs.Lawful.{IsLawful}
 use Rattle.rb_rules.specs.WorldStep.{Choice, Due, World, choose, due_of, first_world, go_on, take, world_after}
@@ -97,9 +98,9 @@ all-taken sc (suc n) some =
     let one : taken_by sc (world_after sc (choices_of sc n)) c ≡ 1 = subst (λ w. taken_by sc w c ≡ 1) (run-is sc n) (one-take sc (first_run sc n) (some n (omega arith))) in
     omega (arith, rest, sum, one)
 
-pub few-steps : (sc : Scenario) (n : ℕ) → IsLawful sc → ((m : ℕ) → m < n → 1 ≤ length (due_of sc (first_run sc m))) → n < 2 ^ 63
-few-steps sc n lawful some =
+pub few-steps : (sc : Scenario) (n : ℕ) → IsLawful sc → IsListed sc → ((m : ℕ) → m < n → 1 ≤ length (due_of sc (first_run sc m))) → n < 2 ^ 63
+few-steps sc n lawful listed some =
     let many = all-taken sc n some in
-    let few = (ends-hold sc lawful).few (choices_of sc n) in
-    let most = few-takes sc lawful in
+    let few = (ends-hold sc lawful listed).few (choices_of sc n) in
+    let most = few-takes sc lawful listed in
     omega (arith, many, few, most)

@@ -13,6 +13,7 @@ use Rattle.rb_rules.specs.declared.message.Message.{Message}
 use Rattle.rb_rules.specs.Book.{Each, of_kind}
 use Rattle.rb_rules.specs.Clock.{stamp_of}
 use Rattle.rb_rules.specs.Core.{Act, Core, pass_to}
+use Rattle.rb_rules.specs.Entries.{IsListed}
 use Rattle.rb_rules.specs.Goodness.{Scenario, clock_of}
 use Rattle.rb_rules.specs.Hearing.{Coming, Sending, coming_of}
 use Rattle.rb_rules.specs.Lawful.{IsLawful, kind_of}
@@ -171,10 +172,10 @@ arrival-fits sc w d lawful reached found due runs time is =
     let le = stamp_le (clock_of sc d.side d.node) time (stamp_of (clock_of sc d.side d.node) time) h.k (stamp_of-is (clock_of sc d.side d.node) moves time) (omega (arith, later, is)) in
     omega (arith, le, small)
 
-room : (sc : Scenario) (w : World) → IsLawful sc → IsReached sc w → (me : Side) (i : ℕ) (s : Site) → slice_get (of_kind me w.sites) i ≡ Some s → s.runs ≡ true → s.core.had < 2 ^ 31
-room sc w lawful reached =
+room : (sc : Scenario) (w : World) → IsLawful sc → IsListed sc → IsReached sc w → (me : Side) (i : ℕ) (s : Site) → slice_get (of_kind me w.sites) i ≡ Some s → s.runs ≡ true → s.core.had < 2 ^ 31
+room sc w lawful listed reached =
     subst (λ (x : World). (me : Side) (i : ℕ) (s : Site) → slice_get (of_kind me x.sites) i ≡ Some s → s.runs ≡ true → s.core.had < 2 ^ 31) (sym reached.is)
-    ((ends-hold sc lawful).room reached.choices)
+    ((ends-hold sc lawful listed).room reached.choices)
 
 fits-by : (sc : Scenario) (ports : List PortState) (me : Side) (i t : ℕ) (s : Site) (p : Pending) → IsReady t s p → s.core.had < 2 ^ 31
     → ((a : Timed) → s.ahead ≡ Some a → a.time ≡ t → (s.core.had ≤ a.tick) × (a.tick < 2 ^ 31)) → ((time : ℕ) → time ≡ t → stamp_of (clock_of sc me i) time < 2 ^ 31)
@@ -188,12 +189,12 @@ fits-by sc ports me i t s (Tick k) ready small tick arrival =
 fits-by sc ports me i t s (Arrival place c) ready small tick arrival = let below = arrival c.time ready.1 in omega (arith, small, below)
 
 -- with the ticks of the event its node has had at most 2^31 ticks
-pub event-fits : (sc : Scenario) (w : World) (e : Event) → IsLawful sc → IsReached sc w → AreSound w.sites → (is : IsEvent sc w e) → is.s.core.had + ticks_given e ≤ 2 ^ 31
-event-fits sc w e lawful reached sound is =
+pub event-fits : (sc : Scenario) (w : World) (e : Event) → IsLawful sc → IsListed sc → IsReached sc w → AreSound w.sites → (is : IsEvent sc w e) → is.s.core.had + ticks_given e ≤ 2 ^ 31
+event-fits sc w e lawful listed reached sound is =
     let due : IsDue w is.d = due-reached sc w 0 is.d reached is.found in
     let same : due.s ≡ is.s = same_Some due.s is.s (sym due.there ∙ is.there) in
     let runs : due.s.runs ≡ true = due-runs due.t due.s is.d.pending due.ready (sound is.d.side is.d.node due.s due.there).idle in
-    let small : due.s.core.had < 2 ^ 31 = room sc w lawful reached is.d.side is.d.node due.s due.there runs in
+    let small : due.s.core.had < 2 ^ 31 = room sc w lawful listed reached is.d.side is.d.node due.s due.there runs in
     let all : due.s.core.had + ticks_given (event_of sc w.ports is.d.side is.d.node due.s.core is.d.pending) ≤ 2 ^ 31 =
     fits-by sc w.ports is.d.side is.d.node due.t due.s is.d.pending due.ready small
     (λ a ahead time. tick-fits sc w is.d lawful reached is.found due a ahead time) (λ time at. arrival-fits sc w is.d lawful reached is.found due runs time at) in
@@ -267,14 +268,14 @@ same-is Rmu j (node.Biu i) = refl
 same-is Rmu j (node.Rmu i) = eq-either_way i j
 
 -- a step with an event adds its ticks at the named node
-pub taken-before : (sc : Scenario) (w : World) (e : Event) (name : NodeName) (z : Site) → IsLawful sc → IsReached sc w → AreSound w.sites → IsEvent sc w e
+pub taken-before : (sc : Scenario) (w : World) (e : Event) (name : NodeName) (z : Site) → IsLawful sc → IsListed sc → IsReached sc w → AreSound w.sites → IsEvent sc w e
     → site_of name (take sc w 0) ≡ Some z → (s : Site) × ((site_of name w ≡ Some s) × (z.core.had ≡ s.core.had + ticks_to name e))
 unfolding take happens
-taken-before sc w e name z lawful reached sound is at =
+taken-before sc w e name z lawful listed reached sound is at =
     let d : Due = is.d in
     let due : IsDue w d = due-reached sc w 0 d reached is.found in
     let runs : due.s.runs ≡ true = due-runs due.t due.s d.pending due.ready (sound d.side d.node due.s due.there).idle in
-    let small : due.s.core.had < 2 ^ 31 = room sc w lawful reached d.side d.node due.s due.there runs in
+    let small : due.s.core.had < 2 ^ 31 = room sc w lawful listed reached d.side d.node due.s due.there runs in
     let x : World = with_pending sc w d.side d.node due.s d.pending in
     let taken : take sc w 0 ≡ settle sc ByAnEvent 2 x =
     ap (take_if_due sc w) is.found ∙ ap (λ o. settle sc ByAnEvent 2 (elim o as (λ _. World) [ None ↦ w | Some s ↦ with_pending sc w d.side d.node s d.pending ])) due.there in
@@ -310,34 +311,34 @@ unfolding given_next
 next-is sc name w o e = ap (if_given sc name w) e
 
 -- the node has had all ticks that were recorded
-pub ticks-had : (sc : Scenario) (name : NodeName) (n : ℕ) (z : Site) → IsLawful sc → site_of name (first_run sc n) ≡ Some z → ticks_in (given_in sc name n) ≤ z.core.had
-ticks-had sc name zero z lawful at = omega arith
-ticks-had sc name (suc n) z lawful at = by (ticks-had sc name n) (length (due_of sc (first_run sc n))) refl
+pub ticks-had : (sc : Scenario) (name : NodeName) (n : ℕ) (z : Site) → IsLawful sc → IsListed sc → site_of name (first_run sc n) ≡ Some z → ticks_in (given_in sc name n) ≤ z.core.had
+ticks-had sc name zero z lawful listed at = omega arith
+ticks-had sc name (suc n) z lawful listed at = by (ticks-had sc name n) (length (due_of sc (first_run sc n))) refl
   where
     w : World
     w = first_run sc n
 
     -- no event is due
-    idle : ((x : Site) → IsLawful sc → site_of name w ≡ Some x → ticks_in (given_in sc name n) ≤ x.core.had) → length (due_of sc w) ≡ 0 → ticks_in (given_in sc name (suc n)) ≤ z.core.had
+    idle : ((x : Site) → IsLawful sc → IsListed sc → site_of name w ≡ Some x → ticks_in (given_in sc name n) ≤ x.core.had) → length (due_of sc w) ≡ 0 → ticks_in (given_in sc name (suc n)) ≤ z.core.had
     idle had none =
         let sites : (first_run sc (suc n)).sites ≡ w.sites = ap (λ (x : World). x.sites) (run-idle sc w none) ∙ go-on-sites sc w in
-        let before = had z lawful (ap (λ (ss : Each Site). slice_get (of_kind (kind_of name) ss) (index_of name)) (sym sites) ∙ at) in
+        let before = had z lawful listed (ap (λ (ss : Each Site). slice_get (of_kind (kind_of name) ss) (index_of name)) (sym sites) ∙ at) in
         let sum = ticks-append (given_in sc name n) (given_next sc name w) in
         let nothing : ticks_in (given_next sc name w) ≡ 0 = ap ticks_in (none-given sc name w none) in
         omega (arith, before, sum, nothing)
 
-    one : ((x : Site) → IsLawful sc → site_of name w ≡ Some x → ticks_in (given_in sc name n) ≤ x.core.had) → (e : Event) → event_at sc w 0 ≡ Some e → 1 ≤ length (due_of sc w)
+    one : ((x : Site) → IsLawful sc → IsListed sc → site_of name w ≡ Some x → ticks_in (given_in sc name n) ≤ x.core.had) → (e : Event) → event_at sc w 0 ≡ Some e → 1 ≤ length (due_of sc w)
         → ticks_in (given_in sc name (suc n)) ≤ z.core.had
     one had e found some =
         let is = is-event sc w e found in
-        let was = taken-before sc w e name z lawful (run-reached sc n) (run-sound sc n lawful) is (ap (site_of name) (sym (run-busy sc w some)) ∙ at) in
-        let before = had was.0 lawful was.1.0 in
+        let was = taken-before sc w e name z lawful listed (run-reached sc n) (run-sound sc n lawful listed) is (ap (site_of name) (sym (run-busy sc w some)) ∙ at) in
+        let before = had was.0 lawful listed was.1.0 in
         let after : z.core.had ≡ was.0.core.had + ticks_to name e = was.1.1 in
         let few : ticks_in (given_next sc name w) ≤ ticks_to name e = subst (λ es. ticks_in es ≤ ticks_to name e) (sym (next-is sc name w (Some e) found)) (few-given sc name w e) in
         let sum = ticks-append (given_in sc name n) (given_next sc name w) in
         omega (arith, before, after, few, sum)
 
-    by : ((x : Site) → IsLawful sc → site_of name w ≡ Some x → ticks_in (given_in sc name n) ≤ x.core.had) → (k : ℕ) → length (due_of sc w) ≡ k
+    by : ((x : Site) → IsLawful sc → IsListed sc → site_of name w ≡ Some x → ticks_in (given_in sc name n) ≤ x.core.had) → (k : ℕ) → length (due_of sc w) ≡ k
         → ticks_in (given_in sc name (suc n)) ≤ z.core.had
     by had zero e = idle had e
     by had (suc k) e =
@@ -347,8 +348,8 @@ ticks-had sc name (suc n) z lawful at = by (ticks-had sc name n) (length (due_of
 
 -- The writer may be told what comes next.
 
-pub may-tell : (sc : Scenario) (name : NodeName) (n ticks : ℕ) → IsLawful sc → ticks ≡ ticks_in (given_in sc name n) → MayTell ticks (given_next sc name (first_run sc n))
-may-tell sc name n ticks lawful is = by (event_at sc w 0) refl
+pub may-tell : (sc : Scenario) (name : NodeName) (n ticks : ℕ) → IsLawful sc → IsListed sc → ticks ≡ ticks_in (given_in sc name n) → MayTell ticks (given_next sc name (first_run sc n))
+may-tell sc name n ticks lawful listed is = by (event_at sc w 0) refl
   where
     w : World
     w = first_run sc n
@@ -356,9 +357,9 @@ may-tell sc name n ticks lawful is = by (event_at sc w 0) refl
     at : (e : Event) → event_at sc w 0 ≡ Some e → (a b : Bool) → same_node e.node name ≡ a → MayTell ticks (if a && b then e ∷ [] else [])
     at e found true true same =
         let its = is-event sc w e found in
-        let sound = run-sound sc n lawful in
-        let before = ticks-had sc name n its.s lawful (at-site sc w e name its same) in
-        let fits = event-fits sc w e lawful (run-reached sc n) sound its in
+        let sound = run-sound sc n lawful listed in
+        let before = ticks-had sc name n its.s lawful listed (at-site sc w e name its same) in
+        let fits = event-fits sc w e lawful listed (run-reached sc n) sound its in
         ((omega (arith, is, before, fits), event-bytes sc w e (run-reached sc n) sound its), tt)
     at e found true false same = tt
     at e found false b same = tt

@@ -5,6 +5,7 @@ use Rattle.std.proofs.lemmas.List.{append-nil}
 use Rattle.rb_base.specs.declared.event.Event.{Event}
 use Rattle.rb_base.specs.declared.node.NodeName.{NodeName}
 use Rattle.rb_base.specs.declared.node.NodeName.TheVariants as node
+use Rattle.rb_rules.specs.Entries.{IsListed}
 use Rattle.rb_rules.specs.Goodness.{Scenario}
 use Rattle.rb_rules.specs.Lawful.{IsLawful, kind_of}
 use Rattle.rb_rules.specs.Links.{same_node}
@@ -94,12 +95,12 @@ may-append ticks (x ∷ xs) ys a b =
     let same : ticks + (ticks_given x + ticks_in xs) ≡ (ticks + ticks_given x) + ticks_in xs = omega arith in
     (a.0, may-append (ticks + ticks_given x) xs ys a.1 (subst (λ n. MayTell n ys) same b))
 
-pub may-tell-more : (sc : Scenario) (name : NodeName) (n k draws ticks : ℕ) → IsLawful sc → ticks ≡ ticks_in (given_in sc name n) → MayTell ticks (told_more sc name n k draws)
-may-tell-more sc name n zero draws ticks lawful is = tt
-may-tell-more sc name n (suc k) draws ticks lawful is =
+pub may-tell-more : (sc : Scenario) (name : NodeName) (n k draws ticks : ℕ) → IsLawful sc → IsListed sc → ticks ≡ ticks_in (given_in sc name n) → MayTell ticks (told_more sc name n k draws)
+may-tell-more sc name n zero draws ticks lawful listed is = tt
+may-tell-more sc name n (suc k) draws ticks lawful listed is =
     let more : List Event = told_more sc name n k draws in
     let sum = ticks-append (given_in sc name n) more in
     let all : ticks_in (given_in sc name (n + k)) ≡ ticks_in (given_in sc name n ++ more) = ap ticks_in (given-told sc name n k draws) in
     subst (MayTell ticks) (sym (one-more sc name n k draws))
-    (may-append ticks more (given_next sc name (first_run sc (n + k))) (may-tell-more sc name n k draws ticks lawful is)
-    (may-tell sc name (n + k) (ticks + ticks_in more) lawful (omega (arith, is, sum, all))))
+    (may-append ticks more (given_next sc name (first_run sc (n + k))) (may-tell-more sc name n k draws ticks lawful listed is)
+    (may-tell sc name (n + k) (ticks + ticks_in more) lawful listed (omega (arith, is, sum, all))))

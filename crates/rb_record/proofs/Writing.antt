@@ -5,6 +5,7 @@ use Rattle.std.specs.Io.KnownBytes.{Appends}
 use Rattle.std.proofs.lemmas.List.{append-nil}
 use Rattle.rb_base.specs.declared.event.Event.{Event}
 use Rattle.rb_base.specs.declared.node.NodeName.{NodeName}
+use Rattle.rb_rules.specs.Entries.{IsListed}
 use Rattle.rb_rules.specs.Goodness.{Scenario}
 use Rattle.rb_rules.specs.Lawful.{IsLawful}
 use Rattle.rb_rules.specs.WorldStep.{first_world}
@@ -41,10 +42,10 @@ recorded-more sc name n m events k after log later w u held mid since is more ne
       (passes-join fresh_log log later [] w u (given_in sc name n) events held mid since is.passes next);
 }
 
-pub recorded-part : (sc : Scenario) (name : NodeName) (n m : ℕ) (events : List Event) (k : KeptWorld) (log : Tally) (w : List ℕ) (held mid since : Option (List ℕ)) → IsLawful sc
+pub recorded-part : (sc : Scenario) (name : NodeName) (n m : ℕ) (events : List Event) (k : KeptWorld) (log : Tally) (w : List ℕ) (held mid since : Option (List ℕ)) → IsLawful sc → IsListed sc
     → IsRecorded sc name n k log w held mid → given_in sc name m ≡ given_in sc name n ++ events → PassesPartOf log w events mid since → IsRecordedInPart sc name held since
-recorded-part sc name n m events k log w held mid since lawful is more part =
-    let all = all-given sc name m lawful in
+recorded-part sc name n m events k log w held mid since lawful listed is more part =
+    let all = all-given sc name m lawful listed in
     let written : PassesPartOf fresh_log [] (given_in sc name m) held since =
     subst (λ given. PassesPartOf fresh_log [] given held since) (sym more)
     (passes-then-part fresh_log log [] w (given_in sc name n) events held mid since is.passes part) in
@@ -53,10 +54,10 @@ recorded-part sc name n m events k log w held mid since lawful is more part =
 -- The log.
 
 -- a write of the header failed
-pub header-part : (sc : Scenario) (name : NodeName) (held since : Option (List ℕ)) → IsLawful sc
+pub header-part : (sc : Scenario) (name : NodeName) (held since : Option (List ℕ)) → IsLawful sc → IsListed sc
     → AppendsPart held since (header_of (timetable_of sc) name) → WritesPart sc name held since
-header-part sc name held since lawful text =
-    let all = all-given sc name 0 lawful in
+header-part sc name held since lawful listed text =
+    let all = all-given sc name 0 lawful listed in
     record { events = all.0; given = all.1; text = part_widens held since (header_of (timetable_of sc) name) (written 0 all.0) text }
 
 pub records-part : (sc : Scenario) (name : NodeName) (held mid since : Option (List ℕ)) → Appends held mid (header_of (timetable_of sc) name)

@@ -3,6 +3,7 @@ use Rattle.std.specs.Prelude.{◌≡◌, List, Ok}
 use Rattle.std.specs.List.{flat_map}
 use Rattle.rb_base.specs.declared.event.Event.{Event}
 use Rattle.rb_base.specs.declared.node.NodeName.{NodeName}
+use Rattle.rb_rules.specs.Entries.{IsListed}
 use Rattle.rb_rules.specs.Goodness.{Scenario}
 use Rattle.rb_rules.specs.Lawful.{IsLawful, IsNodeOf}
 use Rattle.rb_laws_logs.specs.Given.{AreGiven}
@@ -10,11 +11,11 @@ use Rattle.rb_log.specs.LogText.{log_in}
 use Rattle.rb_log.specs.Writing.{given}
 use Rattle.rb_record.specs.Recording.{log_text}
 
--- what is recorded of a node is a log, which says the numbers of the bus, the node, and what the
--- node was given
+-- where faulty nodes do what the entries list, what is recorded of a node is a log, which says the
+-- numbers of the bus, the node, and what the node was given
 abbrev pub RecordedIsRead : Type 0
 RecordedIsRead =
-    (sc : Scenario) → IsLawful sc → (name : NodeName) → IsNodeOf sc.sizes name → (events : List Event) → AreGiven sc name events
+    (sc : Scenario) → IsLawful sc → IsListed sc → (name : NodeName) → IsNodeOf sc.sizes name → (events : List Event) → AreGiven sc name events
     → log_in (log_text sc name events) ≡ Ok (record { timetable = record { sizes = sc.sizes; plan = sc.plan }; node = name; events = flat_map given events })
 
 -- there is one log of a node: what it is given in the run is one list

@@ -8,7 +8,7 @@ use Rattle.rb_record.proofs.recording.record.Goals as goal
 pub returns-in_err-write_header-clause-part : goal.returns-in_err-write_header-clause-part
 returns-in_err-write_header-clause-part g c =
     on-err c.from_residual.result
-    (header-part c.args.world.now.bus c.args.node (g.K.Sink.held c.args.output.now) (g.K.Sink.held c.write_header.new.output) c.requires.begin.lawful c.in_err-write_header.ensures.part)
+    (header-part c.args.world.now.bus c.args.node (g.K.Sink.held c.args.output.now) (g.K.Sink.held c.write_header.new.output) c.requires.begin.lawful c.requires.begin.listed c.in_err-write_header.ensures.part)
 
 pub returns-in_err-ending-clause-part : goal.returns-in_err-ending-clause-part
 returns-in_err-ending-clause-part g c =

@@ -75,7 +75,7 @@ loop-passed-preserved g c =
 pub unreachable-requires : goal.unreachable-requires
 unreachable-requires g c =
     let is = c.loop-passed.invariant.recorded in
-    let few = few-going c.args.world.now.bus is.steps c.requires.begin.lawful is.going in
+    let few = few-going c.args.world.now.bus is.steps c.requires.begin.lawful c.requires.begin.listed is.going in
     let many = is.many in
     let past = c.loop-passed-test.false in
     absurd (omega (arith, few, many, past))
