@@ -1,5 +1,6 @@
 //! One bus of a bridge under way.
 ghost use Rattle.std.specs.Prelude.{◌≡◌, ◌+◌, ◌<◌, IfOk};
+ghost use Rattle.rb_rules.specs.Entries.{IsListed};
 ghost use Rattle.rb_rules.specs.Lawful.{IsLawful};
 ghost use Rattle.rb_scenario.specs.Acceptance.{as_scenario};
 ghost use Rattle.rb_bridge.specs.Sides.{HasOpened};
@@ -53,6 +54,7 @@ pub fn open_side(
     slot: u16,
 ) -> Result<Side, OutOfMemory>
     requires lawful { IsLawful (as_scenario scenario) }
+    requires listed { IsListed (as_scenario scenario) }
     requires slot { slot < scenario.plan.sizes.data_slots }
     ensures { IfOk result (HasOpened (as_scenario scenario) members slot) }
 {

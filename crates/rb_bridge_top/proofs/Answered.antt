@@ -49,6 +49,7 @@ report-answers both status left left' reads reads' held held' writes writes' lp 
     read = reads-it.read;
     accepted = reads-it.accepted;
     is = reads-it.bridge;
+    listed = reads-it.listed;
     crossed = ended h;
   };
   refused = λ e. absurd (subst IsOfRun e one_of);

@@ -34,6 +34,7 @@ promised status left left' held held' lp ltold lsince rp rtold rsince e = record
   read = e.read;
   accepted = e.accepted;
   is = e.is;
+  listed = e.listed;
   written = e.crossed.written.text refl;
   ends = e.crossed.answer_is ∙ ends-so e.bridge lp ltold lsince rp rtold rsince e.crossed.ending e.crossed.written.ends;
   promise = words-cross e.bridge e.is;

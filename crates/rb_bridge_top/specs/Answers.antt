@@ -6,7 +6,7 @@ use Rattle.rb_outside.specs.Causes.{Rose}
 use Rattle.rb_world_book.specs.declared.turn.Turn.{Turn}
 use Rattle.rb_run.specs.declared.ending.Ending.{Ending}
 use Rattle.rb_rules_bridge.specs.Bridges.{Bridge, IsBridge}
-use Rattle.rb_bridge_document.specs.Acceptance.{IsBridgeAccepted}
+use Rattle.rb_bridge_document.specs.Acceptance.{AreListed, IsBridgeAccepted}
 use Rattle.rb_bridge.specs.Crossing.{ArePlain, BridgeRun, Drives, WritesAll, WritesPart, run_of}
 use Rattle.rb_bridge.specs.Sides.{drive_of}
 use Rattle.rb_bridge_top.specs.declared.form.Form.{Form}
@@ -49,6 +49,7 @@ pub record Ends (both : Bool) (status : Status) (left left' held held' : Option 
   pub read : ReadsToEnd left left' input
   pub accepted : IsBridgeAccepted input bridge
   pub is : IsBridge bridge
+  pub listed : AreListed bridge
   pub crossed : IsCrossed (run_of bridge both (drive_of lp ltold lsince) (drive_of rp rtold rsince)) status held held'
 
 -- the input has been read and is refused, and the one line of the refusal is written

@@ -6,7 +6,7 @@ use Rattle.rb_outside.specs.Causes.{Rose}
 use Rattle.rb_rules_bridge.specs.Bridges.{IsBridge}
 use Rattle.rb_bridge_document.specs.declared.bridge.Bridge.{Bridge as Kept}
 use Rattle.rb_bridge_document.specs.declared.refusal.BridgeRefusal.{BridgeRefusal}
-use Rattle.rb_bridge_document.specs.Acceptance.{IsBridgeAccepted, IsBridgeRefused, as_bridge}
+use Rattle.rb_bridge_document.specs.Acceptance.{AreListed, IsBridgeAccepted, IsBridgeRefused, as_bridge}
 use Rattle.rb_bridge_document.specs.Codes.{code_of, detail_of}
 use Rattle.rb_bridge.specs.Refusals.{IsBridgeRefusal, bridge_refused_text}
 use Rattle.rb_bridge_top.specs.declared.status.Status.{Status}
@@ -50,6 +50,7 @@ pub record ReadsBridge (left left' : Option (List ℕ)) (kept : Kept) : Type 0 w
   pub short_enough : Gave left left' (λ n. n ≤ input_limit)
   pub accepted : IsBridgeAccepted input (as_bridge kept)
   pub bridge : IsBridge (as_bridge kept)
+  pub listed : AreListed (as_bridge kept)
 
 -- the source had no such text left, and the line that says why is written
 pub record RefusesText (left left' held held' : Option (List ℕ)) : Type 0 where

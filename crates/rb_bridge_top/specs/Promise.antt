@@ -8,7 +8,7 @@ use Rattle.rb_rules_bridge.specs.Bridges.{Bridge, IsBridge, bus_on}
 use Rattle.rb_rules_bridge.specs.Crossings.{hands_of, hands_on}
 use Rattle.rb_rules_bridge.specs.Texts.{bridge_text}
 use Rattle.rb_laws_bridge.specs.Laws.{WordsCrossOn}
-use Rattle.rb_bridge_document.specs.Acceptance.{IsBridgeAccepted}
+use Rattle.rb_bridge_document.specs.Acceptance.{AreListed, IsBridgeAccepted}
 use Rattle.rb_bridge_top.specs.declared.status.Status.{Status}
 use Rattle.rb_bridge_top.specs.Statuses.{end_of}
 
@@ -19,6 +19,7 @@ pub record KeepsTheBridge (status : Status) (left left' held held' : Option (Lis
   pub read : ReadsToEnd left left' input  -- the input is read to its end
   pub accepted : IsBridgeAccepted input bridge  -- the input is the text of an accepted bridge
   pub is : IsBridge bridge  -- both buses of the bridge are lawful, and the bridge fits them
+  pub listed : AreListed bridge  -- faulty nodes do what the entries of the input list
   pub written : Appends held held' (bridge_text bridge)  -- what was added to the sink is the text of the bridge
   pub ends : status ≡ end_of bridge  -- the answer is Breach if and only if the bridge ends with a breach
   pub promise : WordsCrossOn bridge  -- words cross the bridge up to a breach

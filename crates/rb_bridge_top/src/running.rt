@@ -2,7 +2,7 @@
 ghost use Rattle.std.specs.Prelude.{◌≡◌};
 ghost use Rattle.rb_outside.specs.Causes.{Rose};
 ghost use Rattle.rb_rules_bridge.specs.Bridges.{IsBridge};
-ghost use Rattle.rb_bridge_document.specs.Acceptance.{as_bridge};
+ghost use Rattle.rb_bridge_document.specs.Acceptance.{AreListed, as_bridge};
 ghost use Rattle.rb_bridge.specs.Crossing.{drives_over};
 ghost use Rattle.rb_bridge_top.specs.Answers.{Reports};
 ghost use Rattle.rb_bridge_top.specs.Statuses.{IsOfRun, status_of};
@@ -37,7 +37,8 @@ pub(crate) fn report<K: Sink, D: Drive>(
     left_drive: &mut D,
     right_drive: &mut D,
 ) -> Status
-    requires { IsBridge (as_bridge bridge) }
+    requires bridge { IsBridge (as_bridge bridge) }
+    requires listed { AreListed (as_bridge bridge) }
     ensures written { Reports (as_bridge bridge) (drives_over D.is_plain D.told
         left_drive.old left_drive.new right_drive.old right_drive.new) result
         (K.held output.old) (K.held output.new) }

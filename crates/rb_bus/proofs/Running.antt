@@ -10,6 +10,7 @@ use Rattle.rb_laws_promise.proofs.Whole.{kept}
 use Rattle.rb_laws_promise.specs.Promise.{KeepsThePromise}
 use Rattle.rb_rules.specs.Book.{Record}
 use Rattle.rb_rules.specs.Goodness.{Scenario, is_good}
+use Rattle.rb_rules.specs.Entries.{IsListed}
 use Rattle.rb_rules.specs.Lawful.{IsLawful}
 use Rattle.rb_rules.specs.Ports.{HandIn, with_state}
 use Rattle.rb_rules.specs.Rounds.{records_of}
@@ -33,13 +34,14 @@ use Rattle.rb_bus.specs.declared.bus.Bus.{Bus}
 -- Opening.
 
 pub opens : (text : List ℕ) (accepted : Accepted) (world : KeptWorld) (access : Access) → IsAccepted text accepted
-    → IsLawful (as_scenario accepted) → Stands world (first_world (as_scenario accepted)) → world.bus ≡ as_scenario accepted
+    → IsLawful (as_scenario accepted) → IsListed (as_scenario accepted) → Stands world (first_world (as_scenario accepted)) → world.bus ≡ as_scenario accepted
     → IsAccessOf (as_scenario accepted) access → Opens text (record { world = world; access = access; begun = None })
 unfolding first_world
-opens text accepted world access is lawful stands bus of = record {
+opens text accepted world access is lawful listed stands bus of = record {
   accepted = accepted;
   is = is;
   lawful = lawful;
+  listed = listed;
   runs = record {
     world = first_world (as_scenario accepted);
     stands = stands;

@@ -7,6 +7,7 @@ use Rattle.rb_laws_groups.specs.Lines.{IsRight}
 use Rattle.rb_laws_promise.specs.Promise.{KeepsThePromise}
 use Rattle.rb_rules.specs.Book.{Record}
 use Rattle.rb_rules.specs.Goodness.{Scenario, is_good}
+use Rattle.rb_rules.specs.Entries.{IsListed}
 use Rattle.rb_rules.specs.Lawful.{IsLawful}
 use Rattle.rb_rules.specs.Ports.{HandIn}
 use Rattle.rb_rules.specs.Rounds.{records_of}
@@ -66,6 +67,7 @@ pub record Opens (text : List ℕ) (b : Bus) : Type 0 where
   pub accepted : Accepted
   pub is : IsAccepted text accepted
   pub lawful : IsLawful (as_scenario accepted)
+  pub listed : IsListed (as_scenario accepted)
   pub runs : HasRun (first_run (as_scenario accepted)) b
 
 -- Records.

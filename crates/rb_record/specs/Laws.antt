@@ -11,7 +11,7 @@ use Rattle.rb_log.specs.LogText.{log_in}
 use Rattle.rb_log.specs.Writing.{given}
 use Rattle.rb_record.specs.Recording.{log_text}
 
--- where faulty nodes do what the entries list, what is recorded of a node is a log, which says the
+-- if faulty nodes do what the entries list, what is recorded of a node is a log, which says the
 -- numbers of the bus, the node, and what the node was given
 abbrev pub RecordedIsRead : Type 0
 RecordedIsRead =

@@ -211,6 +211,7 @@ report_answers command tells accepted status left left' reads reads' held held' 
             turns = all.written.turns;
             says = says;
             lawful = r.lawful;
+            listed = r.listed;
             given = all.written.given;
             all = all.written.all;
             ends = all.ends;
@@ -366,7 +367,7 @@ log_answers accepted node status left left' reads reads' held held' writes write
         read = r.read;
         written = all.written.text;
         due = record {
-          log = record { scenario = as_scenario accepted; events = all.written.events; says = says; lawful = r.lawful; there = there; given = all.written.given; text_is = refl };
+          log = record { scenario = as_scenario accepted; events = all.written.events; says = says; lawful = r.lawful; listed = r.listed; there = there; given = all.written.given; text_is = refl };
           ends = all.ends;
           silent = refl;
         };
@@ -383,7 +384,7 @@ log_answers accepted node status left left' reads reads' held held' writes write
         text = log_text (as_scenario accepted) node part.events;
         read = r.read;
         written = part.text;
-        due = inr (record { scenario = as_scenario accepted; events = part.events; says = says; lawful = r.lawful; there = there; given = part.given; text_is = refl }, refl);
+        due = inr (record { scenario = as_scenario accepted; events = part.events; says = says; lawful = r.lawful; listed = r.listed; there = there; given = part.given; text_is = refl }, refl);
       };
     }
 

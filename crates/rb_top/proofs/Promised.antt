@@ -37,6 +37,7 @@ told_headline tells status left left' held held' told told' input text read due 
       read = read;
       accepted = due.says;
       lawful = due.lawful;
+      listed = due.listed;
       written = subst P (due.text_is ∙ ap (λ records. tells due.scenario records) (plain-records due.scenario told told' due.turns due.given due.all)) written;
       ends = due.ends;
       promise = kept due.scenario [] due.lawful;
@@ -101,7 +102,7 @@ logged_promise node status left left' held held' is_plain told told' e =
       accepted = l.says;
       written = e.written;
       replayed = λ none good.
-          let told_again = a-log-tells-the-report l.scenario l.lawful none node good l.events l.given (timetable_of l.scenario) refl refl in
+          let told_again = a-log-tells-the-report l.scenario l.lawful l.listed none node good l.events l.given (timetable_of l.scenario) refl refl in
           record { log = told_again.0; spells = ap log_in l.text_is ∙ told_again.1.0; text_is = sym told_again.1.1 };
       promise = kept l.scenario [] l.lawful;
     }

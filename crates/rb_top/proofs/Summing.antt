@@ -3,6 +3,7 @@ use Rattle.std.proofs.Common.{◌≡◌, ℕ, Bool, List, [], Option, ap, refl, 
 use Rattle.std.specs.Io.KnownBytes.{Appends}
 use Rattle.rb_outside.specs.Bytes.{AppendsPart}
 use Rattle.rb_outside.proofs.Known.{appends_none}
+use Rattle.rb_rules.specs.Entries.{IsListed}
 use Rattle.rb_rules.specs.Goodness.{Scenario}
 use Rattle.rb_rules.specs.Lawful.{IsLawful}
 use Rattle.rb_gen.specs.Generated.{generated}
@@ -20,6 +21,7 @@ use Rattle.rb_top.specs.Texts.{summary_of}
 pub record IsToldOf (seed frames : ℕ) (sc : Scenario) (ended : Ending) (is_plain : Bool) (told told' : Option (List Turn)) (totals : Totals) : Type 0 where
   pub generates : sc ≡ generated seed frames
   pub lawful : IsLawful sc
+  pub listed : IsListed sc
   pub tallies : TalliesAll sc is_plain told told' totals
   pub ends : EndsWith sc ended
 
@@ -33,6 +35,7 @@ due seed frames sc ended is_plain told told' totals is t =
     record {
       turns = all.turns;
       lawful = subst IsLawful t.generates t.lawful;
+      listed = subst IsListed t.generates t.listed;
       given = all.given;
       all = all.all;
       ends = record { ending = ending.Ended; ends = subst R is (subst Q t.generates t.ends); is = refl };
@@ -64,6 +67,7 @@ not_summed seed frames sc ended is_plain told told' totals held is t =
       due = record {
         turns = all.turns;
         lawful = subst IsLawful t.generates t.lawful;
+        listed = subst IsListed t.generates t.listed;
         given = all.given;
         all = all.all;
         ends = record { ending = ending.Breach; ends = subst R is (subst Q t.generates t.ends); is = refl };

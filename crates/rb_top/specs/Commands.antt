@@ -3,6 +3,7 @@
 use Rattle.std.specs.Prelude.{ℕ, ◌≡◌, ◌⊎◌, Bool, true, List, Option, Some, None, Ok}
 use Rattle.rb_base.specs.declared.event.Event.{Event}
 use Rattle.rb_base.specs.declared.node.NodeName.{NodeName}
+use Rattle.rb_rules.specs.Entries.{IsListed}
 use Rattle.rb_rules.specs.Goodness.{Scenario}
 use Rattle.rb_rules.specs.Lawful.{IsLawful, IsNodeOf}
 use Rattle.rb_gen.specs.Generated.{generated}
@@ -45,6 +46,7 @@ pub record IsReport (tells : Telling) (input : List ℕ) (is_plain : Bool) (told
   pub turns : List Turn
   pub says : IsTextOf input scenario
   pub lawful : IsLawful scenario
+  pub listed : IsListed scenario
   pub given : AreGiven scenario is_plain told told' turns
   pub all : AreAll scenario turns
   pub ends : EndsAs scenario status
@@ -60,6 +62,7 @@ pub record IsGroupReport (which : Which) (members : ℕ) (input : List ℕ) (is_
 pub record IsSummary (seed frames : ℕ) (is_plain : Bool) (told told' : Option (List Turn)) (status : Status) (text : List ℕ) : Type 0 where
   pub turns : List Turn
   pub lawful : IsLawful (generated seed frames)
+  pub listed : IsListed (generated seed frames)
   pub given : AreGiven (generated seed frames) is_plain told told' turns
   pub all : AreAll (generated seed frames) turns
   pub ends : EndsAs (generated seed frames) status
@@ -78,6 +81,7 @@ pub record IsLogOf (node : NodeName) (input text : List ℕ) : Type 0 where
   pub events : List Event
   pub says : IsTextOf input scenario
   pub lawful : IsLawful scenario
+  pub listed : IsListed scenario
   pub there : IsNodeOf scenario.sizes node
   pub given : AreGivenTo scenario node events
   pub text_is : text ≡ log_text scenario node events

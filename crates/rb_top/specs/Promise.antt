@@ -3,6 +3,7 @@ use Rattle.std.specs.Prelude.{⊤, ℕ, List, [], Option}
 use Rattle.std.specs.Io.KnownBytes.{Appends}
 use Rattle.rb_base.specs.declared.node.NodeName.{NodeName}
 use Rattle.rb_outside.specs.Bytes.{ReadsToEnd}
+use Rattle.rb_rules.specs.Entries.{IsListed}
 use Rattle.rb_rules.specs.Goodness.{Scenario}
 use Rattle.rb_rules.specs.Lawful.{IsLawful}
 use Rattle.rb_rules.specs.Rounds.{records_of}
@@ -26,6 +27,7 @@ pub record KeepsTheHeadline (tells : Telling) (status : Status) (left left' held
   pub read : ReadsToEnd left left' input  -- the input is read to its end
   pub accepted : IsTextOf input scenario  -- the input is the text of an accepted scenario
   pub lawful : IsLawful scenario  -- the scenario is lawful
+  pub listed : IsListed scenario  -- faulty nodes do what the scenario's entries list
   pub written : Appends held held' (tells scenario (records_of scenario []))  -- what was added to the sink is what is told of the scenario's rounds
   pub ends : EndsAs scenario status  -- the answer is Breach if and only if the rounds end with a breach
   pub promise : KeepsThePromise scenario []  -- the run keeps the promise of the bus up to its breach

@@ -3,6 +3,7 @@ use Rattle.std.specs.Prelude.{ℕ, ◌≡◌, ◌≤◌, List, Option}
 use Rattle.std.specs.Io.KnownBytes.{Appends}
 use Rattle.rb_outside.specs.Bytes.{AppendsPart, Gave, ReadsToEnd}
 use Rattle.rb_outside.specs.Causes.{Rose}
+use Rattle.rb_rules.specs.Entries.{IsListed}
 use Rattle.rb_rules.specs.Lawful.{IsLawful}
 use Rattle.rb_scenario.specs.Acceptance.{IsAccepted, as_scenario}
 use Rattle.rb_scenario.specs.declared.scenario.Scenario.{Scenario as Accepted}
@@ -18,6 +19,7 @@ pub record ReadsScenario (left left' : Option (List ℕ)) (accepted : Accepted) 
   pub short_enough : Gave left left' (λ n. n ≤ scenario_limit)
   pub is : IsAccepted input accepted
   pub lawful : IsLawful (as_scenario accepted)
+  pub listed : IsListed (as_scenario accepted)
 
 -- the source had no such text left, and the line that says why is written
 pub record RefusesText (left left' held held' : Option (List ℕ)) : Type 0 where

@@ -2,6 +2,7 @@
 ghost use Rattle.std.specs.Prelude.{◌≡◌, ◌↔◌, IsTrue};
 ghost use Rattle.rb_outside.specs.Causes.{Rose};
 ghost use Rattle.rb_record.specs.Recording.{WritesPart};
+ghost use Rattle.rb_rules.specs.Entries.{IsListed};
 ghost use Rattle.rb_rules.specs.Lawful.{IsLawful, IsNodeOf};
 ghost use Rattle.rb_scenario.specs.Acceptance.{as_scenario};
 ghost use Rattle.rb_top.specs.Serving.{IsLogged, IsOfRun};
@@ -36,6 +37,7 @@ pub(crate) fn write_log<K: Sink>(
     apps: &Apps,
 ) -> Status
     requires lawful { IsLawful (as_scenario scenario) }
+    requires listed { IsListed (as_scenario scenario) }
     requires node { IsNodeOf scenario.plan.sizes node }
     ensures ended { HasEnded result
         → IsLogged (as_scenario scenario) node result (K.held output.old) (K.held output.new) }

@@ -2,6 +2,7 @@
 ghost use Rattle.std.specs.Prelude.{◌≡◌, ◌≤◌, IsTrue};
 ghost use Rattle.rb_outside.specs.Causes.{Rose};
 ghost use Rattle.rb_outside.specs.Writing.{Writes};
+ghost use Rattle.rb_rules.specs.Entries.{IsListed};
 ghost use Rattle.rb_rules.specs.Lawful.{IsLawful};
 ghost use Rattle.rb_report.specs.Report.{summary_text};
 ghost use Rattle.rb_scenario.specs.Acceptance.{as_scenario};
@@ -43,7 +44,8 @@ pub(crate) fn report<K: Sink, D: Drive>(
     apps: &Apps,
     drive: &mut D,
 ) -> Status
-    requires { IsLawful (as_scenario scenario) }
+    requires lawful { IsLawful (as_scenario scenario) }
+    requires listed { IsListed (as_scenario scenario) }
     ensures ended { HasEnded result
         → IsReported (as_scenario scenario) result (D.is_plain drive.old) (D.told drive.old)
         (D.told drive.new) (K.held output.old) (K.held output.new) }

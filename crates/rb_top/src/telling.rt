@@ -4,6 +4,7 @@ ghost use Rattle.rb_long_run.specs.Letters.{WritesSome};
 ghost use Rattle.rb_outside.specs.Causes.{Rose};
 ghost use Rattle.rb_group_run.specs.Members.{AreMembers};
 ghost use Rattle.rb_group_run.specs.Runs.{WritesPart};
+ghost use Rattle.rb_rules.specs.Entries.{IsListed};
 ghost use Rattle.rb_rules.specs.Lawful.{IsLawful};
 ghost use Rattle.rb_scenario.specs.Acceptance.{as_scenario};
 ghost use Rattle.rb_top.specs.Serving.{IsGrouped, IsLettered, IsOfRun};
@@ -29,7 +30,8 @@ pub(crate) fn tell_letters<K: Sink, D: Drive>(
     apps: &Apps,
     drive: &mut D,
 ) -> Status
-    requires { IsLawful (as_scenario scenario) }
+    requires lawful { IsLawful (as_scenario scenario) }
+    requires listed { IsListed (as_scenario scenario) }
     ensures ended { HasEnded result
         → IsLettered (as_scenario scenario) result (D.is_plain drive.old) (D.told drive.old)
         (D.told drive.new) (K.held output.old) (K.held output.new) }
@@ -68,7 +70,8 @@ pub(crate) fn tell_group<K: Sink, D: Drive>(
     drive: &mut D,
     voters: &Voters,
 ) -> Status
-    requires { IsLawful (as_scenario scenario) }
+    requires lawful { IsLawful (as_scenario scenario) }
+    requires listed { IsListed (as_scenario scenario) }
     ensures ended { HasEnded result
         → IsGrouped (as_scenario scenario) asked.now result (D.is_plain drive.old)
         (D.told drive.old) (D.told drive.new) (K.held output.old) (K.held output.new) }

@@ -49,6 +49,7 @@ bridge status input source source' sink sink' e f k = record {
   bridge = k.bridge;
   accepted = subst (λ bytes. IsBridgeAccepted bytes k.bridge) (read_is input source source' k.input e k.read) k.accepted;
   lawful = k.is;
+  listed = k.listed;
   is = written_is sink sink' _ f k.written;
   ends = k.ends;
   promise = k.promise;

@@ -56,6 +56,7 @@ headline tells status input source source' sink sink' e f k = record {
   scenario = k.scenario;
   accepted = subst (λ bytes. IsTextOf bytes k.scenario) (read_is input source source' k.input e k.read) k.accepted;
   lawful = k.lawful;
+  listed = k.listed;
   is = written_is sink sink' _ f k.written;
   ends = k.ends;
   promise = k.promise;

@@ -7,7 +7,7 @@ use Rattle.rb_rules_bridge.specs.Bridges.{Bridge, IsBridge, bus_on}
 use Rattle.rb_rules_bridge.specs.Crossings.{hands_of, hands_on}
 use Rattle.rb_rules_bridge.specs.Texts.{bridge_text}
 use Rattle.rb_laws_bridge.specs.Laws.{WordsCrossOn}
-use Rattle.rb_bridge_document.specs.Acceptance.{IsBridgeAccepted}
+use Rattle.rb_bridge_document.specs.Acceptance.{AreListed, IsBridgeAccepted}
 use Rattle.rb_bridge_top.specs.declared.form.Form.{Form}
 use Rattle.rb_bridge_top.specs.declared.form.Form.TheVariants.{Run, Show}
 use Rattle.rb_bridge_top.specs.declared.status.Status.{Status}
@@ -39,6 +39,7 @@ pub record KeepsTheBridge (status : Status) (input output : List ℕ) : Type 0 w
   pub bridge : Bridge
   pub accepted : IsBridgeAccepted input bridge  -- the input is the text of an accepted bridge
   pub lawful : IsBridge bridge  -- both buses of the bridge are lawful, and the bridge fits them
+  pub listed : AreListed bridge  -- faulty nodes do what the entries of the input list
   pub is : output ≡ bridge_text bridge  -- the output is the text of the bridge
   pub ends : status ≡ end_of bridge  -- the answer is Breach if and only if the bridge ends with a breach
   pub promise : WordsCrossOn bridge  -- words cross the bridge up to a breach

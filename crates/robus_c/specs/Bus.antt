@@ -1,6 +1,7 @@
 -- What `robus_call` promises of the very bytes.
 use Rattle.std.specs.Prelude.{⊤, ℕ, ◌≡◌, ◌<◌, ◌⊎◌, true, List, [], length, Option, Some, None}
 use Rattle.rb_base.specs.declared.node.NodeName.{NodeName}
+use Rattle.rb_rules.specs.Entries.{IsListed}
 use Rattle.rb_rules.specs.Goodness.{Scenario}
 use Rattle.rb_rules.specs.Lawful.{IsLawful}
 use Rattle.rb_rules.specs.Rounds.{records_of}
@@ -54,6 +55,7 @@ pub record KeepsTheHeadline (tells : Telling) (status : Status) (input output : 
   pub scenario : Scenario
   pub accepted : IsTextOf input scenario  -- the input is the text of an accepted scenario
   pub lawful : IsLawful scenario  -- the scenario is lawful
+  pub listed : IsListed scenario  -- faulty nodes do what the scenario's entries list
   pub is : output ≡ tells scenario (records_of scenario [])  -- the output is what is told of the scenario's rounds
   pub ends : EndsAs scenario status  -- the answer is Breach if and only if the rounds end with a breach
   pub promise : KeepsThePromise scenario []  -- the run keeps the promise of the bus up to its breach

@@ -6,27 +6,33 @@ use Rattle.rb_bridge_top.proofs.Opening.{both-opened, end-opened, end-runs, end-
 use Rattle.rb_bridge_top.proofs.running.report.Goals as goal
 
 pub members_on-left_members-requires : goal.members_on-left_members-requires
-members_on-left_members-requires g c = pairs-small (as_bridge c.args.bridge) Left c.as_slice.result.now c.requires (sym c.as_slice.ensures.value)
+members_on-left_members-requires g c = pairs-small (as_bridge c.args.bridge) Left c.as_slice.result.now c.requires.bridge (sym c.as_slice.ensures.value)
 
 pub members_on-right_members-requires : goal.members_on-right_members-requires
-members_on-right_members-requires g c = pairs-small (as_bridge c.args.bridge) Right c.as_slice-2.result.now c.requires (sym c.as_slice-2.ensures.value)
+members_on-right_members-requires g c = pairs-small (as_bridge c.args.bridge) Right c.as_slice-2.result.now c.requires.bridge (sym c.as_slice-2.ensures.value)
 
 pub open_side-requires-clause-lawful : goal.open_side-requires-clause-lawful
-open_side-requires-clause-lawful g c = c.requires.lawful Left
+open_side-requires-clause-lawful g c = c.requires.bridge.lawful Left
+
+pub open_side-requires-clause-listed : goal.open_side-requires-clause-listed
+open_side-requires-clause-listed g c = c.requires.listed Left
 
 pub open_side-requires-clause-slot : goal.open_side-requires-clause-slot
-open_side-requires-clause-slot g c = c.requires.slots Left
+open_side-requires-clause-slot g c = c.requires.bridge.slots Left
 
 pub open_side-requires-2-clause-lawful : goal.open_side-requires-2-clause-lawful
-open_side-requires-2-clause-lawful g c = c.requires.lawful Right
+open_side-requires-2-clause-lawful g c = c.requires.bridge.lawful Right
+
+pub open_side-requires-2-clause-listed : goal.open_side-requires-2-clause-listed
+open_side-requires-2-clause-listed g c = c.requires.listed Right
 
 pub open_side-requires-2-clause-slot : goal.open_side-requires-2-clause-slot
-open_side-requires-2-clause-slot g c = c.requires.slots Right
+open_side-requires-2-clause-slot g c = c.requires.bridge.slots Right
 
 pub cross-requires : goal.cross-requires
 cross-requires g c = record {
   b = as_bridge c.args.bridge;
-  bridge = c.requires;
+  bridge = c.requires.bridge;
   pairs_are = sym c.as_slice-3.ensures.value;
   frames_are = refl;
   opened = both-opened c.args.bridge c.as_slice.result.now c.as_slice-2.result.now _ _ _ _ c.as_slice.ensures.value c.as_slice-2.ensures.value
@@ -40,7 +46,7 @@ returns-in-Ok-cross-clause-written g c = record {
     answer_is = c.status_of.ensures;
     written = (c.in-Ok-cross.ensures.written (record {
       b = as_bridge c.args.bridge;
-      bridge = c.requires;
+      bridge = c.requires.bridge;
       pairs_are = sym c.as_slice-3.ensures.value;
       frames_are = refl;
       opened = both-opened c.args.bridge c.as_slice.result.now c.as_slice-2.result.now _ _ _ _ c.as_slice.ensures.value c.as_slice-2.ensures.value
@@ -64,7 +70,7 @@ returns-clause-written g c = record {
   ended = λ h. absurd h;
   part = λ e both plain. (c.in-Err-cross.ensures.written (record {
     b = as_bridge c.args.bridge;
-    bridge = c.requires;
+    bridge = c.requires.bridge;
     pairs_are = sym c.as_slice-3.ensures.value;
     frames_are = refl;
     opened = both-opened c.args.bridge c.as_slice.result.now c.as_slice-2.result.now _ _ _ _ c.as_slice.ensures.value c.as_slice-2.ensures.value

@@ -1,4 +1,5 @@
 use Rattle.std.proofs.Common.{◌∙◌, subst, sym}
+use Rattle.rb_rules.specs.Entries.{IsListed}
 use Rattle.rb_rules.specs.Lawful.{IsLawful}
 use Rattle.rb_scenario.specs.Acceptance.{as_scenario}
 use Rattle.rb_run.proofs.Opened.{just-opened}
@@ -15,6 +16,7 @@ returns-in-Ok-write_summary-clause-ended g c h =
     (record {
       generates = c.in-Ok-open.ensures.bus ∙ c.in-Ok.ensures.scenario;
       lawful = subst IsLawful (sym c.in-Ok-open.ensures.bus) c.in-Ok.ensures.lawful;
+      listed = subst IsListed (sym c.in-Ok-open.ensures.bus) c.in-Ok.ensures.listed;
       tallies = c.tally-ending.ensures.totals;
       ends = c.tally-ending.ensures.ending;
     })
@@ -26,6 +28,7 @@ returns-in-Ended-clause-part g c h =
     (record {
       generates = c.in-Ok-open.ensures.bus ∙ c.in-Ok.ensures.scenario;
       lawful = subst IsLawful (sym c.in-Ok-open.ensures.bus) c.in-Ok.ensures.lawful;
+      listed = subst IsListed (sym c.in-Ok-open.ensures.bus) c.in-Ok.ensures.listed;
       tallies = c.tally-ending.ensures.totals;
       ends = c.tally-ending.ensures.ending;
     })
@@ -37,6 +40,7 @@ returns-clause-ended g c h =
     (record {
       generates = c.in-Ok-open.ensures.bus ∙ c.in-Ok.ensures.scenario;
       lawful = subst IsLawful (sym c.in-Ok-open.ensures.bus) c.in-Ok.ensures.lawful;
+      listed = subst IsListed (sym c.in-Ok-open.ensures.bus) c.in-Ok.ensures.listed;
       tallies = c.tally-ending.ensures.totals;
       ends = c.tally-ending.ensures.ending;
     })
