@@ -30,9 +30,10 @@ pub record Keeps (q frame : ℕ) (s : Standing) (Against : ℕ → ℕ → Type 
 
 pub follows : (q frame : ℕ) (s : Standing) (Against : ℕ → ℕ → Type 0) → Keeps q frame s Against → FollowsEvidence q frame s Against
 follows q frame s Against k = record {
-  direct = λ j below.
-      (λ h. let is : IsNewest q frame (Against j) (k.newest j) = k.is j below h in record { f = k.newest j; is_of = is.is_of; lasts = is.lasts },
-      λ some. k.accused j some.f below some.is_of some.lasts);
+  direct = λ j below. (
+    λ h. let is : IsNewest q frame (Against j) (k.newest j) = k.is j below h in record { f = k.newest j; is_of = is.is_of; lasts = is.lasts },
+    λ some. k.accused j some.f below some.is_of some.lasts,
+  );
   fresh = λ j below. (k.fresh_is j below, k.is_fresh j below);
   calm = λ j below h.
       let is : IsNewest q frame (Against j) (k.newest j) = k.is j below h in
