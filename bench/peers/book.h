@@ -22,19 +22,17 @@ public:
 
     void note(const Node& node, const Shown& shown) {
         if (shown.began) begin(node);
-        if (shown.owner >= 0) deliver(node, *shown.closed, shown.owner);
-        if (!shown.closed || shown.closed->stage == TAIL) return;
-        see(node, *shown.closed, shown.taken);
-        if (++closed_ == size(good_[BIU]) + size(good_[RMU])) settle(node, *shown.closed);
+        if (shown.owner >= 0) deliver(node, shown);
+        if (shown.stage == 0 || shown.stage == TAIL) return;
+        see(node, shown);
+        if (++closed_ == size(good_[BIU]) + size(good_[RMU])) settle(node, shown);
     }
 
-    // Prints the four numbers, unless the report was asked for, and returns the status.
-    int finish() const {
-        if (prints_ && !breach_) std::printf("end %d\n", scenario_.frames);
-        if (!prints_ && !breach_)
-            std::printf("frames %d\ndeliveries %d\nconvicted %d\nspread %ld\n", scenario_.frames,
-                        deliveries_, convicted_, long(spread_));
-        return breach_;
+    // Prints the end of the report, or the four numbers if no report was asked for.
+    void finish() const {
+        if (prints_) std::printf("end %d\n", scenario_.frames);
+        else std::printf("frames %d\ndeliveries %d\nconvicted %d\nspread %ld\n",
+                         scenario_.frames, deliveries_, convicted_, spread_);
     }
 
 private:
@@ -46,15 +44,10 @@ private:
 
     const Scenario& scenario_;
     const bool prints_;
-    bool breach_ = false;
     int deliveries_ = 0, convicted_ = 0, begun_ = 0, closed_ = 0;
     Time spread_ = 0, start_ = 0;
     Mask good_[2] = {};
     Sights sights_[2];
-
-    void enter(Place place) {
-        for (Kind kind : {BIU, RMU}) good_[kind] = scenario_.good(kind, place);
-    }
 
     void begin(const Node& node) {
         const int frame = node.frame, i = node.number;
@@ -63,7 +56,7 @@ private:
         const Mask bius = all(BIU) & ~node.trusted[BIU], rmus = all(RMU) & ~node.trusted[RMU];
         if (prints_) {
             const char kind = "BR"[node.kind];
-            std::printf("e %d %c%d %ld %ld\n", frame, kind, i, long(node.epoch), long(time));
+            std::printf("e %d %c%d %ld %ld\n", frame, kind, i, node.epoch, time);
             std::printf("c %d %c%d %u %u\n", frame, kind, i, bius, rmus);
             const int losses = __builtin_popcountll(node.lost);
             if (kind == 'B') std::printf("p %d B%d %d %d\n", frame, i, i + 1, losses);
@@ -74,34 +67,35 @@ private:
         spread_ = std::max(spread_, time - start_);
         convicted_ = size(bius) + size(rmus);
         ended = frame == scenario_.frames;
-        enter(place);
         for (Kind kind : {BIU, RMU}) {
+            good_[kind] = scenario_.good(kind, place);
             sights_[kind] = {};
             sights_[kind].watched = all(kind) & ~scenario_.good(kind, {frame, SYNC_SLOT});
         }
     }
 
-    void deliver(const Node& node, const Window& window, int owner) {
+    void deliver(const Node& node, const Shown& shown) {
         deliveries_++;
         if (!prints_) return;
-        std::printf("d %d %d B%d B%d ", node.frame, window.slot, node.number, owner);
-        node.vote() == FAULT ? std::printf("none\n") : std::printf("%ld\n", long(node.vote()));
+        const Word word = node.votes[shown.slot];
+        std::printf("d %d %d B%d B%d ", node.frame, shown.slot, node.number, shown.owner);
+        word == FAULT ? std::printf("none\n") : std::printf("%ld\n", word);
     }
 
-    void see(const Node& node, const Window& window, Mask taken) {
+    void see(const Node& node, const Shown& shown) {
         Sights& it = sights_[other(node.kind)];
-        each(it.watched & taken, [&](int i) {
-            const bool first = !has(it.seen, i), sync = window.role == SYNC;
+        each(it.watched & shown.taken, [&](int i) {
+            const bool first = !has(it.seen, i), sync = shown.slot == SYNC_SLOT;
             const Word sight = sync ? node.inbox[i].time : node.inbox[i].word;
             it.low[i] = first ? sight : std::min(it.low[i], sight);
             it.high[i] = first ? sight : std::max(it.high[i], sight);
             it.unlike |= Mask(it.high[i] - it.low[i] > (sync ? DMAX - DMIN : 0)) << i;
             it.seen |= 1u << i;
         });
-        it.missed |= it.watched & ~taken;
+        it.missed |= it.watched & ~shown.taken;
     }
 
-    void settle(const Node& node, const Window& window) {
+    void settle(const Node& node, const Shown& shown) {
         bool few[2], split[2];
         for (Kind kind : {BIU, RMU}) {
             Sights& it = sights_[kind];
@@ -111,13 +105,11 @@ private:
             it.seen = it.missed = 0;
             few[kind] = size(node.trusted[kind] & good_[kind]) <= size(bad & it.heard);
             split[kind] = bad & it.unlike;
+            if (shown.stage == 3) good_[kind] = scenario_.good(kind, {node.frame, shown.slot + 1});
         }
         closed_ = 0;
-        if (window.stage == 3) enter({node.frame, window.slot + 1});
-        ended = breach_ = few[BIU] || few[RMU] || (split[BIU] && split[RMU]);
-        if (breach_ && prints_)
-            std::printf("breach %d %d %d %s\n", node.frame, window.slot, window.stage,
-                        few[BIU] ? "FewGoodBiu" : few[RMU] ? "FewGoodRmu" : "TwoSided");
+        // A breach ends the run with status 1, as in `stress`
+        if (few[BIU] || few[RMU] || (split[BIU] && split[RMU])) std::exit(1);
     }
 };
 

@@ -11,10 +11,10 @@
 
 namespace bus {
 
-using Time = std::int64_t;          // in reference units
-using Tick = std::int64_t;          // of a node's own clock, from 0 on
-using Mask = std::uint32_t;         // bit i is the node with number i
-using Word = std::int64_t;          // a word of 32 bits, FAULT or CALL
+using Time = long;                  // in reference units
+using Tick = long;                  // of a node's own clock, from 0 on
+using Mask = unsigned;              // bit i is the node with number i
+using Word = long;                  // a word of 32 bits, FAULT or CALL
 using Place = std::pair<int, int>;  // a frame and a slot
 constexpr Word FAULT = -1, CALL = -2;
 constexpr Tick NEVER = std::numeric_limits<Tick>::max();
@@ -44,39 +44,24 @@ void each_node(Action action) {
 enum Role { SCHEDULE, DATA, DIAGNOSIS, SYNC };
 constexpr int TAIL = 4;  // the stage after the three of the sync slot
 
-struct Window {
-    int slot, stage;
-    Tick first, length;  // the offset of its first tick, and how many ticks it has
+struct Slot {
     Role role;
-    Kind kind;  // of the slot's sender
-    int item;   // the number of the sender, or in a data slot that of the data slot
+    Kind kind;  // of its sender
+    int item;   // the number of its sender, or in a data slot that of the data slot
 };
 
-inline std::vector<Window> windows_of_frame() {
-    std::vector<Window> rows;
-    Tick first = 0;
-    auto add = [&](int slot, int stage, Tick length, Role role, Kind kind, int item) {
-        rows.push_back({slot, stage, first, length, role, kind, item});
-        first += length;
-    };
-    for (int slot = 0; slot < SYNC_SLOT; slot++)
-        for (int stage = 1; stage <= 3; stage++) {
-            const int rest = slot - DIAGNOSIS_SLOT;
-            if (slot < DATA_SLOT) add(slot, stage, L, SCHEDULE, BIU, slot);
-            else if (rest < 0) add(slot, stage, L, DATA, BIU, slot - DATA_SLOT);
-            else if (rest < COUNT[BIU]) add(slot, stage, L, DIAGNOSIS, BIU, rest);
-            else add(slot, stage, L, DIAGNOSIS, RMU, rest - COUNT[BIU]);
-        }
-    for (int stage = 1; stage <= TAIL; stage++)
-        add(SYNC_SLOT, stage, stage == 1 ? L : stage == 2 ? V : Z, SYNC, BIU, 0);
-    return rows;
+inline Slot slot_at(int slot) {
+    const int rest = slot - DIAGNOSIS_SLOT;
+    if (slot < DATA_SLOT) return {SCHEDULE, BIU, slot};
+    if (rest < 0) return {DATA, BIU, slot - DATA_SLOT};
+    if (rest < COUNT[BIU]) return {DIAGNOSIS, BIU, rest};
+    return {slot < SYNC_SLOT ? DIAGNOSIS : SYNC, RMU, rest - COUNT[BIU]};
 }
-inline const std::vector<Window> WINDOWS = windows_of_frame();
 
 struct Message {
     int from, frame, slot, stage;
     Word word;
-    Time time;  // at which it arrives
+    Time time;  // at which it is sent, and on a link the one at which it arrives
 };
 
 struct Clock {
@@ -115,22 +100,21 @@ struct Scenario {
         return mask;
     }
 
-    // What B7 says to a node in a window of a frame, if it says anything.
-    std::optional<Message> lie_to(Kind kind, int i, int frame, const Window& window) const {
-        const bool lies = Place{frame, window.slot} == onsets[BIU][7] && window.stage == 1;
-        if (!lies || kind == BIU || i > 3) return {};
-        return Message{7, frame, window.slot, 1, i < 2 ? 1 : 2, 0};
+    // What B7 says to a node in a window, if it says anything there.
+    std::optional<Message> lie_to(Kind kind, int i, Place place, int stage, Time time) const {
+        if (kind == BIU || i > 3 || place != onsets[BIU][7] || stage != 1) return {};
+        return Message{7, place.first, place.second, 1, i < 2 ? 1 : 2, time};
     }
 };
 
 // What a node shows at a tick.
 struct Shown {
-    bool began = false;              // It began a frame,
-    bool says = false;               // it says Node::said to all nodes of the other kind,
-    const Window* closed = nullptr;  // it closed this window,
-    Mask taken = 0;                  // in which it accepted a message from each of these,
-    int owner = -1;                  // it delivered Node::vote from this owner of the slot,
-    std::optional<Message> lie;      // and this lie is on its way to it.
+    bool began = false;          // It began a frame,
+    bool says = false;           // it says Node::said to all nodes of the other kind,
+    int stage = 0, slot = 0;     // it closed this stage of this slot, unless the stage is 0,
+    Mask taken = 0;              // and there it accepted a message from each of these nodes,
+    int owner = -1;              // it delivered its vote on what this owner of the slot said,
+    std::optional<Message> lie;  // and this lie is on its way to it.
 };
 
 struct Node {
@@ -138,9 +122,9 @@ struct Node {
     const Kind kind;
     const int number;
     const Clock clock = scenario.clocks[kind][number];
-    const Window* window = nullptr;
-    int frame = -1, sender = -1, owners[SLOTS];
-    Tick epoch = 0, first = 0, last = NEVER, send = NEVER, turn_at = 0, middle = 0;
+    int frame = -1, at = 0, stage = 1, sender = -1, owners[SLOTS];  // `at` is the slot's number
+    Slot slot = {};
+    Tick epoch = 0, first = 0, length = 0, last = NEVER, send = NEVER, turn_at = 0, middle = 0;
     Mask trusted[2] = {all(BIU), all(RMU)}, direct = 0, mismatched = 0;
     Mask expected = 0, any = 0, many = 0;  // from whom a message arrived, and from whom more
     Message inbox[MOST] = {}, said = {};
@@ -152,7 +136,7 @@ struct Node {
 
     Tick next() const { return std::min({turn_at, send, last}); }
     bool runs() const { return next() != NEVER; }
-    Word vote() const { return votes[window->slot]; }
+    Time next_time() const { return clock.time_of(next()); }
     Mask sources() const { return trusted[other(kind)]; }
     bool is_good(Place place) const { return place < scenario.onsets[kind][number]; }
 
@@ -168,7 +152,7 @@ struct Node {
         if (now == turn_at) turn(shown);
         if (now == send) {
             send = NEVER;
-            said = {number, frame, window->slot, window->stage, word_to_say(), 0};
+            said = {number, frame, at, stage, word_to_say(), clock.time_of(now)};
             shown.says = true;
         }
         if (now == last) close(shown);
@@ -187,14 +171,16 @@ struct Node {
         shown.began = true;
         std::fill_n(votes, SYNC_SLOT + 1, FAULT);
         std::fill_n(owners, SLOTS, -1);
-        if (frame < scenario.frames) open(&WINDOWS[0], shown);
+        first = epoch;
+        length = 0;
+        if (frame < scenario.frames) open(0, 1, shown);
     }
 
     Mask convicted(Kind accused) const {
         int valid = 0, named[MOST] = {};
-        const int slot = DIAGNOSIS_SLOT + (accused == BIU ? COUNT[BIU] : 0);
+        const int begin = DIAGNOSIS_SLOT + (accused == BIU ? COUNT[BIU] : 0);
         each(frame < 0 ? 0 : trusted[other(accused)], [&](int voter) {
-            const Word vector = votes[slot + voter];
+            const Word vector = votes[begin + voter];
             if (vector == FAULT || vector >> COUNT[accused]) return;
             valid++;
             each(Mask(vector), [&](int i) { named[i]++; });
@@ -204,36 +190,38 @@ struct Node {
         return mask;
     }
 
-    void open(const Window* next, Shown& shown) {
-        window = next;
-        first = epoch + window->first;
-        last = first + window->length - 1;
+    // Opens the window of a stage, which begins where the last window ended.
+    void open(int next_slot, int next_stage, Shown& shown) {
+        at = next_slot;
+        stage = next_stage;
+        slot = slot_at(at);
+        const Tick before = length;
+        first += before;
+        const Tick lengths[] = {L, slot.role == SYNC ? V : L, slot.role == SYNC ? Z : L};
+        length = stage == TAIL ? turn_at - first : lengths[stage - 1];
+        last = length ? first + length - 1 : NEVER;
         expected = 0;
-        const int stage = window->stage;
-        if (stage == TAIL) {
-            last = turn_at > first ? turn_at - 1 : NEVER;
-        } else if (window->role == SYNC) {
-            if ((kind == BIU) == (stage == 2)) expected = sources();
-            else send = stage == 1 ? first + H : middle + window[-1].length;
+        if (slot.role == SYNC) {
+            const bool listens = (kind == BIU) == (stage == 2);
+            if (listens && stage != TAIL) expected = sources();
+            if (!listens && stage != TAIL) send = stage == 1 ? first + H : middle + before;
         } else {
-            sender = window->role == DATA ? owners[window->item] : window->item;
-            if (sender >= 0 && !has(trusted[window->kind], sender)) sender = -1;
-            const bool listens = (window->kind == kind) == (stage == 2);
-            const bool is_silent = sender < 0 || (window->role == DATA && stage == 3);
+            sender = slot.role == DATA ? owners[slot.item] : slot.item;
+            if (sender >= 0 && !has(trusted[slot.kind], sender)) sender = -1;
+            const bool listens = (slot.kind == kind) == (stage == 2);
+            const bool is_silent = sender < 0 || (slot.role == DATA && stage == 3);
             const bool speaks = !is_silent && !listens && (stage > 1 || sender == number);
             if (listens && !is_silent) expected = stage == 1 ? 1u << sender : sources();
             if (speaks) send = first + H;
         }
-        shown.lie = scenario.lie_to(kind, number, frame, *window);
-        if (shown.lie) shown.lie->time = clock.time_of(first + H);
+        shown.lie = scenario.lie_to(kind, number, {frame, at}, stage, clock.time_of(first + H));
     }
 
     Word word_to_say() {
-        if (window->role == SYNC) return CALL;
-        if (window->stage == 2) return took;
-        if (window->stage == 3) return vote();
-        if (window->role == DIAGNOSIS) return kept = (direct | mismatched) & sources();
-        return kept = window->role == DATA ? number + 1 : REQUEST;
+        if (slot.role == SYNC) return CALL;
+        if (stage > 1) return stage == 2 ? took : votes[at];
+        if (slot.role == DIAGNOSIS) return kept = (direct | mismatched) & sources();
+        return kept = slot.role == DATA ? number + 1 : REQUEST;
     }
 
     // Closes the window, and opens the next one if this was not the tail.
@@ -241,34 +229,34 @@ struct Node {
         Mask fitting = 0;
         each(expected & any & ~many, [&](int from) {
             const Message& it = inbox[from];
-            const bool is_call = it.word == CALL, is_here = it.frame == frame
-                && it.slot == window->slot && it.stage == window->stage;
-            fitting |= Mask(is_here && is_call == (window->role == SYNC)) << from;
+            const bool is_here = it.frame == frame && it.slot == at && it.stage == stage;
+            fitting |= Mask(is_here && (it.word == CALL) == (slot.role == SYNC)) << from;
         });
-        shown.closed = window;
+        shown.stage = stage;
+        shown.slot = at;
         shown.taken = fitting & ~direct;
         direct |= sources() & ((expected & ~fitting) | (any & ~expected));
         any = many = 0;
         last = NEVER;
-        if (window->stage == TAIL) return;
-        if (window->role == SYNC) close_sync(shown.taken);
+        if (stage == TAIL) return;
+        if (slot.role == SYNC) close_sync(shown.taken);
         else close_exact(shown);
-        if (is_good({frame, window[1].slot})) open(window + 1, shown);
+        const bool is_over = stage == 3 && at < SYNC_SLOT;
+        if (is_good({frame, at + is_over})) open(at + is_over, is_over ? 1 : stage + 1, shown);
     }
 
     void close_exact(Shown& shown) {
-        const int stage = window->stage;
-        const bool data = window->role == DATA, votes_now = (window->kind == kind) == (stage == 2);
+        const bool data = slot.role == DATA, votes_now = (slot.kind == kind) == (stage == 2);
         if (stage == 1) {
             took = shown.taken ? inbox[sender].word : FAULT;
         } else if (votes_now && sender >= 0 && !(data && stage == 3)) {
-            const Word word = votes[window->slot] = majority(shown.taken);
+            const Word word = votes[at] = majority(shown.taken);
             if (stage == 3) accuse_unlike(shown.taken, word);
             else if (sender == number) accuse_unlike(shown.taken, kept);
             if (data) shown.owner = sender;
             if (data) lost = lost << 1 | (word == FAULT);
         }
-        if (stage == 3 && window->slot == DATA_SLOT - 1) deal_slots();
+        if (stage == 3 && at == DATA_SLOT - 1) deal_slots();
     }
 
     Word majority(Mask taken) const {
@@ -298,7 +286,7 @@ struct Node {
         each(taken, [&](int from) { stamps.push_back(clock.stamp_of(inbox[from].time)); });
         std::sort(stamps.begin(), stamps.end());
         if (expected) middle = stamps.empty() ? first : stamps[(stamps.size() - 1) / 2];
-        if (window->stage == 3) turn_at = middle + Z + (kind == BIU ? V + C : 0);
+        if (stage == 3) turn_at = middle + Z + (kind == BIU ? V + C : 0);
     }
 };
 

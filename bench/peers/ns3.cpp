@@ -25,9 +25,8 @@ private:
     std::vector<Unit*> m_peers;
 
     void wait_for_tick() {
-        if (!m_node.runs()) return;
-        const bus::Time time = m_node.clock.time_of(m_node.next());
-        Simulator::Schedule(until(2 * time + 1), &Unit::act, this);
+        if (m_node.runs())
+            Simulator::Schedule(until(2 * m_node.next_time() + 1), &Unit::act, this);
     }
 
     void deliver(const Message& message) {
@@ -36,12 +35,11 @@ private:
     }
 
     void act() {
-        const bus::Time now = Simulator::Now().GetTimeStep() / 2;
         const bus::Shown shown = m_node.tick();
         m_book.note(m_node, shown);
-        Message message = m_node.said;
         for (std::size_t to = 0; shown.says && to < m_peers.size(); to++) {
-            message.time = now + m_node.scenario.delays[m_node.kind][m_node.number][to];
+            Message message = m_node.said;
+            message.time += m_node.scenario.delays[m_node.kind][m_node.number][to];
             m_peers[to]->deliver(message);
         }
         if (shown.lie) deliver(*shown.lie);
@@ -62,5 +60,6 @@ int main(int count, char** words) {
         for (auto& rmu : units[bus::RMU]) biu->link(rmu), rmu->link(biu);
     Simulator::Run();
     Simulator::Destroy();
-    return book.finish();
+    book.finish();
+    return 0;
 }

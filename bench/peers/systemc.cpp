@@ -45,18 +45,17 @@ private:
     Message sent_[bus::MOST], lie_;  // a link has at most one message on its way
 
     void wait_for_tick() {
-        if (node_.runs()) wake_.notify(until(2 * node_.clock.time_of(node_.next()) + 1));
+        if (node_.runs()) wake_.notify(until(2 * node_.next_time() + 1));
     }
 
     void act() {
         if (node_.next() == node_.last)
             while (const Message* it = arrivals_.get_next_transaction()) node_.arrive(*it);
-        const bus::Time now = bus::Time(sc_time_stamp().value()) / 2;
         const bus::Shown shown = node_.tick();
         book_.note(node_, shown);
         for (int to = 0; shown.says && to < links.size(); to++) {
             sent_[to] = node_.said;
-            sent_[to].time = now + node_.scenario.delays[node_.kind][node_.number][to];
+            sent_[to].time += node_.scenario.delays[node_.kind][node_.number][to];
             links[to]->receive(sent_[to]);
         }
         if (shown.lie) receive(lie_ = *shown.lie);
@@ -77,5 +76,6 @@ int sc_main(int count, char** words) {
     for (auto& biu : units[bus::BIU])
         for (auto& rmu : units[bus::RMU]) biu->links(*rmu), rmu->links(*biu);
     sc_start();
-    return book.finish();
+    book.finish();
+    return 0;
 }

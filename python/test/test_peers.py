@@ -12,7 +12,7 @@ from common import with_simpy  # noqa: E402
 @unittest.skipUnless(with_simpy(), "no Python here has SimPy (Debian's python3-simpy3)")
 class SimPy(unittest.TestCase):
     def written(self, *words: str) -> str:
-        return subprocess.run([*with_simpy().words, *words], capture_output=True, text=True).stdout
+        return subprocess.run([*with_simpy(), *words], capture_output=True, text=True).stdout
 
     def test_it_is_the_second_model(self):
         for case in (("7", "2"), (str(2**64 - 1), "3")):
