@@ -9,6 +9,8 @@
 # make library                       proves the calls for C and builds librobus.a and librobus.so in
 #                                    crates/robus_c/out, unless they are up to date
 # make bench                         builds the programs and measures them
+# make bench-peers                   measures models of the bus in SystemC, ns-3 and SimPy beside the
+#                                    proved program, if it is built, and checks that they are alike
 # make examples                      runs each example and looks for the lines that its page names
 # make tutorial                      runs the commands of docs/TUTORIAL.md and compares the output
 # make site                          writes pages of all that is proved to site/
@@ -28,7 +30,7 @@ PACKAGES = $(AT)/lib/python3/dist-packages
 COUNT = 1000
 SEED = 1
 
-.PHONY: help run picture bridge build library test bench examples tutorial site compare install install-python install-library uninstall
+.PHONY: help run picture bridge build library test bench bench-peers examples tutorial site compare install install-python install-library uninstall
 
 help:
 	@sed -n '/^#/!q; s/^# //p' Makefile
@@ -60,6 +62,10 @@ test:
 bench: build
 	cd crates/rb_bench && rt run -- closes 1000 > /dev/null
 	tools/bench
+
+bench-peers:
+	bench/peers/check 3
+	bench/peers/measure
 
 examples: build
 	tools/examples
