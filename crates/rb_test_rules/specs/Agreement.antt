@@ -78,7 +78,7 @@ of_good what sc frame slot me =
 abbrev pub votes_on : Scenario → ℕ → ℕ → Side → List Heard
 votes_on sc frame slot me = of_good (λ st. get_or st.votes slot none) sc frame slot me
 
--- whom each of them accuses after a slot, as its vector names them
+-- the nodes that each good node of a kind accuses after a slot, as its vector names them
 abbrev pub accused_by : Scenario → ℕ → ℕ → Side → List ℕ
 accused_by sc frame slot me = of_good (λ st. vector_of st.far) sc frame slot me
 

@@ -9,11 +9,11 @@ use Rattle.rb_rules.specs.Goodness.{Scenario}
 use Rattle.rb_test_rules.specs.Buses.{b, r, says, listing, raw}
 use Rattle.rb_test_rules.specs.Ordinary.{ordinary_use}
 
--- RMU 1, which is not good from this slot on, says this
+-- RMU 1, which is faulty from a slot of frame 0 on, says the entry `say`
 abbrev pub saying_from : ℕ → Say → Scenario
 saying_from slot say = listing (record ordinary_use { rmu_onsets = None ∷ Some (0, slot) ∷ None ∷ []; says = say ∷ [] })
 
--- the same where it is not good in the sync slot alone
+-- RMU 1, which is faulty from the sync slot of frame 0 on, says the entry `say`
 abbrev pub saying : Say → Scenario
 saying say = saying_from 19 say
 

@@ -45,7 +45,7 @@ lying_relay = record {
   came = comes_to;
 }
 
--- whom all good nodes trust
+-- the nodes that all good nodes trust: both BIUs and all three RMUs
 abbrev pub all_trusted : Side → ℕ
 all_trusted Biu = 3
 all_trusted Rmu = 7

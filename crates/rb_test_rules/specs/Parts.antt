@@ -137,6 +137,6 @@ biu_after stamps = (close_sync sizes Biu biu 1 855 (called 1 stamps)).state
 
 -- Convictions.
 
--- whom the vectors of the senders convict of three nodes, all trusted
+-- the nodes that the vectors of the senders convict, of three nodes that are all trusted
 abbrev pub convicted : ℕ → List Heard → ℕ
 convicted senders vectors = convicted_by 3 senders 7 (λ i. get_or vectors i Fault)

@@ -154,6 +154,6 @@ both_told = record small_world {
 abbrev pub tick_of_nobody : Due
 tick_of_nobody = record { side = Biu; node = 5; pending = Tick 0 }
 
--- that world after this event
+-- the world `both_told` after an event
 abbrev pub after_both_told : Due → World
 after_both_told event = take_if_due smallest_bus both_told (Some event)

@@ -25,7 +25,7 @@ at frame slot stage = record { frame = frame; slot = slot; stage = stage }
 abbrev pub begins : ℕ → ℕ → ℕ → ℕ → NodeName → NodeLine
 begins tick time biu rmu node = record { node = node; tick = tick; time = time; biu = biu; rmu = rmu }
 
--- these nodes begin a frame alike
+-- `nodes` begin a frame with the same tick, time and convictions
 abbrev pub all_begin : ℕ → ℕ → ℕ → ℕ → ℕ → List NodeName → List PortLine → Record
 all_begin frame tick time biu rmu nodes ports = Frame frame (map (begins tick time biu rmu) nodes) ports
 

@@ -27,15 +27,15 @@ pub record IsRestless (onsets : List (Option (ℕ × ℕ))) (sayings : KeptSayin
   pub first : r.first ≡ first_restless (get_or onsets i None) (first_frame (entries_for sayings (name_of me i)))
   pub last : r.last ≡ last_restless (get_or onsets i None) (last_frame (entries_for sayings (name_of me i)))
 
--- of each of the first `count` nodes of kind me the first and the last frame in which it is
--- restless are kept
+-- for each of the first `count` nodes of kind me, the first and the last frame are kept in which it
+-- is restless
 abbrev pub AreRestless : List (Option (ℕ × ℕ)) → KeptSayings → Side → ℕ → List Restless → Type 0
 AreRestless onsets sayings me count nodes =
     (i : ℕ) → i < count → IsRestless onsets sayings me i (get_or nodes i (record { first = 0; last = 0 }))
 
--- this frame and the next both come before all frames in which the node may not be good or an entry
--- for it may speak, or both come after them. Therefore in both the node is good in every slot, and
--- nothing is said to it
+-- a frame and the next both come before all frames in which node i of kind me may not be good or an
+-- entry for it may speak, or both come after them. Therefore in both the node is good in every
+-- slot, and nothing is said to it
 abbrev pub is_calm : Scenario → Side → ℕ → ℕ → Bool
 is_calm sc me i frame =
     is_outside (first_restless (get_or (onsets_of me sc) i None) (first_frame (entries_for (kept_of sc) (name_of me i))))

@@ -88,7 +88,7 @@ pub record RunsOn (ties : Ties) (state state_after : ℕ) (before after : KeptWo
   pub is : IsNext before.bus ties (record { world = w; draws = state }) (record { world = next; draws = state_after })
   pub gives : Gives after turn next
 
--- it is the last record of a run
+-- a record is the last of a run: its end, or its breach
 abbrev pub is_last : Option Record → Bool
 is_last None = false
 is_last (Some (Record.Frame frame nodes ports)) = false

@@ -41,8 +41,8 @@ pub record GivesInRounds (sc : Scenario) (before after : World) (r : Record) : T
   pub all : after.book.ended ≡ true → after.book.given ≡ records_of sc before.hands
   pub hands : after.hands ≡ before.hands
 
--- this turn is that record, and what is kept afterwards stands for the world in which the record
--- has been given
+-- `turn` is the record that world w gives by the rounds, and `after` stands for the world in which
+-- it has been given
 pub record GoesInRounds (before after : KeptWorld) (turn : Turn) (w : World) : Type 0 where
   pub next : World
   pub stands : Stands after next

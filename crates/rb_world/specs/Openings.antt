@@ -16,7 +16,7 @@ use Rattle.rb_world.specs.Worlds.{IsNode, Surrounds}
 abbrev pub before_all : Scenario → World
 before_all sc = record (first_world sc) { sites = each_of sc.sizes (λ me i. fresh_site sc.sizes me) }
 
--- this is kept of node i of kind me before it begins
+-- k is kept of node i of kind me before that node begins
 pub record IsFresh (sc : Scenario) (me : Side) (i : ℕ) (k : KeptSite) : Type 0 where
   pub number : number_of k ≡ i
   pub stands : StandsFor sc me k (fresh_site sc.sizes me)

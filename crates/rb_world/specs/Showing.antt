@@ -24,7 +24,7 @@ pub record IsShownAt (sc : Scenario) (me : Side) (i : ℕ) (site : KeptSite) (na
   pub number : number_of site ≡ i
   pub stands : StandsFor sc me site s
 
--- its next tick may be shown
+-- tick k may be shown: it is the next tick of node i of kind me
 pub record MayShowTick (sc : Scenario) (me : Side) (i k : ℕ) (site : KeptSite) (kept : List KeptPort) (name : NodeName) (ports : List PortState) (s : Site) : Type 0 where
   pub at : IsShownAt sc me i site name s
   pub next : next_tick sc.sizes sc.plan me i s.core ≡ Some k
@@ -44,7 +44,7 @@ abbrev pub IsInTime : Scenario → Side → ℕ → Core → Pending → Type 0
 IsInTime sc me i c (Tick k) = next_tick sc.sizes sc.plan me i c ≡ Some k
 IsInTime sc me i c (Arrival place a) = ComesBy (2 ^ 31) (clock_of sc me i) a.time
 
--- this event at this time is what waits there, and may be shown
+-- an event at a time is what waits at node i of kind me, and may be shown
 pub record MayShow (sc : Scenario) (me : Side) (i : ℕ) (waits : Pending) (site : KeptSite) (kept : List KeptPort) (time : ℕ) (event : Event) (ports : List PortState) (s : Site) : Type 0 where
   pub at : IsShownAt sc me i site (name_of me i) s
   pub holds : HoldsPorts sc kept ports
@@ -52,7 +52,7 @@ pub record MayShow (sc : Scenario) (me : Side) (i : ℕ) (waits : Pending) (site
   pub time_is : IsAtTime time waits
   pub in_time : IsInTime sc me i s.core waits
 
--- this event at this time may be shown in some world
+-- an event at a time may be shown in some world
 abbrev pub CanShow : Scenario → Side → KeptSite → List KeptPort → ℕ → Event → Type 0
 CanShow sc me site kept time event = (waits : Pending) × (ports : List PortState) × (s : Site)
     × MayShow sc me (number_of site) waits site kept time event ports s

@@ -101,8 +101,8 @@ abbrev pub HasProceeded : Scenario → Side → KeptSite → KeptSite → Scene 
 HasProceeded sc me before after around scene =
     (w : World) (s : Site) → MayProceed sc me (number_of before) before around w s → Proceeds sc me (number_of before) after around scene w s
 
--- this was kept of what surrounds the nodes of a world, and now that is, and stands for the world
--- changed so
+-- in every world in which `before` is kept of what surrounds the nodes, `after` is kept of it once
+-- `change` has been made
 abbrev pub Changes : Scenario → Scene → Scene → (World → World) → Type 0
 Changes sc before after change = (w : World) → Surrounds sc before w → Surrounds sc after (change w)
 

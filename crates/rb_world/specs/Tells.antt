@@ -87,12 +87,13 @@ IfEndsNext me kept P = (sc : Scenario) (k : ℕ) (s : Site) → Stands sc me kep
 
 -- Arrivals.
 
--- this message has come to the node, of which `before` was kept, and it has the stamp that this
--- clock gives it
+-- message c has come to the node of which `before` was kept, with the stamp that `clock` gives c,
+-- and now `after` is kept of the node
 abbrev pub HasComeBy : Side → Timeline → Coming → KeptSite → KeptSite → Type 0
 HasComeBy me clock c before after = (sc : Scenario) (place : ℕ) (s : Site) → clock ≡ clock_of sc me (number_of before)
     → Stands sc me before s → Stands sc me after (after_arrival sc me (number_of before) place c s)
 
--- this message has come to the node with the stamp of the node's next tick
+-- message c has come to the node of which `before` was kept, with the stamp of the node's next
+-- tick, and now `after` is kept of the node
 abbrev pub HasTakenIn : Side → Coming → KeptSite → KeptSite → Type 0
 HasTakenIn me c before after = (sc : Scenario) (s : Site) → Stands sc me before s → Stands sc me after (taken_in sc me c s)

@@ -31,7 +31,7 @@ abbrev pub TakesInDue : Side → ℕ → List Coming → KeptSite → KeptSite �
 TakesInDue me until cs before after =
     (sc : Scenario) (s : Site) → StandsFor sc me before s → StandsFor sc me after (taken_all sc me (due_before until cs) s)
 
--- these arrivals come from sources of the node's bus
+-- all arrivals `cs` come from sources of the node's bus
 abbrev pub AreOfSources : Side → KeptSite → List Coming → Type 0
 AreOfSources me site cs = All (λ c. c.from < count_of (other me) site.node.seat.sizes) cs
 

@@ -43,15 +43,15 @@ pub record Awaits (sc : Scenario) (me : Side) (i : ℕ) (s : Site) : Type 0 wher
   pub tick_of_none : s.runs ≡ false → s.ahead ≡ None
   pub nothing : s.runs ≡ false → s.coming ≡ []
 
--- this is kept of node i of kind me, to which only nodes of the bus have said anything since its
--- last close
+-- k is kept of node i of kind me, and since its last close only nodes of the bus have said anything
+-- to it
 pub record IsNode (sc : Scenario) (me : Side) (i : ℕ) (k : KeptSite) (s : Site) : Type 0 where
   pub number : number_of k ≡ i
   pub site : StandsFor sc me k s
   pub awaits : Awaits sc me i s
   pub senders : All (λ c. c.from < count_of (other me) sc.sizes) s.got
 
--- this is kept of the nodes of a kind
+-- `kept` is what is kept of the nodes of kind me, in order
 pub record AreNodes (sc : Scenario) (me : Side) (kept : List KeptSite) (sites : List Site) : Type 0 where
   pub many : length kept ≡ count_of me sc.sizes
   pub each : (i : ℕ) (k : KeptSite) (s : Site) → slice_get kept i ≡ Some k → slice_get sites i ≡ Some s → IsNode sc me i k s
@@ -69,8 +69,8 @@ abbrev pub running_of : Side → Scene → ℕ
 running_of Biu scene = scene.running_biu
 running_of Rmu scene = scene.running_rmu
 
--- this is kept of what surrounds the nodes: what is pending, with room for more, what they told,
--- the ports, and who runs
+-- `scene` is kept of what surrounds the nodes of world w: what is pending, with room for more, what
+-- the nodes told, the ports, and which nodes run
 pub record Surrounds (sc : Scenario) (scene : Scene) (w : World) : Type 0 where
   pub counts : (me : Side) → length (of_kind me w.sites) ≡ count_of me sc.sizes
   pub lanes : HoldsSites sc.sizes scene.agenda w.sites
