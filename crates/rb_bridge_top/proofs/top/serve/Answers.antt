@@ -3,8 +3,11 @@ use Rattle.rb_bridge_top.specs.Answers.{Answers}
 use Rattle.rb_bridge_top.proofs.Answered.{none-answers, only-memory, only-memory-runs, report-answers}
 use Rattle.rb_bridge_top.proofs.top.serve.Goals as goal
 
-pub report-requires : goal.report-requires
-report-requires g c = c.in-Ok.ensures.bridge.bridge
+pub report-requires-clause-bridge : goal.report-requires-clause-bridge
+report-requires-clause-bridge g c = c.in-Ok.ensures.bridge.bridge
+
+pub report-requires-clause-listed : goal.report-requires-clause-listed
+report-requires-clause-listed g c = c.in-Ok.ensures.bridge.listed
 
 pub returns-in-Ok-clause-answers : goal.returns-in-Ok-clause-answers
 returns-in-Ok-clause-answers g c = λ both plain.
