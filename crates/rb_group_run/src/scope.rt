@@ -6,7 +6,7 @@ use crate::Scope;
 use rb_scenario::Scenario;
 use rb_world_onset::Onsets;
 
-/// What of a scenario tells who is asked in its run.
+/// The parts of a scenario that decide which receivers of its run are reported.
 pub fn scope_of(scenario: &Scenario) -> Scope
     ensures { IsScopeOf (as_scenario scenario.now) result }
 {
